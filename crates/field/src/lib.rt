@@ -1,0 +1,40 @@
+// Arithmetic modulo p on any numbers of 32 bits, reduced or not.
+ghost use mathlib.Core.Path.{_≡_};
+ghost use Prim.Native.Nat.{_+_, _*_, _%_, _^_};
+ghost use Rattle.field.specs.Field.{p};
+
+// The modulus p.
+pub const P: u32 = 2013265921;
+
+pub fn reduce(x: u64) -> u32
+    ensures { λ r. ⌜ r ≡ x % p ⌝ }
+{
+    (x % 2013265921) as u32
+}
+
+// The product before its reduction, for sums of several products that are reduced once.
+pub fn wide_mul(a: u32, b: u32) -> u64
+    ensures { λ r. ⌜ r ≡ a * b ⌝ }
+{
+    (a as u64) * (b as u64)
+}
+
+pub fn add(a: u32, b: u32) -> u32
+    ensures { λ r. ⌜ r ≡ (a + b) % p ⌝ }
+{
+    reduce(a as u64 + b as u64)
+}
+
+pub fn mul(a: u32, b: u32) -> u32
+    ensures { λ r. ⌜ r ≡ (a * b) % p ⌝ }
+{
+    reduce(wide_mul(a, b))
+}
+
+pub fn seventh_power(a: u32) -> u32
+    ensures { λ r. ⌜ r ≡ a ^ 7 % p ⌝ }
+{
+    let square = mul(a, a);
+    let cube = mul(square, a);
+    mul(mul(square, square), cube)
+}
