@@ -1,11 +1,17 @@
 -- Poseidon's Grain generator of round constants (document 01, "Field and permutation"), on lists of bits.
 use mathlib.Core.Bool.{Bool, true, false}
 use mathlib.Core.List.{List, [], _∷_, _++_}
-use Prim.Native.Nat.{ℕ, zero, suc, _+_, _-_, _*_, _%_}
+use mathlib.Core.Path.{_≡_}
+use Prim.Native.Nat.{ℕ, zero, suc, _+_, _-_, _%_, _<_}
 use lib.Dec.{eqb, ltb}
 use lib.ListN.{length, getD, take, drop, replicate}
 use Rattle.basics.specs.Logic.{if_then_else_}
 use Rattle.basics.specs.Digits.{digits, number}
+use Rattle.field.specs.Field.{p}
+use Rattle.poseidon.specs.declared.generator.Generated.{Generated}
+use Rattle.poseidon.specs.declared.generator.Source.{Source}
+use Rattle.poseidon.specs.declared.generator.Output.{Output}
+use Rattle.poseidon.specs.declared.generator.Candidate.{Candidate}
 
 -- "An 80-bit register starts as, from bit 0 on and each number high bit first: field kind 1 (2 bits), power 0 (4),
 -- 31 (12), 24 (12), 8 (10), 21 (10), thirty ones."
@@ -48,3 +54,26 @@ kept p (candidate ∷ rest) = (if ltb candidate p then candidate ∷ [] else [])
 -- the constants found among the first limit new bits, at most wanted of them
 unfoldable pub found : ℕ → ℕ → ℕ → List ℕ
 found p wanted limit = take wanted (kept p (candidates [] (outputBits (drop 160 (newBits limit firstRegister)))))
+
+-- "gives those found, zeros in the places left, and how many"
+unfoldable pub generated : Generated
+generated =
+    let constants = found p 696 262144 in
+    record { constants = constants ++ replicate (696 - length constants) 0; count = length constants }
+
+-- the new bits that a source may still take
+unfoldable pub bitsLeft : Source → List ℕ
+bitsLeft s = newBits (s .left) (s .register)
+
+-- the next output bit, or that there is none
+pub record NextOutput (before : Source) (r : Output) : Type 0 where
+  pub some : r .present ≡ true → outputBits (bitsLeft before) ≡ r .bit ∷ outputBits (bitsLeft (r .source))
+  pub none : r .present ≡ false → outputBits (bitsLeft before) ≡ []
+  pub bit : r .bit < 2
+  pub fewer : r .present ≡ true → r .source .left < before .left
+
+-- the next candidate, or that there is none
+pub record NextCandidate (before : Source) (r : Candidate) : Type 0 where
+  pub some : r .present ≡ true → candidates [] (outputBits (bitsLeft before)) ≡ r .value ∷ candidates [] (outputBits (bitsLeft (r .source)))
+  pub none : r .present ≡ false → candidates [] (outputBits (bitsLeft before)) ≡ []
+  pub fewer : r .present ≡ true → r .source .left < before .left

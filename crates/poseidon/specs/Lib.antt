@@ -1,2 +1,3 @@
+pub mod Tables
+pub mod Permutation
 pub mod Generator
-pub mod Try

@@ -1,1 +1,155 @@
-// x
+// The Poseidon permutation of 24 field elements.
+mod tables;
+pub mod generator;
+
+ghost use mathlib.Core.Path.{_≡_};
+ghost use mathlib.Core.Bool.{Bool};
+ghost use Prim.Native.Nat.{_+_, _*_, _%_, _≤_, _<_};
+ghost use lib.Dec.{ltb};
+ghost use lib.ListN.{length, getD};
+ghost use Rattle.basics.specs.Logic.{all};
+ghost use Rattle.basics.specs.Lists.{sum};
+ghost use Rattle.field.specs.Field.{p};
+ghost use Rattle.poseidon.specs.Tables.{constants};
+ghost use Rattle.poseidon.specs.Permutation.{babyBear, addConstants, raiseAll, raiseFirst, raise, multiply, permutation, permuted, Reduced};
+
+pub struct Permuted {
+    pub number: u32,
+    pub state: [u32; 24],
+}
+
+// Whether every element is below p.
+fn is_reduced(state: &[u32; 24]) -> bool
+    requires { ⌜ length (now state) ≡ 24 ⌝ }
+    ensures { λ r. ⌜ r ≡ all (λ x. ltb x p) (now (state .entry)) ⌝ }
+{
+    let mut i: usize = 0;
+    while i < 24 {
+        if field::P <= state[i] {
+            return false;
+        }
+        i += 1;
+    }
+    true
+}
+
+fn add_constants(state: &[u32; 24], table: &[u32; 696], round: usize) -> [u32; 24]
+    requires { ⌜ (round < 29) × (now table ≡ constants) ⌝ }
+    ensures { λ r. ⌜ r ≡ addConstants babyBear round (now (state .entry)) ⌝ }
+{
+    let mut out = [0u32; 24];
+    let mut i: usize = 0;
+    while i < 24 {
+        out[i] = field::add(state[i], table[24 * round + i]);
+        i += 1;
+    }
+    out
+}
+
+fn raise_all(state: &[u32; 24]) -> [u32; 24]
+    ensures { λ r. ⌜ r ≡ raiseAll babyBear (now (state .entry)) ⌝ }
+{
+    let mut out = [0u32; 24];
+    let mut i: usize = 0;
+    while i < 24 {
+        out[i] = field::seventh_power(state[i]);
+        i += 1;
+    }
+    out
+}
+
+fn raise_first(state: &[u32; 24]) -> [u32; 24]
+    ensures { λ r. ⌜ r ≡ raiseFirst babyBear (now (state .entry)) ⌝ }
+{
+    let mut out = *state;
+    out[0] = field::seventh_power(state[0]);
+    out
+}
+
+fn raise(state: &[u32; 24], round: usize) -> [u32; 24]
+    ensures { λ r. ⌜ r ≡ raise babyBear round (now (state .entry)) ⌝ }
+{
+    if round < 4 {
+        return raise_all(state);
+    }
+    if round < 25 {
+        return raise_first(state);
+    }
+    raise_all(state)
+}
+
+// One product of a row of the matrix with the state, small enough that four of them fit 64 bits.
+fn term(row: &[u32], column: usize, state: &[u32; 24], j: usize) -> u64
+    requires { ⌜ (column < length (now row)) × (j < 24) × Reduced p (now row) × Reduced p (now state) ⌝ }
+    ensures { λ r. ⌜ (r ≡ getD (now (row .entry)) column 0 * getD (now (state .entry)) j 0) × (r ≤ 4053239664633446400) ⌝ }
+{
+    field::wide_mul(row[column], state[j])
+}
+
+// A row of the matrix times the state, not reduced: the row is the 24 numbers of a table from start on.
+// Four products are summed at a time, and their low and high halves apart; 268435454 is 2^32 modulo p.
+fn row_product(table: &[u32], start: usize, state: &[u32; 24]) -> u32
+    requires { ⌜ (start + 24 ≤ length (now table)) × Reduced p (now table) × Reduced p (now state) ⌝ }
+    ensures { λ r. ⌜ r ≡ sum 24 (λ j. getD (now (table .entry)) (start + j) 0 * getD (now (state .entry)) j 0) % p ⌝ }
+{
+    let mut low: u64 = 0;
+    let mut high: u64 = 0;
+    let mut j: usize = 0;
+    while j < 24 {
+        let k = start + j;
+        let four = term(table, k, state, j) + term(table, k + 1, state, j + 1)
+            + term(table, k + 2, state, j + 2) + term(table, k + 3, state, j + 3);
+        low += four % 4294967296;
+        high += four / 4294967296;
+        j += 4;
+    }
+    field::reduce(high * 268435454 + low)
+}
+
+fn multiply(state: &[u32; 24]) -> [u32; 24]
+    requires { ⌜ Reduced p (now state) ⌝ }
+    ensures { λ r. ⌜ r ≡ multiply babyBear (now (state .entry)) ⌝ }
+{
+    let table = tables::INVERSES;
+    let mut out = [0u32; 24];
+    let mut i: usize = 0;
+    while i < 24 {
+        out[i] = row_product(&table, i, state);
+        i += 1;
+    }
+    out
+}
+
+fn permute_reduced(state: [u32; 24]) -> [u32; 24]
+    requires { ⌜ Reduced p state ⌝ }
+    ensures { λ r. ⌜ r ≡ permutation babyBear state ⌝ }
+{
+    let table = tables::CONSTANTS;
+    let mut s = state;
+    let mut round: usize = 0;
+    while round < 29 {
+        s = add_constants(&s, &table, round);
+        s = raise(&s, round);
+        s = multiply(&s);
+        round += 1;
+    }
+    s
+}
+
+// One permutation; where an element is p or more, number 10 and the state as it came.
+pub fn permute(state: [u32; 24]) -> Permuted
+    ensures { λ r. ⌜ r ≡ permuted state ⌝ }
+{
+    if is_reduced(&state) {
+        Permuted { number: basics::ACCEPTED, state: permute_reduced(state) }
+    } else {
+        Permuted { number: basics::ELEMENT_NOT_REDUCED, state }
+    }
+}
+
+// The table of round constants, which the permutation reads: round by round, element 0 first.
+pub fn round_constants() -> [u32; 696]
+    ensures { λ r. ⌜ r ≡ constants ⌝ }
+{
+    tables::CONSTANTS
+}

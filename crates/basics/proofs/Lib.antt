@@ -1,0 +1,4 @@
+pub mod Cases
+pub mod Fill
+pub mod Table
+pub mod Positional

@@ -1,0 +1,88 @@
+-- Reduced lists, and that every step of the permutation gives 24 reduced elements, over any modulus.
+-- Assumes nothing.
+use mathlib.Core.Path.{_≡_, refl, _∙_}
+use mathlib.Core.Bool.{Bool, true, false}
+use mathlib.Core.List.{List, [], _∷_, _++_}
+use Prim.Native.Nat.{ℕ, zero, suc, _+_, _<_}
+use native.Mathlib.Nat.{mod-lt}
+use borrow.Author.Tests.{ltb-true}
+use lib.Dec.{ltb}
+use lib.ListN.{length, getD, set, length-set}
+use Rattle.basics.specs.Logic.{if_then_else_, _and_, all}
+use Rattle.basics.specs.Lists.{tabulate}
+use Rattle.basics.proofs.Cases.{by, and-left, and-right}
+use Rattle.basics.proofs.Fill.{length-tabulate}
+use Rattle.poseidon.specs.Permutation.{Parameters, Reduced, addConstants, raiseAll, raiseFirst, raise, multiply, rounds, permutation}
+
+module _ (m : ℕ) (pos : 0 < m) where
+  below-append : (s : List ℕ) (v : ℕ) → ((k : ℕ) → getD s k 0 < m) → v < m → (k : ℕ) → getD (s ++ (v ∷ [])) k 0 < m
+  below-append [] v h hv zero = hv
+  below-append [] v h hv (suc k) = pos
+  below-append (x ∷ s) v h hv zero = h zero
+  below-append (x ∷ s) v h hv (suc k) = below-append s v (λ n. h (suc n)) hv k
+
+  below-tabulate : (n : ℕ) (f : ℕ → ℕ) → ((i : ℕ) → f i < m) → (k : ℕ) → getD (tabulate n f) k 0 < m
+  unfolding tabulate
+  below-tabulate zero f h k = pos
+  below-tabulate (suc n) f h k = below-append (tabulate n f) (f n) (below-tabulate n f h) (h n) k
+
+  below-set : (s : List ℕ) (i v : ℕ) → ((k : ℕ) → getD s k 0 < m) → v < m → (k : ℕ) → getD (set s i v) k 0 < m
+  below-set [] i v h hv k = h k
+  below-set (x ∷ s) zero v h hv zero = hv
+  below-set (x ∷ s) zero v h hv (suc k) = h (suc k)
+  below-set (x ∷ s) (suc i) v h hv zero = h zero
+  below-set (x ∷ s) (suc i) v h hv (suc k) = below-set s i v (λ n. h (suc n)) hv k
+
+  below-all : (s : List ℕ) → all (λ x. ltb x m) s ≡ true → (k : ℕ) → getD s k 0 < m
+  unfolding all
+  below-all [] e k = pos
+  below-all (x ∷ s) e zero = ltb-true x m (and-left _ _ e)
+  below-all (x ∷ s) e (suc k) = below-all s (and-right _ _ e) k
+
+  pub reduced-all : (s : List ℕ) → all (λ x. ltb x m) s ≡ true → Reduced m s
+  reduced-all s e = record { below = below-all s e }
+
+-- 24 elements below m
+pub record State (m : ℕ) (s : List ℕ) : Type 0 where
+  pub long : length s ≡ 24
+  pub reduced : Reduced m s
+
+module _ (P : Parameters) (pos : 0 < P .modulus) where
+  tabulated : (f : ℕ → ℕ) → ((i : ℕ) → f i < P .modulus) → State (P .modulus) (tabulate 24 f)
+  tabulated f h = record { long = length-tabulate 24 f; reduced = record { below = below-tabulate (P .modulus) pos 24 f h } }
+
+  pub added : (r : ℕ) (s : List ℕ) → State (P .modulus) (addConstants P r s)
+  unfolding addConstants
+  added r s = tabulated _ (λ i. mod-lt _ pos)
+
+  raised-all : (s : List ℕ) → State (P .modulus) (raiseAll P s)
+  unfolding raiseAll
+  raised-all s = tabulated _ (λ i. mod-lt _ pos)
+
+  raised-first : (s : List ℕ) → State (P .modulus) s → State (P .modulus) (raiseFirst P s)
+  unfolding raiseFirst
+  raised-first s h =
+      record {
+        long = length-set s 0 _ ∙ h .long;
+        reduced = record { below = below-set (P .modulus) pos s 0 _ (h .reduced .below) (mod-lt _ pos) };
+      }
+
+  pub raised : (r : ℕ) (s : List ℕ) → State (P .modulus) s → State (P .modulus) (raise P r s)
+  unfolding raise
+  raised r s h =
+      by (State (P .modulus)) (ltb r 4) _ _ (λ e. raised-all s)
+      (λ e. by (State (P .modulus)) (ltb r (4 + P .partialRounds)) _ _ (λ e′. raised-first s h) (λ e′. raised-all s))
+
+  pub multiplied : (s : List ℕ) → State (P .modulus) (multiply P s)
+  unfolding multiply
+  multiplied s = tabulated _ (λ i. mod-lt _ pos)
+
+  after-rounds : (n : ℕ) (s : List ℕ) → State (P .modulus) s → State (P .modulus) (rounds P n s)
+  unfolding rounds
+  after-rounds zero s h = h
+  after-rounds (suc n) s h = multiplied _
+
+  -- what callers of the permutation go by: it leads from states to states
+  pub permutation-state : (s : List ℕ) → State (P .modulus) s → State (P .modulus) (permutation P s)
+  unfolding permutation
+  permutation-state s h = after-rounds _ s h

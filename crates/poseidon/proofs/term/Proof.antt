@@ -1,0 +1,24 @@
+-- `poseidon::term` meets its contract: the product of two numbers below p.
+-- Assumes nothing.
+use mathlib.Core.Path.{_≡_}
+use native.Mathlib.Omega.{arith}
+use Rattle.poseidon.proofs.Sums.{product-bound}
+use borrow.Author.Needs.{needs}
+use Rattle.poseidon.proofs.term.Statement.{statement}
+use Rattle.poseidon.proofs.term.Tie as tie
+
+returns : tie.Need-returns
+returns c =
+    let at-start = c .before .before .before .before in
+    (c .wide-mul .ensures, omega (arith, product-bound _ _ (at-start .pre .2 .below (at-start .args .column)) (at-start .pre .3 .below (at-start .args .j))))
+
+pub term-spec : {M : Type 1} → statement M
+term-spec =
+    tie.close
+    (tie.spec
+    (λ c. search needs)
+    (λ c. search needs)
+    (λ c. search needs)
+    (λ c. search needs)
+    (λ c κs. search needs)
+    returns)
