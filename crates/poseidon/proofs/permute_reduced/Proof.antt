@@ -1,48 +1,54 @@
+-- `poseidon::permute_reduced` meets its contract: behind each turn of the loop stands a state, that of the rounds so far.
+-- Assumes nothing.
+use mathlib.Core.Path.{_≡_, _∙_, refl, sym, ap, subst}
+use Prim.Native.Nat.{ℕ, _-_, _≤_}
+use native.Mathlib.Numerals.{add-one}
+use native.Mathlib.Omega.{arith}
+use lib.Dec.{lit<}
+use Rattle.field.specs.Field.{p}
+use Rattle.poseidon.specs.Tables.{constants}
+use Rattle.poseidon.specs.Permutation.{Reduced, addConstants, raise, multiply, rounds, permutation, babyBear}
+use Rattle.poseidon.proofs.Bounds.{State, added, raised, multiplied}
+use borrow.Author.Needs.{needs}
 use Rattle.poseidon.proofs.permute_reduced.Statement.{statement}
 use Rattle.poseidon.proofs.permute_reduced.Tie as tie
-use Rattle.poseidon.proofs.permute_reduced.Reads as reads
-use Rattle.poseidon.proofs.permute_reduced.Lts as lts
-use Rattle.poseidon.proofs.add_constants.Reads as add-constants-reads
-use Rattle.poseidon.proofs.multiply.Reads as multiply-reads
-use Rattle.poseidon.proofs.raise.Reads as raise-reads
 
 abbrev Inv-loop : tie.InvT-loop
-Inv-loop table s₀ round₀ s round = ?
+Inv-loop table s₀ round₀ s round = (round ≤ 29) × State p s × (s ≡ rounds babyBear round s₀)
 
 abbrev μ-loop : tie.MeasureT-loop
-μ-loop table s₀ round₀ s round = ?
+μ-loop table s₀ round₀ s round = 29 - round
 
--- src/lib.rt:130:5
 loop-holds : tie.Need-loop-holds Inv-loop μ-loop
-loop-holds c = ?
+unfolding rounds
+loop-holds c = (search needs, record { long = search needs; reduced = c .pre }, refl)
 
--- src/lib.rt:131:13
 add-constants-requires : tie.Need-add-constants-requires Inv-loop μ-loop
-add-constants-requires c κs = ?
+unfolding constants
+add-constants-requires c κs = (search needs, refl)
 
--- src/lib.rt:132:13
-raise-requires : tie.Need-raise-requires Inv-loop μ-loop
-raise-requires c κs = ?
-
--- src/lib.rt:133:13
 multiply-requires : tie.Need-multiply-requires Inv-loop μ-loop
-multiply-requires c κs = ?
+unfolding babyBear
+multiply-requires c κs =
+    subst (Reduced p) (sym (c .before .raise .ensures))
+    (raised babyBear (lit< tt) _ _ (subst (State p) (sym (c .before .before .before .add-constants .ensures)) (added babyBear (lit< tt) _ _)) .reduced)
 
--- src/lib.rt:134:9
-add-round : tie.Need-add-round Inv-loop μ-loop
-add-round c = ?
-
--- src/lib.rt:130:5
-loop-less : tie.Need-loop-less Inv-loop μ-loop
-loop-less c = ?
-
--- src/lib.rt:130:5
 loop-again : tie.Need-loop-again Inv-loop μ-loop
-loop-again c = ?
+unfolding rounds babyBear
+loop-again c =
+    let at-loop = c .before .before .before .before .before .before .before .before .loop in
+    let add = c .before .before .before .before .add-constants .ensures ∙ ap (addConstants babyBear (at-loop .round)) (at-loop .inv .2) in
+    let raised = c .before .before .raise .ensures ∙ ap (raise babyBear (at-loop .round)) add in
+    (omega arith,
+    subst (State p) (sym (c .multiply .ensures)) (multiplied babyBear (lit< tt) _),
+    rw add-one (c .multiply .ensures ∙ ap (multiply babyBear) raised))
 
--- src/lib.rt:123:1
 returns : tie.Need-returns Inv-loop μ-loop
-returns c = ?
+unfolding permutation babyBear
+returns c =
+    let at-loop = c .before .loop in
+    let e : at-loop .round ≡ 29 = omega arith in
+    rw e at (at-loop .inv .2)
 
 pub permute-reduced-spec : {M : Type 1} → statement M
 permute-reduced-spec =
@@ -52,9 +58,9 @@ permute-reduced-spec =
     μ-loop
     loop-holds
     add-constants-requires
-    raise-requires
+    (λ c κs. search needs)
     multiply-requires
-    add-round
-    loop-less
+    (λ c. search needs)
+    (λ c. search needs)
     loop-again
     returns)

@@ -1,50 +1,64 @@
+-- `poseidon::generator::next_output` meets its contract: the pairs passed give no output bit.
+-- Assumes nothing.
+use mathlib.Core.Path.{_≡_, _∙_, refl, sym}
+use mathlib.Core.Bool.{true≢false}
+use Prim.Native.Nat.{_≤_}
+use native.Mathlib.Omega.{arith}
+use lib.Dec.{lit<}
+use lib.ListN.{length}
+use Rattle.poseidon.specs.Generator.{newBits, outputBits, bitsLeft}
+use Rattle.poseidon.proofs.Streams.{length-shifted, second-long, output-bound, output-some, output-skip, output-none}
+use borrow.Author.Needs.{needs}
 use Rattle.poseidon.proofs.generator.next_output.Statement.{statement}
 use Rattle.poseidon.proofs.generator.next_output.Tie as tie
-use Rattle.poseidon.proofs.generator.next_output.Reads as reads
-use Rattle.poseidon.proofs.generator.next_output.Lts as lts
-use Rattle.poseidon.proofs.generator.shift.Reads as shift-reads
 
 abbrev Inv-loop : tie.InvT-loop
-Inv-loop register₀ left₀ register left = ?
+Inv-loop register₀ left₀ register left = (length register ≡ 80) × (left ≤ left₀) × (outputBits (newBits left₀ register₀) ≡ outputBits (newBits left register))
 
 abbrev μ-loop : tie.MeasureT-loop
-μ-loop register₀ left₀ register left = ?
+μ-loop register₀ left₀ register left = left
 
--- src/generator.rt:89:5
 loop-holds : tie.Need-loop-holds Inv-loop μ-loop
-loop-holds c = ?
+loop-holds c = (search needs, search needs, refl)
 
--- src/generator.rt:90:21
 shift-requires : tie.Need-shift-requires Inv-loop μ-loop
-shift-requires c κs = ?
+shift-requires c κs = c .before .before .loop .inv .0
 
--- src/generator.rt:91:20
 shift-requires-2 : tie.Need-shift-requires-2 Inv-loop μ-loop
-shift-requires-2 c κs = ?
+shift-requires-2 c κs = rw (c .before .shift .ensures) (length-shifted _ (c .before .before .before .before .loop .inv .0))
 
--- src/generator.rt:93:12
-array-read-if1 : tie.Need-array-read-if1 Inv-loop μ-loop
-array-read-if1 c = ?
-
--- src/generator.rt:94:23
-array-read-bit : tie.Need-array-read-bit Inv-loop μ-loop
-array-read-bit c = ?
-
--- src/generator.rt:95:13
 returns : tie.Need-returns Inv-loop μ-loop
-returns c = ?
+unfolding bitsLeft
+returns c =
+    let l = c .before .before .before .before .before .before .loop in
+    let e₁ = c .before .before .before .shift .ensures in
+    let e₂ = c .before .shift2 .ensures in
+    record {
+      some = λ e. l .inv .2 ∙ output-some (l .left) (l .register) _ _ (l .inv .0) e₁ e₂ (search needs) (c .if1 .taken);
+      none = λ e. absurd (true≢false e);
+      bit = output-bound (l .left) (l .register) _ _ (l .inv .0) e₁ e₂;
+      fewer = λ e. omega arith;
+    }
 
--- src/generator.rt:89:5
-loop-less : tie.Need-loop-less Inv-loop μ-loop
-loop-less c = ?
-
--- src/generator.rt:89:5
 loop-again : tie.Need-loop-again Inv-loop μ-loop
-loop-again c = ?
+loop-again c =
+    let l = c .before .before .before .before .before .before .loop in
+    let e₁ = c .before .before .before .shift .ensures in
+    let e₂ = c .before .shift2 .ensures in
+    (second-long (l .left) (l .register) _ _ (l .inv .0) e₁ e₂,
+    omega arith,
+    l .inv .2 ∙ output-skip (l .left) (l .register) _ _ (l .inv .0) e₁ e₂ (search needs) (c .if1 .left))
 
--- src/generator.rt:84:1
 returns-2 : tie.Need-returns-2 Inv-loop μ-loop
-returns-2 c = ?
+unfolding bitsLeft
+returns-2 c =
+    let l = c .before .loop in
+    record {
+      some = λ e. absurd (true≢false (sym e));
+      none = λ e. l .inv .2 ∙ output-none (l .left) (l .register) (search needs);
+      bit = lit< tt;
+      fewer = λ e. absurd (true≢false (sym e));
+    }
 
 pub next-output-spec : {M : Type 1} → statement M
 next-output-spec =
@@ -55,9 +69,9 @@ next-output-spec =
     loop-holds
     shift-requires
     shift-requires-2
-    array-read-if1
-    array-read-bit
+    (λ c. search needs)
+    (λ c. search needs)
     returns
-    loop-less
+    (λ c. search needs)
     loop-again
     returns-2)

@@ -1,54 +1,42 @@
+-- `poseidon::generator::shift` meets its contract: the first bits of the loop's array are those of the register from bit 1 on.
+-- Assumes nothing.
+use mathlib.Core.Path.{_≡_, _∙_, refl, ap}
+use mathlib.Core.List.{[], _∷_, _++_}
+use Prim.Native.Nat.{ℕ, _+_, _-_, _≤_}
+use native.Mathlib.Omega.{arith}
+use denote.Ref.{now}
+use lib.ListN.{length, take, drop, length-set}
+use Rattle.poseidon.specs.Generator.{shifted}
+use Rattle.poseidon.proofs.Streams.{shift-step, shift-end}
+use borrow.Author.Needs.{needs}
 use Rattle.poseidon.proofs.generator.shift.Statement.{statement}
 use Rattle.poseidon.proofs.generator.shift.Tie as tie
-use Rattle.poseidon.proofs.generator.shift.Reads as reads
-use Rattle.poseidon.proofs.generator.shift.Lts as lts
-use Rattle.poseidon.proofs.generator.next_bit.Reads as next-bit-reads
 
 abbrev Inv-loop : tie.InvT-loop
-Inv-loop register out₀ i₀ out i = ?
+Inv-loop register out₀ i₀ out i = (i ≤ 79) × (length out ≡ 80) × (take i out ≡ take i (drop 1 register))
 
 abbrev μ-loop : tie.MeasureT-loop
-μ-loop register out₀ i₀ out i = ?
+μ-loop register out₀ i₀ out i = 79 - i
 
--- src/generator.rt:63:5
 loop-holds : tie.Need-loop-holds Inv-loop μ-loop
-loop-holds c = ?
+loop-holds c = (search needs, c .before .pre, refl)
 
--- src/generator.rt:64:27
-add-out : tie.Need-add-out Inv-loop μ-loop
-add-out c = ?
-
--- src/generator.rt:64:18
-element-copy-out-out : tie.Need-element-copy-out-out Inv-loop μ-loop
-element-copy-out-out c = ?
-
--- src/generator.rt:64:9
-array-write-out : tie.Need-array-write-out Inv-loop μ-loop
-array-write-out c = ?
-
--- src/generator.rt:65:9
-add-i : tie.Need-add-i Inv-loop μ-loop
-add-i c = ?
-
--- src/generator.rt:63:5
-loop-less : tie.Need-loop-less Inv-loop μ-loop
-loop-less c = ?
-
--- src/generator.rt:63:5
 loop-again : tie.Need-loop-again Inv-loop μ-loop
-loop-again c = ?
+loop-again c =
+    let at-loop = c .before .before .loop in
+    let at-start = c .before .before .before .before in
+    (omega arith,
+    simp length-set (at-loop .inv .1),
+    shift-step (now (at-start .args .register)) (at-loop .out) (at-loop .i) (at-start .pre) (at-loop .inv .1) (omega arith) (at-loop .inv .2))
 
--- src/generator.rt:67:15
-next-bit-requires : tie.Need-next-bit-requires Inv-loop μ-loop
-next-bit-requires c κs = ?
-
--- src/generator.rt:67:5
-array-write-out-2 : tie.Need-array-write-out-2 Inv-loop μ-loop
-array-write-out-2 c = ?
-
--- src/generator.rt:57:1
 returns : tie.Need-returns Inv-loop μ-loop
-returns c = ?
+unfolding shifted
+returns c =
+    let at-loop = c .before .before .loop in
+    let at-start = c .before .before .before .before in
+    let e : at-loop .i ≡ 79 = omega arith in
+    shift-end (now (at-start .args .register)) (at-loop .out) _ (at-start .pre) (at-loop .inv .1) (rw e at (at-loop .inv .2))
+    ∙ ap (λ (bit : ℕ). drop 1 (now (at-start .args .register)) ++ (bit ∷ [])) (c .next-bit .ensures)
 
 pub shift-spec : {M : Type 1} → statement M
 shift-spec =
@@ -57,12 +45,12 @@ shift-spec =
     Inv-loop
     μ-loop
     loop-holds
-    add-out
-    element-copy-out-out
-    array-write-out
-    add-i
-    loop-less
+    (λ c. search needs)
+    (λ c. search needs)
+    (λ c. search needs)
+    (λ c. search needs)
+    (λ c. search needs)
     loop-again
-    next-bit-requires
-    array-write-out-2
+    (λ c κs. search needs)
+    (λ c. search needs)
     returns)

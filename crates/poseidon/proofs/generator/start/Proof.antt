@@ -1,40 +1,52 @@
+-- `poseidon::generator::start` meets its contract.
+-- Assumes nothing.
+use mathlib.Core.Path.{_≡_, refl}
+use Prim.Native.Nat.{ℕ, _+_, _-_, _≤_}
+use native.Mathlib.Nat.{zero-add}
+use native.Mathlib.Omega.{arith}
+use lib.ListN.{length, drop}
+use Rattle.basics.specs.Digits.{digits}
+use Rattle.poseidon.specs.Generator.{firstRegister, newBits, shifted}
+use Rattle.poseidon.proofs.Streams.{length-shifted, drop-next}
+use borrow.Author.Needs.{needs}
 use Rattle.poseidon.proofs.generator.start.Statement.{statement}
 use Rattle.poseidon.proofs.generator.start.Tie as tie
-use Rattle.poseidon.proofs.generator.start.Reads as reads
-use Rattle.poseidon.proofs.generator.start.Lts as lts
-use Rattle.poseidon.proofs.generator.shift.Reads as shift-reads
 
 abbrev Inv-loop : tie.InvT-loop
-Inv-loop register₀ i₀ register i = ?
+Inv-loop register₀ i₀ register i = (i ≤ 160) × (length register ≡ 80) × ((n : ℕ) → drop i (newBits (i + n) firstRegister) ≡ newBits n register)
 
 abbrev μ-loop : tie.MeasureT-loop
-μ-loop register₀ i₀ register i = ?
+μ-loop register₀ i₀ register i = 160 - i
 
--- src/generator.rt:77:5
 loop-holds : tie.Need-loop-holds Inv-loop μ-loop
-loop-holds c = ?
+unfolding firstRegister digits
+loop-holds c = (search needs, refl, λ n. rw (zero-add n))
 
--- src/generator.rt:78:20
 shift-requires : tie.Need-shift-requires Inv-loop μ-loop
-shift-requires c κs = ?
+shift-requires c κs = c .before .before .loop .inv .1
 
--- src/generator.rt:79:9
-add-i : tie.Need-add-i Inv-loop μ-loop
-add-i c = ?
-
--- src/generator.rt:77:5
-loop-less : tie.Need-loop-less Inv-loop μ-loop
-loop-less c = ?
-
--- src/generator.rt:77:5
 loop-again : tie.Need-loop-again Inv-loop μ-loop
-loop-again c = ?
+loop-again c =
+    let at-loop = c .before .before .before .loop in
+    (omega arith,
+    rw (c .shift .ensures) (length-shifted _ (at-loop .inv .1)),
+    rw (c .shift .ensures) (drop-next _ _ (at-loop .i) (at-loop .inv .2)))
 
--- src/generator.rt:72:1
 returns : tie.Need-returns Inv-loop μ-loop
-returns c = ?
+returns c =
+    let at-loop = c .before .loop in
+    let e : at-loop .i ≡ 160 = omega arith in
+    rw e at (at-loop .inv .2)
 
 pub start-spec : {M : Type 1} → statement M
 start-spec =
     tie.close
-    (tie.spec Inv-loop μ-loop loop-holds shift-requires add-i loop-less loop-again returns)
+    (tie.spec
+    Inv-loop
+    μ-loop
+    loop-holds
+    shift-requires
+    (λ c. search needs)
+    (λ c. search needs)
+    loop-again
+    returns)
