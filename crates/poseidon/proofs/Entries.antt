@@ -23,6 +23,10 @@ pub constants-length : length constants ≡ 696
 unfolding constants
 constants-length = refl
 
+pub inverses-length : length inverses ≡ 47
+unfolding inverses
+inverses-length = refl
+
 pub inverses-reduced : Reduced p inverses
 unfolding inverses all _and_
 inverses-reduced = reduced-all p (lit< tt) inverses refl

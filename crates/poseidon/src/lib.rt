@@ -10,7 +10,7 @@ ghost use lib.ListN.{length, getD};
 ghost use Rattle.basics.specs.Logic.{all};
 ghost use Rattle.basics.specs.Lists.{sum};
 ghost use Rattle.field.specs.Field.{p};
-ghost use Rattle.poseidon.specs.Tables.{constants};
+ghost use Rattle.poseidon.specs.Tables.{constants, inverses};
 ghost use Rattle.poseidon.specs.Permutation.{babyBear, addConstants, raiseAll, raiseFirst, raise, multiply, permutation, permuted, Reduced};
 
 pub struct Permuted {
@@ -33,14 +33,23 @@ fn is_reduced(state: &[u32; 24]) -> bool
     true
 }
 
+// The sum of two reduced elements, for which one subtraction does what a division would.
+fn add_reduced(a: u32, b: u32) -> u32
+    requires { ⌜ (a < p) × (b < p) ⌝ }
+    ensures { λ r. ⌜ r ≡ (a + b) % p ⌝ }
+{
+    let sum = a + b;
+    if sum < field::P { sum } else { sum - field::P }
+}
+
 fn add_constants(state: &[u32; 24], table: &[u32; 696], round: usize) -> [u32; 24]
-    requires { ⌜ (round < 29) × (now table ≡ constants) ⌝ }
+    requires { ⌜ (round < 29) × (now table ≡ constants) × Reduced p (now state) ⌝ }
     ensures { λ r. ⌜ r ≡ addConstants babyBear round (now (state .entry)) ⌝ }
 {
     let mut out = [0u32; 24];
     let mut i: usize = 0;
     while i < 24 {
-        out[i] = field::add(state[i], table[24 * round + i]);
+        out[i] = add_reduced(state[i], table[24 * round + i]);
         i += 1;
     }
     out
@@ -86,7 +95,7 @@ fn term(row: &[u32], column: usize, state: &[u32; 24], j: usize) -> u64
     field::wide_mul(row[column], state[j])
 }
 
-// A row of the matrix times the state, not reduced: the row is the 24 numbers of a table from start on.
+// A row of the matrix times the state, where the row is the 24 numbers of a table from start on.
 // Four products are summed at a time, and their low and high halves apart; 268435454 is 2^32 modulo p.
 fn row_product(table: &[u32], start: usize, state: &[u32; 24]) -> u32
     requires { ⌜ (start + 24 ≤ length (now table)) × Reduced p (now table) × Reduced p (now state) ⌝ }
@@ -106,31 +115,32 @@ fn row_product(table: &[u32], start: usize, state: &[u32; 24]) -> u32
     field::reduce(high * 268435454 + low)
 }
 
-fn multiply(state: &[u32; 24]) -> [u32; 24]
-    requires { ⌜ Reduced p (now state) ⌝ }
+fn multiply(state: &[u32; 24], table: &[u32; 47]) -> [u32; 24]
+    requires { ⌜ (now table ≡ inverses) × Reduced p (now state) ⌝ }
     ensures { λ r. ⌜ r ≡ multiply babyBear (now (state .entry)) ⌝ }
 {
-    let table = tables::INVERSES;
     let mut out = [0u32; 24];
     let mut i: usize = 0;
     while i < 24 {
-        out[i] = row_product(&table, i, state);
+        out[i] = row_product(table, i, state);
         i += 1;
     }
     out
 }
 
+// The tables are read once, since each use of one copies it.
 fn permute_reduced(state: [u32; 24]) -> [u32; 24]
     requires { ⌜ Reduced p state ⌝ }
     ensures { λ r. ⌜ r ≡ permutation babyBear state ⌝ }
 {
-    let table = tables::CONSTANTS;
+    let constants = tables::CONSTANTS;
+    let inverses = tables::INVERSES;
     let mut s = state;
     let mut round: usize = 0;
     while round < 29 {
-        s = add_constants(&s, &table, round);
+        s = add_constants(&s, &constants, round);
         s = raise(&s, round);
-        s = multiply(&s);
+        s = multiply(&s, &inverses);
         round += 1;
     }
     s

@@ -8,6 +8,7 @@ use Rattle.basics.proofs.Fill.{Filled, start, step, end}
 use Rattle.field.specs.Field.{p}
 use Rattle.poseidon.specs.Tables.{constants}
 use Rattle.poseidon.specs.Permutation.{addConstants, babyBear}
+use Rattle.poseidon.proofs.Entries.{constants-reduced}
 use borrow.Author.Needs.{needs}
 use Rattle.poseidon.proofs.add_constants.Statement.{statement}
 use Rattle.poseidon.proofs.add_constants.Tie as tie
@@ -21,12 +22,17 @@ abbrev μ-loop : tie.MeasureT-loop
 loop-holds : tie.Need-loop-holds Inv-loop μ-loop
 loop-holds c = start _ _ _ (search needs)
 
+add-reduced-requires : tie.Need-add-reduced-requires Inv-loop μ-loop
+add-reduced-requires c κs =
+    let at-start = c .before .before .before .before in
+    (at-start .pre .2 .below _, rw (at-start .pre .1) (constants-reduced .below _))
+
 loop-again : tie.Need-loop-again Inv-loop μ-loop
 loop-again c =
     let at-start = c .before .before .before .before .before in
     let at-loop = c .before .before .before .before .loop in
-    let e : c .add .result ≡ (getD (now (at-start .args .state)) (at-loop .i) 0 + getD constants (24 * at-start .args .round + at-loop .i) 0) % p =
-        rw (← at-start .pre .1) (c .add .ensures) in
+    let e : c .add-reduced .result ≡ (getD (now (at-start .args .state)) (at-loop .i) 0 + getD constants (24 * at-start .args .round + at-loop .i) 0) % p =
+        rw (← at-start .pre .1) (c .add-reduced .ensures) in
     step _ (at-loop .inv) (search needs) e
 
 returns : tie.Need-returns Inv-loop μ-loop
@@ -46,7 +52,7 @@ add-constants-spec =
     (λ c. search needs)
     (λ c. search needs)
     (λ c. search needs)
-    (λ c κs. search needs)
+    add-reduced-requires
     (λ c. search needs)
     (λ c. search needs)
     (λ c. search needs)

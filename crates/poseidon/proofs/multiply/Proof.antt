@@ -1,15 +1,17 @@
 -- `poseidon::multiply` meets its contract.
 -- Assumes nothing.
-use mathlib.Core.Path.{refl}
-use Prim.Native.Nat.{_+_, _*_, _-_, _%_}
+use mathlib.Core.Path.{_≡_, _∙_, ap, subst, sym}
+use mathlib.Core.List.{List}
+use Prim.Native.Nat.{ℕ, _+_, _*_, _-_, _%_, _≤_}
 use native.Mathlib.Omega.{arith}
-use lib.ListN.{getD}
+use denote.Ref.{now}
+use lib.ListN.{length, getD}
 use Rattle.basics.specs.Lists.{sum}
 use Rattle.basics.proofs.Fill.{Filled, start, step, end}
 use Rattle.field.specs.Field.{p}
 use Rattle.poseidon.specs.Tables.{inverses}
-use Rattle.poseidon.specs.Permutation.{multiply, matrix, babyBear}
-use Rattle.poseidon.proofs.Entries.{inverses-reduced}
+use Rattle.poseidon.specs.Permutation.{Reduced, multiply, matrix, babyBear}
+use Rattle.poseidon.proofs.Entries.{inverses-reduced, inverses-length}
 use borrow.Author.Needs.{needs}
 use Rattle.poseidon.proofs.multiply.Statement.{statement}
 use Rattle.poseidon.proofs.multiply.Tie as tie
@@ -24,12 +26,19 @@ loop-holds : tie.Need-loop-holds Inv-loop μ-loop
 loop-holds c = start _ _ _ (search needs)
 
 row-product-requires : tie.Need-row-product-requires Inv-loop μ-loop
-unfolding inverses
-row-product-requires c κs = (omega arith, inverses-reduced, c .before .before .before .pre)
+row-product-requires c κs =
+    let at-start = c .before .before .before in
+    let e : now (at-start .args .table) ≡ inverses = at-start .pre .0 in
+    (subst (λ (table : List ℕ). c .before .before .loop .i + 24 ≤ length table) (sym e) (omega (arith, inverses-length)),
+    subst (Reduced p) (sym e) inverses-reduced,
+    at-start .pre .1)
 
 loop-again : tie.Need-loop-again Inv-loop μ-loop
-unfolding inverses
-loop-again c = step _ (c .before .before .before .loop .inv) (search needs) (c .row-product .ensures)
+loop-again c =
+    let at-start = c .before .before .before .before in
+    let at-loop = c .before .before .before .loop in
+    let row : List ℕ → ℕ = λ table. sum 24 (λ j. getD table (at-loop .i + j) 0 * getD (now (at-start .args .state)) j 0) % p in
+    step _ (at-loop .inv) (search needs) (c .row-product .ensures ∙ ap row (at-start .pre .0))
 
 returns : tie.Need-returns Inv-loop μ-loop
 unfolding multiply matrix babyBear
@@ -42,7 +51,6 @@ multiply-spec =
     Inv-loop
     μ-loop
     loop-holds
-    (λ c. search needs)
     row-product-requires
     (λ c. search needs)
     (λ c. search needs)

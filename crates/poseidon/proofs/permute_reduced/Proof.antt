@@ -6,7 +6,7 @@ use native.Mathlib.Numerals.{add-one}
 use native.Mathlib.Omega.{arith}
 use lib.Dec.{lit<}
 use Rattle.field.specs.Field.{p}
-use Rattle.poseidon.specs.Tables.{constants}
+use Rattle.poseidon.specs.Tables.{constants, inverses}
 use Rattle.poseidon.specs.Permutation.{Reduced, addConstants, raise, multiply, rounds, permutation, babyBear}
 use Rattle.poseidon.proofs.Bounds.{State, added, raised, multiplied}
 use borrow.Author.Needs.{needs}
@@ -14,10 +14,10 @@ use Rattle.poseidon.proofs.permute_reduced.Statement.{statement}
 use Rattle.poseidon.proofs.permute_reduced.Tie as tie
 
 abbrev Inv-loop : tie.InvT-loop
-Inv-loop table s₀ round₀ s round = (round ≤ 29) × State p s × (s ≡ rounds babyBear round s₀)
+Inv-loop constants inverses s₀ round₀ s round = (round ≤ 29) × State p s × (s ≡ rounds babyBear round s₀)
 
 abbrev μ-loop : tie.MeasureT-loop
-μ-loop table s₀ round₀ s round = 29 - round
+μ-loop constants inverses s₀ round₀ s round = 29 - round
 
 loop-holds : tie.Need-loop-holds Inv-loop μ-loop
 unfolding rounds
@@ -25,20 +25,21 @@ loop-holds c = (search needs, record { long = search needs; reduced = c .pre }, 
 
 add-constants-requires : tie.Need-add-constants-requires Inv-loop μ-loop
 unfolding constants
-add-constants-requires c κs = (search needs, refl)
+add-constants-requires c κs = (search needs, refl, c .before .before .before .loop .inv .1 .reduced)
 
 multiply-requires : tie.Need-multiply-requires Inv-loop μ-loop
-unfolding babyBear
+unfolding babyBear inverses
 multiply-requires c κs =
-    subst (Reduced p) (sym (c .before .raise .ensures))
-    (raised babyBear (lit< tt) _ _ (subst (State p) (sym (c .before .before .before .add-constants .ensures)) (added babyBear (lit< tt) _ _)) .reduced)
+    (refl,
+    subst (Reduced p) (sym (c .before .before .raise .ensures))
+    (raised babyBear (lit< tt) _ _ (subst (State p) (sym (c .before .before .before .before .add-constants .ensures)) (added babyBear (lit< tt) _ _)) .reduced))
 
 loop-again : tie.Need-loop-again Inv-loop μ-loop
 unfolding rounds babyBear
 loop-again c =
-    let at-loop = c .before .before .before .before .before .before .before .before .loop in
-    let add = c .before .before .before .before .add-constants .ensures ∙ ap (addConstants babyBear (at-loop .round)) (at-loop .inv .2) in
-    let raised = c .before .before .raise .ensures ∙ ap (raise babyBear (at-loop .round)) add in
+    let at-loop = c .before .before .before .before .before .before .before .before .before .loop in
+    let add = c .before .before .before .before .before .add-constants .ensures ∙ ap (addConstants babyBear (at-loop .round)) (at-loop .inv .2) in
+    let raised = c .before .before .before .raise .ensures ∙ ap (raise babyBear (at-loop .round)) add in
     (omega arith,
     subst (State p) (sym (c .multiply .ensures)) (multiplied babyBear (lit< tt) _),
     rw add-one (c .multiply .ensures ∙ ap (multiply babyBear) raised))

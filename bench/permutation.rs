@@ -1,0 +1,146 @@
+// One permutation of the library beside two in Rust, in one run: a plain one, with a `%` for every product, and one that sums
+// the products of a row as the library does. Each round times the three in turn; the medians are compared.
+use std::hint::black_box;
+use std::time::Instant;
+
+extern "C" {
+    fn tuilarder_permute(state: *mut [u32; 24]) -> u32;
+}
+
+const P: u64 = 2013265921;
+
+struct Tables {
+    constants: Vec<u32>,
+    inverses: Vec<u32>,
+}
+
+fn power(mut base: u64, mut exponent: u64) -> u64 {
+    let mut result = 1;
+    while exponent > 0 {
+        if exponent & 1 == 1 {
+            result = result * base % P;
+        }
+        base = base * base % P;
+        exponent >>= 1;
+    }
+    result
+}
+
+// Poseidon's Grain generator, written anew from its description.
+fn constants() -> Vec<u32> {
+    let mut register: Vec<u8> = Vec::new();
+    for (value, size) in [(1u32, 2), (0, 4), (31, 12), (24, 12), (8, 10), (21, 10)] {
+        register.extend((0..size).rev().map(|k| (value >> k & 1) as u8));
+    }
+    register.extend([1; 30]);
+    let mut at = 0;
+    let mut next = move || {
+        let bit = [62, 51, 38, 23, 13, 0].iter().fold(0, |bit, tap| bit ^ register[(at + tap) % 80]);
+        register[at] = bit;
+        at = (at + 1) % 80;
+        bit
+    };
+    for _ in 0..160 {
+        next();
+    }
+    let mut found = Vec::new();
+    while found.len() < 696 {
+        let mut candidate = 0u64;
+        let mut size = 0;
+        while size < 31 {
+            let (first, second) = (next(), next());
+            if first == 1 {
+                candidate = candidate * 2 + second as u64;
+                size += 1;
+            }
+        }
+        if candidate < P {
+            found.push(candidate as u32);
+        }
+    }
+    found
+}
+
+fn seventh(x: u64) -> u64 {
+    let square = x * x % P;
+    let cube = square * x % P;
+    square * square % P * cube % P
+}
+
+fn permute(tables: &Tables, state: &mut [u32; 24], row: fn(&[u32], &[u32; 24]) -> u32) {
+    for round in 0..29 {
+        let constants = &tables.constants[24 * round..24 * round + 24];
+        for i in 0..24 {
+            state[i] = ((state[i] as u64 + constants[i] as u64) % P) as u32;
+        }
+        let raised = if (4..25).contains(&round) { 1 } else { 24 };
+        for x in state.iter_mut().take(raised) {
+            *x = seventh(*x as u64) as u32;
+        }
+        let mut out = [0; 24];
+        for i in 0..24 {
+            out[i] = row(&tables.inverses[i..i + 24], state);
+        }
+        *state = out;
+    }
+}
+
+// The plain row: a remainder for every product.
+fn plain_row(row: &[u32], state: &[u32; 24]) -> u32 {
+    let mut sum = 0u64;
+    for j in 0..24 {
+        sum += row[j] as u64 * state[j] as u64 % P;
+    }
+    (sum % P) as u32
+}
+
+// Four products at a time, their halves summed apart, one remainder at the end.
+fn halves_row(row: &[u32], state: &[u32; 24]) -> u32 {
+    let row: &[u32; 24] = row.try_into().unwrap();
+    let (mut low, mut high) = (0u64, 0u64);
+    for j in (0..24).step_by(4) {
+        let four = row[j] as u64 * state[j] as u64
+            + row[j + 1] as u64 * state[j + 1] as u64
+            + row[j + 2] as u64 * state[j + 2] as u64
+            + row[j + 3] as u64 * state[j + 3] as u64;
+        low += four & 0xffff_ffff;
+        high += four >> 32;
+    }
+    ((high * 268435454 + low) % P) as u32
+}
+
+fn nanoseconds(calls: u32, state: &mut [u32; 24], permutation: &dyn Fn(&mut [u32; 24])) -> f64 {
+    let start = Instant::now();
+    for _ in 0..calls {
+        permutation(black_box(state));
+    }
+    start.elapsed().as_nanos() as f64 / calls as f64
+}
+
+fn median(mut times: Vec<f64>) -> f64 {
+    times.sort_by(f64::total_cmp);
+    times[times.len() / 2]
+}
+
+fn main() {
+    let tables = Tables { constants: constants(), inverses: (24..71).map(|k| power(k, P - 2) as u32).collect() };
+    let library = |state: &mut [u32; 24]| assert_eq!(unsafe { tuilarder_permute(state) }, 0);
+    let plain = |state: &mut [u32; 24]| permute(&tables, state, plain_row);
+    let halves = |state: &mut [u32; 24]| permute(&tables, state, halves_row);
+    let names = ["plain Rust", "Rust, one remainder a row", "library"];
+    let permutations: [&dyn Fn(&mut [u32; 24]); 3] = [&plain, &halves, &library];
+
+    let mut states = [[7u32; 24]; 3];
+    let mut times: [Vec<f64>; 3] = Default::default();
+    for _ in 0..21 {
+        for k in 0..3 {
+            times[k].push(nanoseconds(200, &mut states[k], permutations[k]));
+        }
+    }
+    assert_eq!(states[0], states[1]);
+    assert_eq!(states[0], states[2]);
+    let medians = times.map(median);
+    for k in 0..3 {
+        println!("{:28} {:9.0} ns  {:5.2} times plain Rust's speed", names[k], medians[k], medians[0] / medians[k]);
+    }
+}
