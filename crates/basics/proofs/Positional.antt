@@ -53,8 +53,8 @@ digits-number base (suc n) ds e h =
     let value : number base ds ≡ number base front * base + last = ap (number base) split ∙ number-append base front last in
     let b : 0 < base = omega (arith, h 0) in
     let high : number base ds / base ≡ number base front =
-        rw value (mul-add-div-right b (number base front) last ∙ rw (div-eq-of-lt (h n)) (add-zero _)) in
+    rw value (mul-add-div-right b (number base front) last ∙ rw (div-eq-of-lt (h n)) (add-zero _)) in
     let low : number base ds % base ≡ last =
-        rw value (mul-add-mod-self-right (number base front) base last ∙ mod-eq-of-lt (h n)) in
+    rw value (mul-add-mod-self-right (number base front) base last ∙ mod-eq-of-lt (h n)) in
     let rest : digits base n (number base front) ≡ front = digits-number base n front (length-take-le n ds (omega arith)) (take-below base n ds b h) in
     rw (high, low, rest) (sym split)

@@ -1,17 +1,25 @@
 // Permutes each state of standard input and prints the answer: its number, then its 24 elements.
-// A line of input is one state: 24 numbers of ten digits, with zeros in front, one byte behind each; 248 lines at most.
+// A line of input is one state: 24 numbers of ten digits, zeros in front, one byte behind each; 242 lines at most.
+// stdin holds chosen and random states, and stdout what another implementation answers to them: docs/TESTS.md says how both were made.
+
+ghost use Prim.Native.Nat.{_<_};
+
+// The number with one digit more behind it.
+fn with_digit(value: u32, digit: u8) -> u32 {
+    ((value as u64 * 10 + digit as u64 % 16) % 4294967296) as u32
+}
 
 // The number of ten digits that begins at a place of the text.
 fn number_at(text: &[u8; 65536], at: usize) -> u32
     requires { ⌜ at < 65000 ⌝ }
 {
-    let mut value: u64 = 0;
+    let mut value: u32 = 0;
     let mut i: usize = 0;
     while i < 10 {
-        value = (value * 10 + text[at + i] as u64 % 16) % 4294967296;
+        value = with_digit(value, text[at + i]);
         i += 1;
     }
-    value as u32
+    value
 }
 
 fn state_at(text: &[u8; 65536], at: usize) -> [u32; 24]
@@ -26,24 +34,39 @@ fn state_at(text: &[u8; 65536], at: usize) -> [u32; 24]
     state
 }
 
-fn print(answer: poseidon::Permuted) {
-    io::print_decimal(1, answer.number as u64);
-    let state = answer.state;
+fn print_element(x: u32) {
+    io::write_all(1, b" ");
+    io::print_decimal(1, x as u64);
+}
+
+fn print_elements(state: &[u32; 24]) {
     let mut i: usize = 0;
     while i < 24 {
-        io::write_all(1, b" ");
-        io::print_decimal(1, state[i] as u64);
+        print_element(state[i]);
         i += 1;
     }
+}
+
+fn print_answer(answer: poseidon::Permuted) {
+    io::print_decimal(1, answer.number as u64);
+    let state = answer.state;
+    print_elements(&state);
     io::write_all(1, b"\n");
+}
+
+fn permute_lines(text: &[u8; 65536], size: usize) {
+    let mut line: usize = 0;
+    while line < 242 {
+        if size < 264 * line + 264 {
+            return;
+        }
+        print_answer(poseidon::permute(state_at(text, 264 * line)));
+        line += 1;
+    }
 }
 
 fn main() {
     let mut text = io::large_buffer();
     let size = io::read_full(0, &mut text);
-    let mut line: usize = 0;
-    while line < 242 && 264 * line + 264 <= size {
-        print(poseidon::permute(state_at(&text, 264 * line)));
-        line += 1;
-    }
+    permute_lines(&text, size);
 }

@@ -1,12 +1,19 @@
 // The generator of the round constants (Grain).
 use crate::tables;
-
 ghost use mathlib.Core.Path.{_≡_};
 ghost use mathlib.Core.List.{[], _∷_};
 ghost use mathlib.Core.Bool.{true, false};
 ghost use Prim.Native.Nat.{ℕ, _+_, _<_};
 ghost use lib.ListN.{length, drop};
 ghost use Rattle.poseidon.specs.Generator.{firstRegister, nextBit, shifted, newBits, generated, NextOutput, NextCandidate};
+
+// How many new bits are dropped at the start.
+const DROPPED: usize = 160;
+
+// How many new bits may be taken, those dropped included.
+const LIMIT: usize = 262144;
+
+const USABLE: usize = LIMIT - DROPPED;
 
 // The constants found, then zeros, and how many were found.
 pub struct Generated {
@@ -74,7 +81,7 @@ fn start() -> [u8; 80]
 {
     let mut register = tables::FIRST_REGISTER;
     let mut i: usize = 0;
-    while i < 160 {
+    while i < DROPPED {
         register = shift(&register);
         i += 1;
     }
@@ -92,10 +99,18 @@ fn next_output(source: Source) -> Output
         left -= 2;
         if first[79] == 1 {
             let bit = register[79];
-            return Output { present: true, bit, source: Source { register, left } };
+            return Output {
+                present: true,
+                bit,
+                source: Source { register, left },
+            };
         }
     }
-    Output { present: false, bit: 0, source: Source { register, left } }
+    Output {
+        present: false,
+        bit: 0,
+        source: Source { register, left },
+    }
 }
 
 fn next_candidate(source: Source) -> Candidate
@@ -108,18 +123,29 @@ fn next_candidate(source: Source) -> Candidate
         let next = next_output(from);
         from = next.source;
         if !next.present {
-            return Candidate { present: false, value: 0, source: from };
+            return Candidate {
+                present: false,
+                value: 0,
+                source: from,
+            };
         }
         value = value * 2 + next.bit as u32;
         size += 1;
     }
-    Candidate { present: true, value, source: from }
+    Candidate {
+        present: true,
+        value,
+        source: from,
+    }
 }
 
 pub fn generate() -> Generated
     ensures { λ r. ⌜ r ≡ generated ⌝ }
 {
-    let mut source = Source { register: start(), left: 261984 };
+    let mut source = Source {
+        register: start(),
+        left: USABLE,
+    };
     let mut constants = [0u32; 696];
     let mut count: usize = 0;
     while count < 696 {

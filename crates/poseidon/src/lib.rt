@@ -1,6 +1,6 @@
 // The Poseidon permutation of 24 field elements.
-mod tables;
 pub mod generator;
+mod tables;
 
 ghost use mathlib.Core.Path.{_≡_};
 ghost use mathlib.Core.Bool.{Bool};
@@ -106,8 +106,10 @@ fn row_product(table: &[u32], start: usize, state: &[u32; 24]) -> u32
     let mut j: usize = 0;
     while j < 24 {
         let k = start + j;
-        let four = term(table, k, state, j) + term(table, k + 1, state, j + 1)
-            + term(table, k + 2, state, j + 2) + term(table, k + 3, state, j + 3);
+        let four = term(table, k, state, j)
+            + term(table, k + 1, state, j + 1)
+            + term(table, k + 2, state, j + 2)
+            + term(table, k + 3, state, j + 3);
         low += four % 4294967296;
         high += four / 4294967296;
         j += 4;
@@ -151,9 +153,15 @@ pub fn permute(state: [u32; 24]) -> Permuted
     ensures { λ r. ⌜ r ≡ permuted state ⌝ }
 {
     if is_reduced(&state) {
-        Permuted { number: basics::ACCEPTED, state: permute_reduced(state) }
+        Permuted {
+            number: basics::ACCEPTED,
+            state: permute_reduced(state),
+        }
     } else {
-        Permuted { number: basics::ELEMENT_NOT_REDUCED, state }
+        Permuted {
+            number: basics::ELEMENT_NOT_REDUCED,
+            state,
+        }
     }
 }
 

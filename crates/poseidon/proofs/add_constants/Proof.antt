@@ -32,7 +32,7 @@ loop-again c =
     let at-start = c .before .before .before .before .before in
     let at-loop = c .before .before .before .before .loop in
     let e : c .add-reduced .result ≡ (getD (now (at-start .args .state)) (at-loop .i) 0 + getD constants (24 * at-start .args .round + at-loop .i) 0) % p =
-        rw (← at-start .pre .1) (c .add-reduced .ensures) in
+    rw (← at-start .pre .1) (c .add-reduced .ensures) in
     step _ (at-loop .inv) (search needs) e
 
 returns : tie.Need-returns Inv-loop μ-loop

@@ -28,10 +28,11 @@ loop-holds c = start _ _ _ (search needs)
 row-product-requires : tie.Need-row-product-requires Inv-loop μ-loop
 row-product-requires c κs =
     let at-start = c .before .before .before in
-    let e : now (at-start .args .table) ≡ inverses = at-start .pre .0 in
-    (subst (λ (table : List ℕ). c .before .before .loop .i + 24 ≤ length table) (sym e) (omega (arith, inverses-length)),
-    subst (Reduced p) (sym e) inverses-reduced,
-    at-start .pre .1)
+    let e : now (at-start .args .table) ≡ inverses = at-start .pre .0 in (
+      subst (λ (table : List ℕ). c .before .before .loop .i + 24 ≤ length table) (sym e) (omega (arith, inverses-length)),
+      subst (Reduced p) (sym e) inverses-reduced,
+      at-start .pre .1,
+    )
 
 loop-again : tie.Need-loop-again Inv-loop μ-loop
 loop-again c =

@@ -29,20 +29,22 @@ add-constants-requires c κs = (search needs, refl, c .before .before .before .l
 
 multiply-requires : tie.Need-multiply-requires Inv-loop μ-loop
 unfolding babyBear inverses
-multiply-requires c κs =
-    (refl,
-    subst (Reduced p) (sym (c .before .before .raise .ensures))
-    (raised babyBear (lit< tt) _ _ (subst (State p) (sym (c .before .before .before .before .add-constants .ensures)) (added babyBear (lit< tt) _ _)) .reduced))
+multiply-requires c κs = (
+  refl,
+  subst (Reduced p) (sym (c .before .before .raise .ensures))
+      (raised babyBear (lit< tt) _ _ (subst (State p) (sym (c .before .before .before .before .add-constants .ensures)) (added babyBear (lit< tt) _ _)) .reduced),
+)
 
 loop-again : tie.Need-loop-again Inv-loop μ-loop
 unfolding rounds babyBear
 loop-again c =
     let at-loop = c .before .before .before .before .before .before .before .before .before .loop in
     let add = c .before .before .before .before .before .add-constants .ensures ∙ ap (addConstants babyBear (at-loop .round)) (at-loop .inv .2) in
-    let raised = c .before .before .before .raise .ensures ∙ ap (raise babyBear (at-loop .round)) add in
-    (omega arith,
-    subst (State p) (sym (c .multiply .ensures)) (multiplied babyBear (lit< tt) _),
-    rw add-one (c .multiply .ensures ∙ ap (multiply babyBear) raised))
+    let raised = c .before .before .before .raise .ensures ∙ ap (raise babyBear (at-loop .round)) add in (
+      omega arith,
+      subst (State p) (sym (c .multiply .ensures)) (multiplied babyBear (lit< tt) _),
+      rw add-one (c .multiply .ensures ∙ ap (multiply babyBear) raised),
+    )
 
 returns : tie.Need-returns Inv-loop μ-loop
 unfolding permutation babyBear

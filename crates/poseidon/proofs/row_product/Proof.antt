@@ -13,7 +13,7 @@ use Rattle.poseidon.proofs.row_product.Statement.{statement}
 use Rattle.poseidon.proofs.row_product.Tie as tie
 
 abbrev Inv-loop : tie.InvT-loop
-Inv-loop table start state low₀ high₀ j₀ low high j = 
+Inv-loop table start state low₀ high₀ j₀ low high j =
     (j ≤ 24)
     × (j % 4 ≡ 0)
     × (low ≤ j * 1073741824)

@@ -44,10 +44,11 @@ loop-again : tie.Need-loop-again Inv-loop μ-loop
 loop-again c =
     let l = c .before .before .before .before .before .before .loop in
     let e₁ = c .before .before .before .shift .ensures in
-    let e₂ = c .before .shift2 .ensures in
-    (second-long (l .left) (l .register) _ _ (l .inv .0) e₁ e₂,
-    omega arith,
-    l .inv .2 ∙ output-skip (l .left) (l .register) _ _ (l .inv .0) e₁ e₂ (search needs) (c .if1 .left))
+    let e₂ = c .before .shift2 .ensures in (
+      second-long (l .left) (l .register) _ _ (l .inv .0) e₁ e₂,
+      omega arith,
+      l .inv .2 ∙ output-skip (l .left) (l .register) _ _ (l .inv .0) e₁ e₂ (search needs) (c .if1 .left),
+    )
 
 returns-2 : tie.Need-returns-2 Inv-loop μ-loop
 unfolding bitsLeft

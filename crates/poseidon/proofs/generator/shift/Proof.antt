@@ -24,10 +24,11 @@ loop-holds c = (search needs, c .before .pre, refl)
 loop-again : tie.Need-loop-again Inv-loop μ-loop
 loop-again c =
     let at-loop = c .before .before .loop in
-    let at-start = c .before .before .before .before in
-    (omega arith,
-    simp length-set (at-loop .inv .1),
-    shift-step (now (at-start .args .register)) (at-loop .out) (at-loop .i) (at-start .pre) (at-loop .inv .1) (omega arith) (at-loop .inv .2))
+    let at-start = c .before .before .before .before in (
+      omega arith,
+      simp length-set (at-loop .inv .1),
+      shift-step (now (at-start .args .register)) (at-loop .out) (at-loop .i) (at-start .pre) (at-loop .inv .1) (omega arith) (at-loop .inv .2),
+    )
 
 returns : tie.Need-returns Inv-loop μ-loop
 unfolding shifted

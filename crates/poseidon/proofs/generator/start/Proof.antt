@@ -27,10 +27,11 @@ shift-requires c κs = c .before .before .loop .inv .1
 
 loop-again : tie.Need-loop-again Inv-loop μ-loop
 loop-again c =
-    let at-loop = c .before .before .before .loop in
-    (omega arith,
-    rw (c .shift .ensures) (length-shifted _ (at-loop .inv .1)),
-    rw (c .shift .ensures) (drop-next _ _ (at-loop .i) (at-loop .inv .2)))
+    let at-loop = c .before .before .before .loop in (
+      omega arith,
+      rw (c .shift .ensures) (length-shifted _ (at-loop .inv .1)),
+      rw (c .shift .ensures) (drop-next _ _ (at-loop .i) (at-loop .inv .2)),
+    )
 
 returns : tie.Need-returns Inv-loop μ-loop
 returns c =
