@@ -1,5 +1,6 @@
-// One permutation of the library beside two in Rust, in one run: a plain one, with a `%` for every product, and one that sums
-// the products of a row as the library does. Each round times the three in turn; the medians are compared.
+// One permutation of the library beside three in Rust, in one run: a plain one, in which every sum and every product has its own
+// `%`; the same with a `%` for every product and one for the sum of a row; and one that sums the products of a row as the library
+// does. Each round times the four in turn, and the medians are compared. All four must end in the same state.
 use std::hint::black_box;
 use std::time::Instant;
 
@@ -61,17 +62,24 @@ fn constants() -> Vec<u32> {
     found
 }
 
+fn add(a: u64, b: u64) -> u64 {
+    (a + b) % P
+}
+
+fn mul(a: u64, b: u64) -> u64 {
+    a * b % P
+}
+
 fn seventh(x: u64) -> u64 {
-    let square = x * x % P;
-    let cube = square * x % P;
-    square * square % P * cube % P
+    let square = mul(x, x);
+    mul(mul(square, square), mul(square, x))
 }
 
 fn permute(tables: &Tables, state: &mut [u32; 24], row: fn(&[u32], &[u32; 24]) -> u32) {
     for round in 0..29 {
         let constants = &tables.constants[24 * round..24 * round + 24];
         for i in 0..24 {
-            state[i] = ((state[i] as u64 + constants[i] as u64) % P) as u32;
+            state[i] = add(state[i] as u64, constants[i] as u64) as u32;
         }
         let raised = if (4..25).contains(&round) { 1 } else { 24 };
         for x in state.iter_mut().take(raised) {
@@ -85,11 +93,18 @@ fn permute(tables: &Tables, state: &mut [u32; 24], row: fn(&[u32], &[u32; 24]) -
     }
 }
 
-// The plain row: a remainder for every product.
 fn plain_row(row: &[u32], state: &[u32; 24]) -> u32 {
-    let mut sum = 0u64;
+    let mut sum = 0;
     for j in 0..24 {
-        sum += row[j] as u64 * state[j] as u64 % P;
+        sum = add(sum, mul(row[j] as u64, state[j] as u64));
+    }
+    sum as u32
+}
+
+fn reduced_products_row(row: &[u32], state: &[u32; 24]) -> u32 {
+    let mut sum = 0;
+    for j in 0..24 {
+        sum += mul(row[j] as u64, state[j] as u64);
     }
     (sum % P) as u32
 }
@@ -126,21 +141,26 @@ fn main() {
     let tables = Tables { constants: constants(), inverses: (24..71).map(|k| power(k, P - 2) as u32).collect() };
     let library = |state: &mut [u32; 24]| assert_eq!(unsafe { tuilarder_permute(state) }, 0);
     let plain = |state: &mut [u32; 24]| permute(&tables, state, plain_row);
+    let reduced_products = |state: &mut [u32; 24]| permute(&tables, state, reduced_products_row);
     let halves = |state: &mut [u32; 24]| permute(&tables, state, halves_row);
-    let names = ["plain Rust", "Rust, one remainder a row", "library"];
-    let permutations: [&dyn Fn(&mut [u32; 24]); 3] = [&plain, &halves, &library];
+    let permutations: [(&str, &dyn Fn(&mut [u32; 24])); 4] = [
+        ("Rust, % for every sum and product", &plain),
+        ("Rust, % for every product", &reduced_products),
+        ("Rust, % for every row", &halves),
+        ("library", &library),
+    ];
 
-    let mut states = [[7u32; 24]; 3];
-    let mut times: [Vec<f64>; 3] = Default::default();
-    for _ in 0..21 {
-        for k in 0..3 {
-            times[k].push(nanoseconds(200, &mut states[k], permutations[k]));
+    let mut states = [[7u32; 24]; 4];
+    let mut times: [Vec<f64>; 4] = Default::default();
+    for _ in 0..41 {
+        for (k, (_, permutation)) in permutations.iter().enumerate() {
+            times[k].push(nanoseconds(200, &mut states[k], permutation));
         }
     }
-    assert_eq!(states[0], states[1]);
-    assert_eq!(states[0], states[2]);
+    assert!(states.iter().all(|state| *state == states[0]));
     let medians = times.map(median);
-    for k in 0..3 {
-        println!("{:28} {:9.0} ns  {:5.2} times plain Rust's speed", names[k], medians[k], medians[0] / medians[k]);
+    println!("{:36}{:>9}   library's speed", "one permutation", "ns");
+    for (k, (name, _)) in permutations.iter().enumerate() {
+        println!("{:36}{:>9.0}   {:.2} times", name, medians[k], medians[k] / medians[3]);
     }
 }

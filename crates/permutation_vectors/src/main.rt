@@ -1,6 +1,7 @@
 // Permutes each state of standard input and prints the answer: its number, then its 24 elements.
 // A line of input is one state: 24 numbers of ten digits, zeros in front, one byte behind each; 242 lines at most.
-// stdin holds chosen and random states, and stdout what another implementation answers to them: docs/TESTS.md says how both were made.
+// stdin is what tests/permutation_states.py prints, and stdout what another implementation answers to it: `safe_oracle.py permute`, in
+// Python, written from document 01 by other hands.
 
 ghost use Prim.Native.Nat.{_<_};
 

@@ -55,7 +55,8 @@ drop-next first r i h n =
 
 -- ---- output bits
 
-pair : (n : ℕ) (r : List ℕ) → 2 ≤ n → newBits n r ≡ nextBit r ∷ nextBit (shifted r) ∷ newBits (n - 2) (shifted (shifted r))
+-- two new bits
+pub pair : (n : ℕ) (r : List ℕ) → 2 ≤ n → newBits n r ≡ nextBit r ∷ nextBit (shifted r) ∷ newBits (n - 2) (shifted (shifted r))
 unfolding newBits
 pair zero r h = absurd (omega arith)
 pair (suc zero) r h = absurd (omega arith)
@@ -92,21 +93,21 @@ output-none (suc (suc n)) r h = absurd (omega arith)
 
 -- ---- candidates
 
-candidate-last : (held : List ℕ) (bit : ℕ) (rest : List ℕ) → length held ≡ 30
+pub candidate-last : (held : List ℕ) (bit : ℕ) (rest : List ℕ) → length held ≡ 30
     → candidates held (bit ∷ rest) ≡ number 2 (held ++ (bit ∷ [])) ∷ candidates [] rest
 unfolding candidates
 candidate-last held bit rest e =
     let t : eqb (length held) 30 ≡ true = eq-eqb _ _ e in
     rw (if-true (eqb (length held) 30) (number 2 (held ++ (bit ∷ [])) ∷ []) [] t, if-true (eqb (length held) 30) [] (held ++ (bit ∷ [])) t)
 
-candidate-more : (held : List ℕ) (bit : ℕ) (rest : List ℕ) → length held < 30
+pub candidate-more : (held : List ℕ) (bit : ℕ) (rest : List ℕ) → length held < 30
     → candidates held (bit ∷ rest) ≡ candidates (held ++ (bit ∷ [])) rest
 unfolding candidates
 candidate-more held bit rest h =
     let t : eqb (length held) 30 ≡ false = ne-eqb _ _ (λ (e : length held ≡ 30). omega arith) in
     rw (if-false (eqb (length held) 30) (number 2 (held ++ (bit ∷ [])) ∷ []) [] t, if-false (eqb (length held) 30) [] (held ++ (bit ∷ [])) t)
 
-one-longer : (held : List ℕ) (bit : ℕ) → length (held ++ (bit ∷ [])) ≡ length held + 1
+pub one-longer : (held : List ℕ) (bit : ℕ) → length (held ++ (bit ∷ [])) ≡ length held + 1
 one-longer held bit = length-append held (bit ∷ [])
 
 whole : (held : List ℕ) (bit : ℕ) (word rest : List ℕ) → length held + length word ≡ 30

@@ -1,0 +1,1 @@
+// No function: the theorems of this crate are about the definitions of the others.
