@@ -12,7 +12,8 @@ use Rattle.basics.specs.Logic.{if_then_else_, _and_, all}
 use Rattle.basics.specs.Lists.{tabulate}
 use Rattle.basics.proofs.Cases.{by, and-left, and-right}
 use Rattle.basics.proofs.Fill.{length-tabulate}
-use Rattle.poseidon.specs.Permutation.{Parameters, Reduced, addConstants, raiseAll, raiseFirst, raise, multiply, rounds, permutation}
+use Rattle.poseidon.specs.Permutation.{Parameters, addConstants, raiseAll, raiseFirst, raise, multiply, rounds, permutation}
+use Rattle.poseidon.specs.Steps.{Reduced}
 
 module _ (m : ℕ) (pos : 0 < m) where
   below-append : (s : List ℕ) (v : ℕ) → ((k : ℕ) → getD s k 0 < m) → v < m → (k : ℕ) → getD (s ++ (v ∷ [])) k 0 < m

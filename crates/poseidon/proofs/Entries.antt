@@ -11,7 +11,8 @@ use Rattle.basics.specs.Logic.{_and_, all}
 use Rattle.basics.proofs.Table.{passes, every-entry}
 use Rattle.field.specs.Field.{p}
 use Rattle.poseidon.specs.Tables.{constants, inverses}
-use Rattle.poseidon.specs.Permutation.{Reduced, matrix, babyBear}
+use Rattle.poseidon.specs.Permutation.{matrix, babyBear}
+use Rattle.poseidon.specs.Steps.{Reduced}
 use Rattle.poseidon.proofs.Bounds.{reduced-all}
 
 -- "The table in the code is proved to have every entry below p"

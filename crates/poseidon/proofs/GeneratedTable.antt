@@ -10,7 +10,8 @@ use native.Mathlib.Numerals.{add-one, lt-of-le-of-ne}
 use native.Mathlib.Omega.{arith}
 use borrow.Author.Tests.{eqb-true, eqb-false}
 use lib.Dec.{lit<, eqb, ltb}
-use lib.ListN.{length, getD, take, drop, replicate}
+use lib.ListN.{length, getD, take, drop, length-append}
+use lib.Seq.{append-snoc}
 use lib.Pow.{pow-pos, pow-add, shr-shr, high}
 use Rattle.basics.specs.Logic.{if_then_else_}
 use Rattle.basics.specs.Lists.{tabulate}
@@ -22,7 +23,7 @@ use Rattle.field.specs.Field.{p}
 use Rattle.poseidon.specs.Tables.{constants}
 use Rattle.poseidon.specs.Generator.{firstRegister, nextBit, shifted, newBits, outputBits, candidates, kept, found, generated}
 use Rattle.poseidon.specs.declared.generator.Generated.{Generated}
-use Rattle.poseidon.proofs.Streams.{pair, candidate-last, candidate-more, one-longer}
+use Rattle.poseidon.proofs.Streams.{pair, candidate-whole, candidate-part}
 
 -- ---- registers as numbers
 
@@ -115,33 +116,37 @@ pair-is pairs n h =
 
 -- what a pair does, whatever is done with the bits behind it
 module _ (first second : ℕ) (held rest : List ℕ) (short : length held < 31) (after-pair : ℕ → ℕ → List ℕ)
-    (same : (held′ : List ℕ) → length held′ < 31 → kept p (candidates held′ rest) ≡ after-pair (number 2 held′) (length held′)) where
+    (same : (held′ : List ℕ) → length held′ < 31 → kept p (candidates (held′ ++ rest)) ≡ after-pair (number 2 held′) (length held′)) where
   longer : ℕ
   longer = number 2 held * 2 + second
 
   Turn : Type 0
   Turn =
-      kept p (candidates held ((if eqb first 1 then second ∷ [] else []) ++ rest))
+      kept p (candidates (held ++ ((if eqb first 1 then second ∷ [] else []) ++ rest)))
       ≡ emitted first (length held) longer ++ after-pair (valueAfter first (length held) (number 2 held) longer) (sizeAfter first (length held))
+
+  one-longer : length (held ++ (second ∷ [])) ≡ length held + 1
+  one-longer = length-append held (second ∷ [])
 
   turn-by : (a b : Bool) → eqb first 1 ≡ a → eqb (length held) 30 ≡ b → Turn
   unfolding Turn longer emitted valueAfter sizeAfter if_then_else_ kept number numberAfter
   turn-by true true e₁ e₂ =
-      rw (e₁, e₂, candidate-last held second rest (eqb-true _ _ e₂), number-append 2 held second, same [] (lit< tt))
+      let whole : length (held ++ (second ∷ [])) ≡ 31 = rw one-longer (ap (λ (n : ℕ). n + 1) (eqb-true _ _ e₂)) in
+      rw (e₁, e₂, ← append-snoc held second rest, candidate-whole (held ++ (second ∷ [])) rest whole, number-append 2 held second, same [] (lit< tt))
   turn-by true false e₁ e₂ =
       let l : length held < 30 = lt-of-le-of-ne (le-of-suc-le-suc short) (eqb-false _ _ e₂) in
-      rw (e₁, e₂, candidate-more held second rest l, same (held ++ (second ∷ [])) (rw one-longer (omega arith)), number-append 2 held second, one-longer held second)
+      rw (e₁, e₂, ← append-snoc held second rest, same (held ++ (second ∷ [])) (rw one-longer (omega arith)), number-append 2 held second, one-longer)
   turn-by false b e₁ e₂ = rw (e₁, same held short)
 
   turn : Turn
   turn = turn-by (eqb first 1) (eqb (length held) 30) refl refl
 
 run-is : (pairs n : ℕ) (held : List ℕ) → n < 2 ^ 80 → length held < 31
-    → kept p (candidates held (outputBits (newBits (pairs * 2) (bitsOf n)))) ≡ run pairs n (number 2 held) (length held)
-unfolding run newBits outputBits candidates kept Turn longer
-run-is zero n held h l = refl
+    → kept p (candidates (held ++ outputBits (newBits (pairs * 2) (bitsOf n)))) ≡ run pairs n (number 2 held) (length held)
+unfolding run newBits outputBits kept Turn longer
+run-is zero n held h l = rw (append-nil held, candidate-part held l)
 run-is (suc pairs) n held h l =
-    ap (λ (bits : List ℕ). kept p (candidates held bits)) (pair-is pairs n h)
+    ap (λ (bits : List ℕ). kept p (candidates (held ++ bits))) (pair-is pairs n h)
     ∙ turn (next n) (next (step n)) held _ l (run pairs (step (step n))) (λ held′ l′. run-is pairs (step (step n)) held′ (step-bound _ (step-bound n h)) l′)
 
 -- ---- the run to the end
@@ -165,7 +170,7 @@ computed = refl
 pub table-found : found p 696 262144 ≡ constants
 unfolding found number numberAfter
 table-found =
-    ap (λ (bits : List ℕ). take 696 (kept p (candidates [] (outputBits bits))))
+    ap (λ (bits : List ℕ). take 696 (kept p (candidates (outputBits bits))))
     (ap (λ (r : List ℕ). drop 160 (newBits 262144 r)) first-is ∙ dropped 160 first 261984 first-bound)
     ∙ ap (take 696) (run-is 130992 (after 160 first) [] (after-bound 160 first first-bound) (lit< tt))
     ∙ computed

@@ -2,19 +2,19 @@
 -- Assumes nothing.
 use mathlib.Core.Path.{_≡_, _∙_, refl, sym, ap}
 use mathlib.Core.Bool.{true, false}
-use mathlib.Core.List.{List, [], _∷_, _++_, append-assoc, append-nil}
-use Prim.Native.Nat.{ℕ, zero, suc, _+_, _-_, _≤_, _<_}
-use native.Mathlib.Nat.{add-assoc, add-comm, mod-lt}
+use mathlib.Core.List.{List, [], _∷_, _++_}
+use Prim.Native.Nat.{ℕ, zero, suc, _+_, _-_, _/_, _≤_, _<_}
+use native.Mathlib.Nat.{add-comm, div-eq-of-lt, mod-lt}
 use native.Mathlib.Numerals.{add-one}
 use native.Mathlib.Omega.{arith}
 use borrow.Author.Tests.{lt-ltb, le-ltb, eq-eqb, ne-eqb}
 use lib.Dec.{lit<, eqb, ltb}
 use lib.ListN.{length, getD, take, drop, set, length-append, length-drop, drop-of-length-le}
-use lib.Seq.{getD-at, getD-drop, drop-drop, take-all, take-suc, take-suc-set, set-split, append-snoc}
+use lib.Seq.{getD-at, getD-drop, drop-drop, drop-at, take-at, take-all, take-suc, take-suc-set, set-split, append-snoc}
 use Rattle.basics.specs.Logic.{if_then_else_}
 use Rattle.basics.specs.Digits.{number}
 use Rattle.basics.proofs.Cases.{if-true, if-false}
-use Rattle.poseidon.specs.Generator.{nextBit, shifted, newBits, outputBits, candidates, kept}
+use Rattle.poseidon.specs.Generator.{nextBit, shifted, newBits, outputBits, firstCandidates, candidates, kept}
 
 -- ---- the register and its new bits
 
@@ -93,49 +93,17 @@ output-none (suc (suc n)) r h = absurd (omega arith)
 
 -- ---- candidates
 
-pub candidate-last : (held : List ℕ) (bit : ℕ) (rest : List ℕ) → length held ≡ 30
-    → candidates held (bit ∷ rest) ≡ number 2 (held ++ (bit ∷ [])) ∷ candidates [] rest
-unfolding candidates
-candidate-last held bit rest e =
-    let t : eqb (length held) 30 ≡ true = eq-eqb _ _ e in
-    rw (if-true (eqb (length held) 30) (number 2 (held ++ (bit ∷ [])) ∷ []) [] t, if-true (eqb (length held) 30) [] (held ++ (bit ∷ [])) t)
-
-pub candidate-more : (held : List ℕ) (bit : ℕ) (rest : List ℕ) → length held < 30
-    → candidates held (bit ∷ rest) ≡ candidates (held ++ (bit ∷ [])) rest
-unfolding candidates
-candidate-more held bit rest h =
-    let t : eqb (length held) 30 ≡ false = ne-eqb _ _ (λ (e : length held ≡ 30). omega arith) in
-    rw (if-false (eqb (length held) 30) (number 2 (held ++ (bit ∷ [])) ∷ []) [] t, if-false (eqb (length held) 30) [] (held ++ (bit ∷ [])) t)
-
-pub one-longer : (held : List ℕ) (bit : ℕ) → length (held ++ (bit ∷ [])) ≡ length held + 1
-one-longer held bit = length-append held (bit ∷ [])
-
-whole : (held : List ℕ) (bit : ℕ) (word rest : List ℕ) → length held + length word ≡ 30
-    → candidates held (bit ∷ word ++ rest) ≡ number 2 (held ++ (bit ∷ word)) ∷ candidates [] rest
-whole held bit [] rest e = candidate-last held bit rest (omega arith)
-whole held bit (next ∷ word) rest e =
-    let l : length held + suc (length word) ≡ 30 = e in
-    candidate-more held bit (next ∷ word ++ rest) (omega arith)
-    ∙ whole (held ++ (bit ∷ [])) next word rest (rw one-longer (omega arith))
-    ∙ rw (append-snoc held bit (next ∷ word))
-
 -- 31 bits make a candidate
-pub candidate-whole : (word rest : List ℕ) → length word ≡ 31 → candidates [] (word ++ rest) ≡ number 2 word ∷ candidates [] rest
-candidate-whole [] rest e = absurd (omega arith)
-candidate-whole (bit ∷ word) rest e =
-    let l : suc (length word) ≡ 31 = e in
-    whole [] bit word rest (omega arith)
-
-part : (held word : List ℕ) → length held + length word < 31 → candidates held word ≡ []
-unfolding candidates
-part held [] h = refl
-part held (bit ∷ word) h =
-    let l : length held + suc (length word) < 31 = h in
-    candidate-more held bit word (omega arith) ∙ part (held ++ (bit ∷ [])) word (rw one-longer (omega arith))
+pub candidate-whole : (word rest : List ℕ) → length word ≡ 31 → candidates (word ++ rest) ≡ number 2 word ∷ candidates rest
+unfolding candidates firstCandidates
+candidate-whole word rest e =
+    let size : length (word ++ rest) / 31 ≡ suc (length rest / 31) = rw (length-append word rest, e) (omega arith) in
+    rw (size, take-at word rest 31 e, drop-at word rest 31 e)
 
 -- fewer make none
-pub candidate-part : (word : List ℕ) → length word < 31 → candidates [] word ≡ []
-candidate-part word h = part [] word (omega arith)
+pub candidate-part : (word : List ℕ) → length word < 31 → candidates word ≡ []
+unfolding candidates firstCandidates
+candidate-part word h = rw (div-eq-of-lt h)
 
 -- ---- constants
 

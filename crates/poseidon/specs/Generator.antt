@@ -1,17 +1,12 @@
 -- Poseidon's Grain generator of round constants (document 01, "Field and permutation"), on lists of bits.
-use mathlib.Core.Bool.{Bool, true, false}
 use mathlib.Core.List.{List, [], _∷_, _++_}
-use mathlib.Core.Path.{_≡_}
-use Prim.Native.Nat.{ℕ, zero, suc, _+_, _-_, _%_, _<_}
+use Prim.Native.Nat.{ℕ, zero, suc, _+_, _-_, _/_, _%_}
 use lib.Dec.{eqb, ltb}
 use lib.ListN.{length, getD, take, drop, replicate}
 use Rattle.basics.specs.Logic.{if_then_else_}
 use Rattle.basics.specs.Digits.{digits, number}
 use Rattle.field.specs.Field.{p}
 use Rattle.poseidon.specs.declared.generator.Generated.{Generated}
-use Rattle.poseidon.specs.declared.generator.Source.{Source}
-use Rattle.poseidon.specs.declared.generator.Output.{Output}
-use Rattle.poseidon.specs.declared.generator.Candidate.{Candidate}
 
 -- "An 80-bit register starts as, from bit 0 on and each number high bit first: field kind 1 (2 bits), power 0 (4),
 -- 31 (12), 24 (12), 8 (10), 21 (10), thirty ones."
@@ -38,12 +33,14 @@ outputBits [] = []
 outputBits (first ∷ []) = []
 outputBits (first ∷ second ∷ bits) = (if eqb first 1 then second ∷ [] else []) ++ outputBits bits
 
--- "31 output bits, first highest, make a candidate": the candidates of the bits, which go on from those held
-unfoldable pub candidates : List ℕ → List ℕ → List ℕ
-candidates held [] = []
-candidates held (bit ∷ bits) =
-    (if eqb (length held) 30 then number 2 (held ++ (bit ∷ [])) ∷ [] else [])
-    ++ candidates (if eqb (length held) 30 then [] else held ++ (bit ∷ [])) bits
+-- "31 output bits, first highest, make a candidate": the first n candidates
+unfoldable pub firstCandidates : ℕ → List ℕ → List ℕ
+firstCandidates zero bits = []
+firstCandidates (suc n) bits = number 2 (take 31 bits) ∷ firstCandidates n (drop 31 bits)
+
+-- all candidates that the bits make
+unfoldable pub candidates : List ℕ → List ℕ
+candidates bits = firstCandidates (length bits / 31) bits
 
 -- ".. one of p or more is dropped."
 unfoldable pub kept : ℕ → List ℕ → List ℕ
@@ -53,27 +50,10 @@ kept p (candidate ∷ rest) = (if ltb candidate p then candidate ∷ [] else [])
 -- "The first 160 new bits are dropped." "It stops at 696 constants or 262,144 new bits, dropped ones included":
 -- the constants found among the first limit new bits, at most wanted of them
 unfoldable pub found : ℕ → ℕ → ℕ → List ℕ
-found p wanted limit = take wanted (kept p (candidates [] (outputBits (drop 160 (newBits limit firstRegister)))))
+found p wanted limit = take wanted (kept p (candidates (outputBits (drop 160 (newBits limit firstRegister)))))
 
 -- "gives those found, zeros in the places left, and how many"
 unfoldable pub generated : Generated
 generated =
     let constants = found p 696 262144 in
     record { constants = constants ++ replicate (696 - length constants) 0; count = length constants }
-
--- the new bits that a source may still take
-unfoldable pub bitsLeft : Source → List ℕ
-bitsLeft s = newBits (s .left) (s .register)
-
--- the next output bit, or that there is none
-pub record NextOutput (before : Source) (r : Output) : Type 0 where
-  pub some : r .present ≡ true → outputBits (bitsLeft before) ≡ r .bit ∷ outputBits (bitsLeft (r .source))
-  pub none : r .present ≡ false → outputBits (bitsLeft before) ≡ []
-  pub bit : r .bit < 2
-  pub fewer : r .present ≡ true → r .source .left < before .left
-
--- the next candidate, or that there is none
-pub record NextCandidate (before : Source) (r : Candidate) : Type 0 where
-  pub some : r .present ≡ true → candidates [] (outputBits (bitsLeft before)) ≡ r .value ∷ candidates [] (outputBits (bitsLeft (r .source)))
-  pub none : r .present ≡ false → candidates [] (outputBits (bitsLeft before)) ≡ []
-  pub fewer : r .present ≡ true → r .source .left < before .left

@@ -1,3 +1,4 @@
 pub mod Tables
 pub mod Permutation
 pub mod Generator
+pub mod Steps

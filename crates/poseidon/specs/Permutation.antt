@@ -1,9 +1,8 @@
 -- The Poseidon permutation, as document 01 fixes it under "Field and permutation". A state is a list of 24 numbers.
 use mathlib.Core.List.{List}
-use Prim.Native.Nat.{ℕ, zero, suc, _+_, _*_, _%_, _^_, _<_}
-use mathlib.Core.Path.{_≡_}
+use Prim.Native.Nat.{ℕ, zero, suc, _+_, _*_, _%_, _^_}
 use lib.Dec.{ltb}
-use lib.ListN.{length, getD, set}
+use lib.ListN.{getD, set}
 use Rattle.basics.specs.Logic.{if_then_else_, all}
 use Rattle.basics.specs.Lists.{tabulate, sum}
 use Rattle.basics.specs.Numbers.{accepted, elementNotReduced}
@@ -63,7 +62,3 @@ unfoldable pub permuted : List ℕ → Permuted
 permuted s =
     if all (λ x. ltb x p) s then record { number = accepted; state = permutation babyBear s }
     else record { number = elementNotReduced; state = s }
-
--- every element of a list is below m. Past its end the list reads as 0, so that no place needs a bound.
-pub record Reduced (m : ℕ) (s : List ℕ) : Type 0 where
-  pub below : (k : ℕ) → getD s k 0 < m

@@ -11,7 +11,8 @@ ghost use Rattle.basics.specs.Logic.{all};
 ghost use Rattle.basics.specs.Lists.{sum};
 ghost use Rattle.field.specs.Field.{p};
 ghost use Rattle.poseidon.specs.Tables.{constants, inverses};
-ghost use Rattle.poseidon.specs.Permutation.{babyBear, addConstants, raiseAll, raiseFirst, raise, multiply, permutation, permuted, Reduced};
+ghost use Rattle.poseidon.specs.Permutation.{babyBear, addConstants, raiseAll, raiseFirst, raise, multiply, permutation, permuted};
+ghost use Rattle.poseidon.specs.Steps.{Reduced};
 
 pub struct Permuted {
     pub number: u32,

@@ -7,7 +7,8 @@ use native.Mathlib.Omega.{arith}
 use lib.Dec.{lit<}
 use Rattle.field.specs.Field.{p}
 use Rattle.poseidon.specs.Tables.{constants, inverses}
-use Rattle.poseidon.specs.Permutation.{Reduced, addConstants, raise, multiply, rounds, permutation, babyBear}
+use Rattle.poseidon.specs.Permutation.{addConstants, raise, multiply, rounds, permutation, babyBear}
+use Rattle.poseidon.specs.Steps.{Reduced}
 use Rattle.poseidon.proofs.Bounds.{State, added, raised, multiplied}
 use borrow.Author.Needs.{needs}
 use Rattle.poseidon.proofs.permute_reduced.Statement.{statement}

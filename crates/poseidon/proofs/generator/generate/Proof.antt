@@ -8,7 +8,8 @@ use borrow.Author.Tests.{not-true, not-false}
 use lib.ListN.{length, take, drop, set, replicate, length-set, take-append-drop}
 use lib.Seq.{take-nil, length-take-le, drop-set-lt, drop-drop}
 use Rattle.field.specs.Field.{p}
-use Rattle.poseidon.specs.Generator.{outputBits, candidates, kept, found, generated, bitsLeft}
+use Rattle.poseidon.specs.Generator.{outputBits, candidates, kept, found, generated}
+use Rattle.poseidon.specs.Steps.{bitsLeft}
 use Rattle.poseidon.proofs.Streams.{keep, skip}
 use Rattle.poseidon.specs.declared.generator.Source.{Source}
 use Rattle.poseidon.specs.declared.generator.Generated.{Generated}
@@ -21,11 +22,11 @@ record Progress (source : Source) (constants : List ℕ) (count : ℕ) : Type 0 
   within : count ≤ 696
   long : length constants ≡ 696
   blank : drop count constants ≡ replicate (696 - count) 0
-  all : found p 696 262144 ≡ take count constants ++ take (696 - count) (kept p (candidates [] (outputBits (bitsLeft source))))
+  all : found p 696 262144 ≡ take count constants ++ take (696 - count) (kept p (candidates (outputBits (bitsLeft source))))
 
 -- nothing is to come: what there is, is the answer
 done : {source : Source} (constants : List ℕ) (count : ℕ) → Progress source constants count
-    → take (696 - count) (kept p (candidates [] (outputBits (bitsLeft source)))) ≡ []
+    → take (696 - count) (kept p (candidates (outputBits (bitsLeft source)))) ≡ []
     → _≡_ {A = Generated} (record { constants = constants; count = count }) generated
 unfolding generated
 done constants count k e =
@@ -35,7 +36,7 @@ done constants count k e =
 
 -- a candidate below p is stored
 stored : {source next : Source} {constants : List ℕ} {count value : ℕ} → Progress source constants count → count < 696 → value < p
-    → candidates [] (outputBits (bitsLeft source)) ≡ value ∷ candidates [] (outputBits (bitsLeft next)) → Progress next (set constants count value) (count + 1)
+    → candidates (outputBits (bitsLeft source)) ≡ value ∷ candidates (outputBits (bitsLeft next)) → Progress next (set constants count value) (count + 1)
 stored {next = next} {constants = constants} {count = count} {value = value} k room small e =
     let n : 696 - count ≡ suc (696 - (count + 1)) = omega arith in
     record {
@@ -47,7 +48,7 @@ stored {next = next} {constants = constants} {count = count} {value = value} k r
 
 -- any other is dropped
 dropped : {source next : Source} {constants : List ℕ} {count value : ℕ} → Progress source constants count → p ≤ value
-    → candidates [] (outputBits (bitsLeft source)) ≡ value ∷ candidates [] (outputBits (bitsLeft next)) → Progress next constants count
+    → candidates (outputBits (bitsLeft source)) ≡ value ∷ candidates (outputBits (bitsLeft next)) → Progress next constants count
 dropped {constants = constants} {count = count} {value = value} k large e =
     record {
       within = k .within;
@@ -69,7 +70,7 @@ loop-holds c =
       within = search needs;
       long = refl;
       blank = refl;
-      all = ap (λ (bits : List ℕ). take 696 (kept p (candidates [] (outputBits bits)))) (c .start .ensures 261984);
+      all = ap (λ (bits : List ℕ). take 696 (kept p (candidates (outputBits bits)))) (c .start .ensures 261984);
     }
 
 returns : tie.Need-returns Inv-loop μ-loop

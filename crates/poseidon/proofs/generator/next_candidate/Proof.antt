@@ -13,7 +13,8 @@ use lib.ListN.{length, length-append}
 use lib.Seq.{append-snoc}
 use Rattle.basics.specs.Digits.{number, numberAfter}
 use Rattle.basics.proofs.Positional.{number-append}
-use Rattle.poseidon.specs.Generator.{outputBits, candidates, bitsLeft}
+use Rattle.poseidon.specs.Generator.{outputBits, candidates}
+use Rattle.poseidon.specs.Steps.{bitsLeft}
 use Rattle.poseidon.proofs.Streams.{candidate-whole, candidate-part}
 use Rattle.poseidon.specs.declared.generator.Source.{Source}
 use borrow.Author.Needs.{needs}
@@ -71,7 +72,7 @@ returns c =
     let l = c .before .before .before .before .before .loop in
     record {
       some = λ e. absurd (true≢false (sym e));
-      none = λ e. ap (candidates []) (l .inv .rest ∙ ap (λ (bits : List ℕ). l .inv .word ++ bits) (c .before .before .before .next-output .ensures .none (not-true _ (c .if1 .taken))) ∙ append-nil _)
+      none = λ e. ap candidates (l .inv .rest ∙ ap (λ (bits : List ℕ). l .inv .word ++ bits) (c .before .before .before .next-output .ensures .none (not-true _ (c .if1 .taken))) ∙ append-nil _)
           ∙ candidate-part (l .inv .word) (omega arith);
       fewer = λ e. absurd (true≢false (sym e));
     }
@@ -93,7 +94,7 @@ returns-2 c =
     let l = c .before .loop in
     let e : length (l .inv .word) ≡ 31 = l .inv .long ∙ omega arith in
     record {
-      some = λ h. ap (candidates []) (l .inv .rest) ∙ candidate-whole (l .inv .word) _ e ∙ rw (← l .inv .writes);
+      some = λ h. ap candidates (l .inv .rest) ∙ candidate-whole (l .inv .word) _ e ∙ rw (← l .inv .writes);
       none = λ h. absurd (true≢false h);
       fewer = λ h. omega arith;
     }

@@ -6,7 +6,8 @@ use Prim.Native.Nat.{_≤_}
 use native.Mathlib.Omega.{arith}
 use lib.Dec.{lit<}
 use lib.ListN.{length}
-use Rattle.poseidon.specs.Generator.{newBits, outputBits, bitsLeft}
+use Rattle.poseidon.specs.Generator.{newBits, outputBits}
+use Rattle.poseidon.specs.Steps.{bitsLeft}
 use Rattle.poseidon.proofs.Streams.{length-shifted, second-long, output-bound, output-some, output-skip, output-none}
 use borrow.Author.Needs.{needs}
 use Rattle.poseidon.proofs.generator.next_output.Statement.{statement}
