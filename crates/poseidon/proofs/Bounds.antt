@@ -1,14 +1,14 @@
 -- Reduced lists, and that every step of the permutation gives 24 reduced elements, over any modulus.
 -- Assumes nothing.
-use mathlib.Core.Path.{_≡_, refl, _∙_}
-use mathlib.Core.Bool.{Bool, true, false}
+use mathlib.Core.Path.{_≡_, _∙_}
+use mathlib.Core.Bool.{true}
 use mathlib.Core.List.{List, [], _∷_, _++_}
 use Prim.Native.Nat.{ℕ, zero, suc, _+_, _<_}
 use native.Mathlib.Nat.{mod-lt}
 use borrow.Author.Tests.{ltb-true}
 use lib.Dec.{ltb}
 use lib.ListN.{length, getD, set, length-set}
-use Rattle.basics.specs.Logic.{if_then_else_, _and_, all}
+use Rattle.basics.specs.Logic.{all}
 use Rattle.basics.specs.Lists.{tabulate}
 use Rattle.basics.proofs.Cases.{by, and-left, and-right}
 use Rattle.basics.proofs.Fill.{length-tabulate}

@@ -4,7 +4,7 @@
 use mathlib.Core.Path.{_≡_, _∙_, refl, sym, ap, ap₂, subst}
 use mathlib.Core.Bool.{Bool, true, false}
 use mathlib.Core.List.{List, [], _∷_, _++_, append-nil}
-use Prim.Native.Nat.{ℕ, zero, suc, _+_, _-_, _*_, _/_, _%_, _^_, _<_, _≤_}
+use Prim.Native.Nat.{ℕ, zero, suc, _+_, _-_, _*_, _/_, _%_, _^_, _<_}
 use native.Mathlib.Nat.{le-of-suc-le-suc, zero-add, add-comm, suc-add, mul-assoc, mul-left-comm, pow-suc, mod-lt, mod-eq-of-lt, add-mul-div-left, add-mul-mod-self-right}
 use native.Mathlib.Numerals.{add-one, lt-of-le-of-ne}
 use native.Mathlib.Omega.{arith}
@@ -16,13 +16,11 @@ use lib.Pow.{pow-pos, pow-add, shr-shr, high}
 use Rattle.basics.specs.Logic.{if_then_else_}
 use Rattle.basics.specs.Lists.{tabulate}
 use Rattle.basics.specs.Digits.{digits, number, numberAfter}
-use Rattle.basics.proofs.Cases.{by, if-true, if-false}
 use Rattle.basics.proofs.Fill.{tabulate-at, tabulate-cons, tabulate-same}
 use Rattle.basics.proofs.Positional.{number-append}
 use Rattle.field.specs.Field.{p}
 use Rattle.poseidon.specs.Tables.{constants}
 use Rattle.poseidon.specs.Generator.{firstRegister, nextBit, shifted, newBits, outputBits, candidates, kept, found, generated}
-use Rattle.poseidon.specs.declared.generator.Generated.{Generated}
 use Rattle.poseidon.proofs.Streams.{pair, candidate-whole, candidate-part}
 
 -- ---- registers as numbers

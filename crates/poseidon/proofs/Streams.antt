@@ -1,7 +1,6 @@
 -- Laws of the generator's lists of bits, candidates and constants: what one step of the code takes off the front of each.
 -- Assumes nothing.
 use mathlib.Core.Path.{_≡_, _∙_, refl, sym, ap}
-use mathlib.Core.Bool.{true, false}
 use mathlib.Core.List.{List, [], _∷_, _++_}
 use Prim.Native.Nat.{ℕ, zero, suc, _+_, _-_, _/_, _≤_, _<_}
 use native.Mathlib.Nat.{add-comm, div-eq-of-lt, mod-lt}
@@ -11,7 +10,6 @@ use borrow.Author.Tests.{lt-ltb, le-ltb, eq-eqb, ne-eqb}
 use lib.Dec.{lit<, eqb, ltb}
 use lib.ListN.{length, getD, take, drop, set, length-append, length-drop, drop-of-length-le}
 use lib.Seq.{getD-at, getD-drop, drop-drop, drop-at, take-at, take-all, take-suc, take-suc-set, set-split, append-snoc}
-use Rattle.basics.specs.Logic.{if_then_else_}
 use Rattle.basics.specs.Digits.{number}
 use Rattle.basics.proofs.Cases.{if-true, if-false}
 use Rattle.poseidon.specs.Generator.{nextBit, shifted, newBits, outputBits, firstCandidates, candidates, kept}

@@ -1,6 +1,6 @@
 -- `field::seventh_power` meets its contract: the remainders of its four products may as well be taken at the end.
 -- Assumes nothing.
-use mathlib.Core.Path.{_≡_, _∙_, sym, ap}
+use mathlib.Core.Path.{_≡_, _∙_, ap}
 use Prim.Native.Nat.{ℕ, _*_, _%_, _^_}
 use native.Mathlib.Nat.{mul-assoc, one-mul, pow-suc, pow-zero}
 use borrow.Author.Needs.{needs}

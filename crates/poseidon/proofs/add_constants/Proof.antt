@@ -1,7 +1,7 @@
 -- `poseidon::add_constants` meets its contract.
 -- Assumes nothing.
 use mathlib.Core.Path.{_≡_}
-use Prim.Native.Nat.{ℕ, _+_, _*_, _-_, _%_}
+use Prim.Native.Nat.{_+_, _*_, _-_, _%_}
 use denote.Ref.{now}
 use lib.ListN.{getD}
 use Rattle.basics.proofs.Fill.{Filled, start, step, end}

@@ -1,6 +1,6 @@
 -- `poseidon::permute` meets its contract.
 -- Assumes nothing.
-use mathlib.Core.Path.{_≡_, _∙_, sym}
+use mathlib.Core.Path.{_∙_, sym}
 use lib.Dec.{lit<}
 use Rattle.basics.proofs.Cases.{if-true, if-false}
 use Rattle.field.specs.Field.{p}

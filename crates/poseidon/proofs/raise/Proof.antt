@@ -1,9 +1,8 @@
 -- `poseidon::raise` meets its contract.
 -- Assumes nothing.
-use mathlib.Core.Path.{_≡_}
 use borrow.Author.Tests.{lt-ltb, le-ltb}
 use Rattle.basics.specs.Logic.{if_then_else_}
-use Rattle.poseidon.specs.Permutation.{raise, raiseAll, raiseFirst, babyBear}
+use Rattle.poseidon.specs.Permutation.{raise, babyBear}
 use borrow.Author.Needs.{needs}
 use Rattle.poseidon.proofs.raise.Statement.{statement}
 use Rattle.poseidon.proofs.raise.Tie as tie

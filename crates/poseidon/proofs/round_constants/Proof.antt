@@ -2,7 +2,6 @@
 -- Assumes nothing.
 use mathlib.Core.Path.{refl}
 use Rattle.poseidon.specs.Tables.{constants}
-use borrow.Author.Needs.{needs}
 use Rattle.poseidon.proofs.round_constants.Statement.{statement}
 use Rattle.poseidon.proofs.round_constants.Tie as tie
 

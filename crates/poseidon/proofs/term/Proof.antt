@@ -1,6 +1,5 @@
 -- `poseidon::term` meets its contract: the product of two numbers below p.
 -- Assumes nothing.
-use mathlib.Core.Path.{_≡_}
 use native.Mathlib.Omega.{arith}
 use Rattle.poseidon.proofs.Sums.{product-bound}
 use borrow.Author.Needs.{needs}

@@ -1,6 +1,5 @@
 -- `poseidon::generator::next_bit` meets its contract.
 -- Assumes nothing.
-use mathlib.Core.Path.{_≡_}
 use Rattle.poseidon.specs.Generator.{nextBit}
 use borrow.Author.Needs.{needs}
 use Rattle.poseidon.proofs.generator.next_bit.Statement.{statement}

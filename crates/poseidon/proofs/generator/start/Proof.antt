@@ -6,7 +6,7 @@ use native.Mathlib.Nat.{zero-add}
 use native.Mathlib.Omega.{arith}
 use lib.ListN.{length, drop}
 use Rattle.basics.specs.Digits.{digits}
-use Rattle.poseidon.specs.Generator.{firstRegister, newBits, shifted}
+use Rattle.poseidon.specs.Generator.{firstRegister, newBits}
 use Rattle.poseidon.proofs.Streams.{length-shifted, drop-next}
 use borrow.Author.Needs.{needs}
 use Rattle.poseidon.proofs.generator.start.Statement.{statement}
