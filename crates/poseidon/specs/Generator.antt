@@ -44,13 +44,13 @@ candidates bits = firstCandidates (length bits / 31) bits
 
 -- ".. one of p or more is dropped."
 unfoldable pub kept : ℕ → List ℕ → List ℕ
-kept p [] = []
-kept p (candidate ∷ rest) = (if ltb candidate p then candidate ∷ [] else []) ++ kept p rest
+kept modulus [] = []
+kept modulus (candidate ∷ rest) = (if ltb candidate modulus then candidate ∷ [] else []) ++ kept modulus rest
 
 -- "The first 160 new bits are dropped." "It stops at 696 constants or 262,144 new bits, dropped ones included":
 -- the constants found among the first limit new bits, at most wanted of them
 unfoldable pub found : ℕ → ℕ → ℕ → List ℕ
-found p wanted limit = take wanted (kept p (candidates (outputBits (drop 160 (newBits limit firstRegister)))))
+found modulus wanted limit = take wanted (kept modulus (candidates (outputBits (drop 160 (newBits limit firstRegister)))))
 
 -- "gives those found, zeros in the places left, and how many"
 unfoldable pub generated : Generated

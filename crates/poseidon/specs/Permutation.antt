@@ -22,36 +22,36 @@ pub record Parameters : Type 0 where
 
 -- "A round adds its 24 constants"
 unfoldable pub addConstants : Parameters → ℕ → List ℕ → List ℕ
-addConstants P r s = tabulate 24 (λ i. (getD s i 0 + getD (P .constants) (24 * r + i) 0) % P .modulus)
+addConstants F r s = tabulate 24 (λ i. (getD s i 0 + getD (F .constants) (24 * r + i) 0) % F .modulus)
 
 -- "raises all elements (full)"
 unfoldable pub raiseAll : Parameters → List ℕ → List ℕ
-raiseAll P s = tabulate 24 (λ i. getD s i 0 ^ P .power % P .modulus)
+raiseAll F s = tabulate 24 (λ i. getD s i 0 ^ F .power % F .modulus)
 
 -- "or element 0 alone (partial)"
 unfoldable pub raiseFirst : Parameters → List ℕ → List ℕ
-raiseFirst P s = set s 0 (getD s 0 0 ^ P .power % P .modulus)
+raiseFirst F s = set s 0 (getD s 0 0 ^ F .power % F .modulus)
 
 -- "4 full, 21 partial, 4 full": what the round r raises
 unfoldable pub raise : Parameters → ℕ → List ℕ → List ℕ
-raise P r s = if ltb r 4 then raiseAll P s else if ltb r (4 + P .partialRounds) then raiseFirst P s else raiseAll P s
+raise F r s = if ltb r 4 then raiseAll F s else if ltb r (4 + F .partialRounds) then raiseFirst F s else raiseAll F s
 
 -- "the matrix whose entry at row i, column j is the inverse of i + j + 24"
 unfoldable pub matrix : Parameters → ℕ → ℕ → ℕ
-matrix P i j = getD (P .inverses) (i + j) 0
+matrix F i j = getD (F .inverses) (i + j) 0
 
 -- "then multiplies by the matrix"
 unfoldable pub multiply : Parameters → List ℕ → List ℕ
-multiply P s = tabulate 24 (λ i. sum 24 (λ j. matrix P i j * getD s j 0) % P .modulus)
+multiply F s = tabulate 24 (λ i. sum 24 (λ j. matrix F i j * getD s j 0) % F .modulus)
 
 -- the first n rounds
 unfoldable pub rounds : Parameters → ℕ → List ℕ → List ℕ
-rounds P zero s = s
-rounds P (suc r) s = multiply P (raise P r (addConstants P r (rounds P r s)))
+rounds F zero s = s
+rounds F (suc r) s = multiply F (raise F r (addConstants F r (rounds F r s)))
 
 -- "One permutation is 29 rounds: 4 full, 21 partial, 4 full."
 unfoldable pub permutation : Parameters → List ℕ → List ℕ
-permutation P s = rounds P (4 + P .partialRounds + 4) s
+permutation F s = rounds F (4 + F .partialRounds + 4) s
 
 -- the permutation of document 01
 unfoldable pub babyBear : Parameters

@@ -21,7 +21,7 @@ pub struct Generated {
     pub count: usize,
 }
 
-// The register, oldest bit first, and how many new bits may still be taken.
+// Where the generator stands: the register, oldest bit first, and how many new bits may still be taken.
 struct Source {
     register: [u8; 80],
     left: usize,
@@ -41,7 +41,7 @@ struct Candidate {
     source: Source,
 }
 
-// Wide enough that six of them are summed without a carry out.
+// Six numbers so widened can be summed without overflow.
 fn widen(bit: u8) -> u32
     ensures { λ r. ⌜ (r ≡ bit) × (r < 256) ⌝ }
 {
@@ -139,6 +139,7 @@ fn next_candidate(source: Source) -> Candidate
     }
 }
 
+// Runs the generator until it has 696 constants or no bits left.
 pub fn generate() -> Generated
     ensures { λ r. ⌜ r ≡ generated ⌝ }
 {

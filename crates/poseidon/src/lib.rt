@@ -13,6 +13,7 @@ ghost use Rattle.poseidon.specs.Tables.{constants, inverses};
 ghost use Rattle.poseidon.specs.Permutation.{babyBear, addConstants, raiseAll, raiseFirst, raise, multiply, permutation, permuted};
 ghost use Rattle.poseidon.specs.Steps.{Reduced};
 
+// Number 0 and the permuted state, or number 10 and the state as it came.
 pub struct Permuted {
     pub number: u32,
     pub state: [u32; 24],
@@ -87,7 +88,7 @@ fn raise(state: &[u32; 24], round: usize) -> [u32; 24]
     raise_all(state)
 }
 
-// One product of a row of the matrix with the state, small enough that four of them fit 64 bits.
+// One product of a row of the matrix with the state: at most (p - 1)^2, so that four of them fit 64 bits.
 fn term(row: &[u32], column: usize, state: &[u32; 24], j: usize) -> u64
     requires { ⌜ (column < length (now row)) × (j < 24) × Reduced p (now row) × Reduced p (now state) ⌝ }
     ensures { λ r. ⌜ (r ≡ getD (now (row .entry)) column 0 * getD (now (state .entry)) j 0) × (r ≤ 4053239664633446400) ⌝ }
@@ -96,7 +97,7 @@ fn term(row: &[u32], column: usize, state: &[u32; 24], j: usize) -> u64
 }
 
 // A row of the matrix times the state, where the row is the 24 numbers of a table from start on.
-// Four products are summed at a time, and their low and high halves apart; 268435454 is 2^32 modulo p.
+// Four products are summed at a time, and then their low and high 32 bits apart; 268435454 is 2^32 modulo p.
 fn row_product(table: &[u32], start: usize, state: &[u32; 24]) -> u32
     requires { ⌜ (start + 24 ≤ length (now table)) × Reduced p (now table) × Reduced p (now state) ⌝ }
     ensures { λ r. ⌜ r ≡ sum 24 (λ j. getD (now (table .entry)) (start + j) 0 * getD (now (state .entry)) j 0) % p ⌝ }
@@ -148,7 +149,7 @@ fn permute_reduced(state: [u32; 24]) -> [u32; 24]
     s
 }
 
-// One permutation; where an element is p or more, number 10 and the state as it came.
+// One permutation, of a state whose elements are all below p.
 pub fn permute(state: [u32; 24]) -> Permuted
     ensures { λ r. ⌜ r ≡ permuted state ⌝ }
 {
