@@ -1,6 +1,6 @@
-// One permutation of the library beside three in Rust, in one run: a plain one, in which every sum and every product has its own
-// `%`; the same with a `%` for every product and one for the sum of a row; and one that sums the products of a row as the library
-// does. Each round times the four in turn, and the medians are compared. All four must end in the same state.
+// One permutation of the library beside three in Rust, in one run: a plain one, on field functions that each have their `%`; the
+// same, but with the sum of a row reduced once; and one that reduces neither products nor sums before the end of a row, as the
+// library does. Each round times the four in turn, and the medians are compared. All four must end in the same state.
 use std::hint::black_box;
 use std::time::Instant;
 
@@ -144,9 +144,9 @@ fn main() {
     let reduced_products = |state: &mut [u32; 24]| permute(&tables, state, reduced_products_row);
     let halves = |state: &mut [u32; 24]| permute(&tables, state, halves_row);
     let permutations: [(&str, &dyn Fn(&mut [u32; 24])); 4] = [
-        ("Rust, % for every sum and product", &plain),
-        ("Rust, % for every product", &reduced_products),
-        ("Rust, % for every row", &halves),
+        ("plain Rust, % for every operation", &plain),
+        ("Rust, sum of a row reduced once", &reduced_products),
+        ("Rust, one % for a row", &halves),
         ("library", &library),
     ];
 
