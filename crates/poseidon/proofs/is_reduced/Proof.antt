@@ -6,7 +6,7 @@ use native.Mathlib.Omega.{arith}
 use borrow.Author.Tests.{lt-ltb, le-ltb}
 use denote.Ref.{now}
 use lib.Dec.{ltb}
-use lib.ListN.{drop}
+use lib.ListN.{getD, drop}
 use Rattle.basics.specs.Logic.{all}
 use Rattle.basics.proofs.Cases.{all-step, all-stop, all-end}
 use Rattle.field.specs.Field.{p}
@@ -28,14 +28,14 @@ returns c =
     let at-loop = c .before .before .before .loop in
     let state = now (c .before .before .before .before .args .state) in
     let long = c .before .before .before .before .pre in
-    sym (at-loop .inv .1 ∙ all-stop (λ x. ltb x p) state 0 (at-loop .i) (omega arith) (le-ltb _ _ (c .if1 .taken)))
+    sym (at-loop .inv .1 ∙ all-stop (λ x. ltb x p) state 0 (at-loop .i) (omega arith) (le-ltb (getD state (at-loop .i) 0) p (omega arith)))
 
 loop-again : tie.Need-loop-again Inv-loop μ-loop
 loop-again c =
     let at-loop = c .before .before .before .loop in
     let state = now (c .before .before .before .before .args .state) in
     let long = c .before .before .before .before .pre in
-    (omega arith, at-loop .inv .1 ∙ all-step (λ x. ltb x p) state 0 (at-loop .i) (omega arith) (lt-ltb _ _ (c .if1 .left)))
+    (omega arith, at-loop .inv .1 ∙ all-step (λ x. ltb x p) state 0 (at-loop .i) (omega arith) (lt-ltb (getD state (at-loop .i) 0) p (omega arith)))
 
 returns-2 : tie.Need-returns-2 Inv-loop μ-loop
 returns-2 c =

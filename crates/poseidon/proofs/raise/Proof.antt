@@ -1,5 +1,6 @@
 -- `poseidon::raise` meets its contract.
 -- Assumes nothing.
+use native.Mathlib.Omega.{arith}
 use borrow.Author.Tests.{lt-ltb, le-ltb}
 use Rattle.basics.specs.Logic.{if_then_else_}
 use Rattle.poseidon.specs.Permutation.{raise, babyBear}
@@ -9,15 +10,21 @@ use Rattle.poseidon.proofs.raise.Tie as tie
 
 returns : tie.Need-returns
 unfolding raise babyBear if_then_else_
-returns c = simp (lt-ltb _ _ (c .before .if1 .taken)) (c .raise-all .ensures)
+returns c =
+    let round = c .before .before .args .round in
+    simp (lt-ltb round 4 (omega arith)) (c .raise-all .ensures)
 
 returns-2 : tie.Need-returns-2
 unfolding raise babyBear if_then_else_
-returns-2 c = simp (le-ltb _ _ (c .before .before .if1 .left), lt-ltb _ _ (c .before .if2 .taken)) (c .raise-first .ensures)
+returns-2 c =
+    let round = c .before .before .before .args .round in
+    simp (le-ltb round 4 (omega arith), lt-ltb round 25 (omega arith)) (c .raise-first .ensures)
 
 returns-3 : tie.Need-returns-3
 unfolding raise babyBear if_then_else_
-returns-3 c = simp (le-ltb _ _ (c .before .before .if1 .left), le-ltb _ _ (c .before .if2 .left)) (c .raise-all2 .ensures)
+returns-3 c =
+    let round = c .before .before .before .args .round in
+    simp (le-ltb round 4 (omega arith), le-ltb round 25 (omega arith)) (c .raise-all2 .ensures)
 
 pub raise-spec : {M : Type 1} → statement M
 raise-spec =
