@@ -2,9 +2,8 @@
 -- Assumes nothing.
 use mathlib.Core.Path.{_≡_, refl, sym}
 use mathlib.Core.Bool.{Bool, true, false, true≢false}
-use mathlib.Core.List.{List, [], _∷_}
-use Prim.Native.Nat.{ℕ, zero, suc, _+_, _≤_, _<_}
-use native.Mathlib.Nat.{le-of-suc-le-suc, not-suc-le-zero}
+use mathlib.Core.List.{List}
+use Prim.Native.Nat.{ℕ, _+_, _≤_, _<_}
 use native.Mathlib.Numerals.{add-one}
 use lib.ListN.{length, getD, drop, drop-of-length-le}
 use lib.Seq.{drop-cons}
@@ -35,12 +34,6 @@ and-right true b e = e
 and-right false b e = absurd (true≢false (sym e))
 
 module _ {ℓ} {A : Type ℓ} (f : A → Bool) where
-  pub all-at : (xs : List A) (d : A) → all f xs ≡ true → (k : ℕ) → k < length xs → f (getD xs k d) ≡ true
-  unfolding all
-  all-at [] d e k h = absurd (not-suc-le-zero h)
-  all-at (x ∷ xs) d e zero h = and-left _ _ e
-  all-at (x ∷ xs) d e (suc k) h = all-at xs d (and-right _ _ e) k (le-of-suc-le-suc h)
-
   -- a loop that tests one element after the other: what is left to test has the whole's outcome
   pub all-step : (xs : List A) (d : A) (i : ℕ) → i < length xs → f (getD xs i d) ≡ true → all f (drop i xs) ≡ all f (drop (i + 1) xs)
   unfolding all _and_

@@ -48,42 +48,42 @@ pub record State (m : ℕ) (s : List ℕ) : Type 0 where
   pub long : length s ≡ 24
   pub reduced : Reduced m s
 
-module _ (P : Parameters) (pos : 0 < P .modulus) where
-  tabulated : (f : ℕ → ℕ) → ((i : ℕ) → f i < P .modulus) → State (P .modulus) (tabulate 24 f)
-  tabulated f h = record { long = length-tabulate 24 f; reduced = record { below = below-tabulate (P .modulus) pos 24 f h } }
+module _ (F : Parameters) (pos : 0 < F .modulus) where
+  tabulated : (f : ℕ → ℕ) → ((i : ℕ) → f i < F .modulus) → State (F .modulus) (tabulate 24 f)
+  tabulated f h = record { long = length-tabulate 24 f; reduced = record { below = below-tabulate (F .modulus) pos 24 f h } }
 
-  pub added : (r : ℕ) (s : List ℕ) → State (P .modulus) (addConstants P r s)
+  pub added : (r : ℕ) (s : List ℕ) → State (F .modulus) (addConstants F r s)
   unfolding addConstants
   added r s = tabulated _ (λ i. mod-lt _ pos)
 
-  raised-all : (s : List ℕ) → State (P .modulus) (raiseAll P s)
+  raised-all : (s : List ℕ) → State (F .modulus) (raiseAll F s)
   unfolding raiseAll
   raised-all s = tabulated _ (λ i. mod-lt _ pos)
 
-  raised-first : (s : List ℕ) → State (P .modulus) s → State (P .modulus) (raiseFirst P s)
+  raised-first : (s : List ℕ) → State (F .modulus) s → State (F .modulus) (raiseFirst F s)
   unfolding raiseFirst
   raised-first s h =
       record {
         long = length-set s 0 _ ∙ h .long;
-        reduced = record { below = below-set (P .modulus) pos s 0 _ (h .reduced .below) (mod-lt _ pos) };
+        reduced = record { below = below-set (F .modulus) pos s 0 _ (h .reduced .below) (mod-lt _ pos) };
       }
 
-  pub raised : (r : ℕ) (s : List ℕ) → State (P .modulus) s → State (P .modulus) (raise P r s)
+  pub raised : (r : ℕ) (s : List ℕ) → State (F .modulus) s → State (F .modulus) (raise F r s)
   unfolding raise
   raised r s h =
-      by (State (P .modulus)) (ltb r 4) _ _ (λ e. raised-all s)
-      (λ e. by (State (P .modulus)) (ltb r (4 + P .partialRounds)) _ _ (λ e′. raised-first s h) (λ e′. raised-all s))
+      by (State (F .modulus)) (ltb r 4) _ _ (λ e. raised-all s)
+      (λ e. by (State (F .modulus)) (ltb r (4 + F .partialRounds)) _ _ (λ e′. raised-first s h) (λ e′. raised-all s))
 
-  pub multiplied : (s : List ℕ) → State (P .modulus) (multiply P s)
+  pub multiplied : (s : List ℕ) → State (F .modulus) (multiply F s)
   unfolding multiply
   multiplied s = tabulated _ (λ i. mod-lt _ pos)
 
-  after-rounds : (n : ℕ) (s : List ℕ) → State (P .modulus) s → State (P .modulus) (rounds P n s)
+  after-rounds : (n : ℕ) (s : List ℕ) → State (F .modulus) s → State (F .modulus) (rounds F n s)
   unfolding rounds
   after-rounds zero s h = h
   after-rounds (suc n) s h = multiplied _
 
   -- what callers of the permutation go by: it leads from states to states
-  pub permutation-state : (s : List ℕ) → State (P .modulus) s → State (P .modulus) (permutation P s)
+  pub permutation-state : (s : List ℕ) → State (F .modulus) s → State (F .modulus) (permutation F s)
   unfolding permutation
   permutation-state s h = after-rounds _ s h

@@ -5,7 +5,7 @@ use mathlib.Core.Path.{_≡_, _∙_, refl, sym, ap, ap₂, subst}
 use mathlib.Core.Bool.{Bool, true, false}
 use mathlib.Core.List.{List, [], _∷_, _++_, append-nil}
 use Prim.Native.Nat.{ℕ, zero, suc, _+_, _-_, _*_, _/_, _%_, _^_, _<_}
-use native.Mathlib.Nat.{le-of-suc-le-suc, zero-add, add-comm, suc-add, mul-assoc, mul-left-comm, pow-suc, mod-lt, mod-eq-of-lt, add-mul-div-left, add-mul-mod-self-right}
+use native.Mathlib.Nat.{le-of-suc-le-suc, zero-add, add-comm, mul-assoc, mul-left-comm, pow-suc, mod-lt, mod-eq-of-lt, add-mul-div-left, add-mul-mod-self-right}
 use native.Mathlib.Numerals.{add-one, lt-of-le-of-ne}
 use native.Mathlib.Omega.{arith}
 use borrow.Author.Tests.{eqb-true, eqb-false}
@@ -21,7 +21,7 @@ use Rattle.basics.proofs.Positional.{number-append}
 use Rattle.field.specs.Field.{p}
 use Rattle.poseidon.specs.Tables.{constants}
 use Rattle.poseidon.specs.Generator.{firstRegister, nextBit, shifted, newBits, outputBits, candidates, kept, found, generated}
-use Rattle.poseidon.proofs.Streams.{pair, candidate-whole, candidate-part}
+use Rattle.poseidon.proofs.Streams.{drop-next, pair, candidate-whole, candidate-part}
 
 -- ---- registers as numbers
 
@@ -49,8 +49,8 @@ unfolding step
 step-bound n h = omega (arith, next-bound n)
 
 -- a bit below one that is set is as it was
-below-set : (bit n k j : ℕ) → (bit * 2 ^ (k + suc j) + n) / 2 ^ k % 2 ≡ n / 2 ^ k % 2
-below-set bit n k j =
+bit-below : (bit n k j : ℕ) → (bit * 2 ^ (k + suc j) + n) / 2 ^ k % 2 ≡ n / 2 ^ k % 2
+bit-below bit n k j =
     let power : bit * 2 ^ (k + suc j) ≡ 2 ^ k * (bit * 2 ^ j * 2) =
     rw (pow-add 2 k (suc j), pow-suc 2 j, mul-left-comm bit (2 ^ k) (2 ^ j * 2), mul-assoc bit (2 ^ j) 2) in
     rw (power, add-comm (2 ^ k * (bit * 2 ^ j * 2)) n, add-mul-div-left n (bit * 2 ^ j * 2) (pow-pos k), add-mul-mod-self-right (n / 2 ^ k) (bit * 2 ^ j) 2)
@@ -64,7 +64,7 @@ shift-is n h =
     λ k l.
     let e : k + suc (78 - k) ≡ 79 = omega arith in
     ap (λ (m : ℕ). m % 2) (ap (λ (m : ℕ). n / 2 ^ m) (sym (add-one k) ∙ add-comm k 1) ∙ sym (shr-shr n 1 k))
-    ∙ sym (subst (λ (m : ℕ). (next n * 2 ^ m + n / 2) / 2 ^ k % 2 ≡ n / 2 / 2 ^ k % 2) e (below-set (next n) (n / 2) k (78 - k))) in
+    ∙ sym (subst (λ (m : ℕ). (next n * 2 ^ m + n / 2) / 2 ^ k % 2 ≡ n / 2 / 2 ^ k % 2) e (bit-below (next n) (n / 2) k (78 - k))) in
     let top : next n ≡ new 79 = sym (ap (λ (m : ℕ). m % 2) (high (next n) 79 (omega arith)) ∙ mod-eq-of-lt (next-bound n)) in
     ap₂ (λ (bits : List ℕ) (bit : ℕ). bits ++ (bit ∷ []))
     (ap (drop 1) (tabulate-cons 79 old) ∙ tabulate-same 79 (λ k. old (suc k)) new low)
@@ -73,17 +73,19 @@ shift-is n h =
 -- the register behind some new bits
 after : ℕ → ℕ → ℕ
 after zero n = n
-after (suc i) n = after i (step n)
+after (suc i) n = step (after i n)
 
 after-bound : (i n : ℕ) → n < 2 ^ 80 → after i n < 2 ^ 80
 unfolding after
 after-bound zero n h = h
-after-bound (suc i) n h = after-bound i (step n) (step-bound n h)
+after-bound (suc i) n h = step-bound (after i n) (after-bound i n h)
 
-dropped : (i n count : ℕ) → n < 2 ^ 80 → drop i (newBits (i + count) (bitsOf n)) ≡ newBits count (bitsOf (after i n))
-unfolding newBits after
-dropped zero n count h = rw (zero-add count)
-dropped (suc i) n count h = rw (suc-add i count, shift-is n h) (dropped i (step n) count (step-bound n h))
+dropped : (i n : ℕ) → n < 2 ^ 80 → (count : ℕ) → drop i (newBits (i + count) (bitsOf n)) ≡ newBits count (bitsOf (after i n))
+unfolding after
+dropped zero n h count = rw (zero-add count)
+dropped (suc i) n h count =
+    (rw (add-one i) at (drop-next (bitsOf n) (bitsOf (after i n)) i (dropped i n h) count))
+    ∙ ap (newBits count) (shift-is (after i n) (after-bound i n h))
 
 -- ---- the generator on numbers: value and size are the number that the bits held write, and how many they are
 
@@ -169,7 +171,7 @@ pub table-found : found p 696 262144 ≡ constants
 unfolding found number numberAfter
 table-found =
     ap (λ (bits : List ℕ). take 696 (kept p (candidates (outputBits bits))))
-    (ap (λ (r : List ℕ). drop 160 (newBits 262144 r)) first-is ∙ dropped 160 first 261984 first-bound)
+    (ap (λ (r : List ℕ). drop 160 (newBits 262144 r)) first-is ∙ dropped 160 first first-bound 261984)
     ∙ ap (take 696) (run-is 130992 (after 160 first) [] (after-bound 160 first first-bound) (lit< tt))
     ∙ computed
 

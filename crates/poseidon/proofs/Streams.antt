@@ -105,16 +105,16 @@ candidate-part word h = rw (div-eq-of-lt h)
 
 -- ---- constants
 
-module _ (p : ℕ) (constants : List ℕ) (count candidate : ℕ) (rest : List ℕ) (room : count < 696) where
-  pub keep : count < length constants → candidate < p
-      → take count constants ++ take (696 - count) (kept p (candidate ∷ rest))
-      ≡ take (count + 1) (set constants count candidate) ++ take (696 - (count + 1)) (kept p rest)
+module _ (modulus : ℕ) (constants : List ℕ) (count candidate : ℕ) (rest : List ℕ) (room : count < 696) where
+  pub keep : count < length constants → candidate < modulus
+      → take count constants ++ take (696 - count) (kept modulus (candidate ∷ rest))
+      ≡ take (count + 1) (set constants count candidate) ++ take (696 - (count + 1)) (kept modulus rest)
   unfolding kept
   keep inside h =
       let n : 696 - count ≡ suc (696 - (count + 1)) = omega arith in
-      rw (n, if-true (ltb candidate p) (candidate ∷ []) [] (lt-ltb _ _ h), add-one, take-suc-set constants count candidate inside)
-      (sym (append-snoc (take count constants) candidate (take (696 - suc count) (kept p rest))))
+      rw (n, if-true (ltb candidate modulus) (candidate ∷ []) [] (lt-ltb _ _ h), add-one, take-suc-set constants count candidate inside)
+      (sym (append-snoc (take count constants) candidate (take (696 - suc count) (kept modulus rest))))
 
-pub skip : (p candidate : ℕ) (rest : List ℕ) → p ≤ candidate → kept p (candidate ∷ rest) ≡ kept p rest
+pub skip : (modulus candidate : ℕ) (rest : List ℕ) → modulus ≤ candidate → kept modulus (candidate ∷ rest) ≡ kept modulus rest
 unfolding kept
-skip p candidate rest h = rw (if-false (ltb candidate p) (candidate ∷ []) [] (le-ltb _ _ h))
+skip modulus candidate rest h = rw (if-false (ltb candidate modulus) (candidate ∷ []) [] (le-ltb _ _ h))

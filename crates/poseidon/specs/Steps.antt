@@ -1,4 +1,4 @@
--- Definitions that only the contracts of private functions cite.
+-- Definitions that no public contract cites: what it is to be reduced, and what the private steps of the generator promise.
 use mathlib.Core.Bool.{true, false}
 use mathlib.Core.List.{List, [], _∷_}
 use mathlib.Core.Path.{_≡_}

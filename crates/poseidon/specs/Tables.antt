@@ -1,4 +1,4 @@
--- The two tables of the permutation. The claims about their entries are proved in proofs/Tables.antt.
+-- The two tables of the permutation. What is claimed of their entries is proved in proofs/Entries.antt and proofs/GeneratedTable.antt.
 use mathlib.Core.List.{List, [], _∷_}
 use Prim.Native.Nat.{ℕ}
 
