@@ -1,0 +1,3 @@
+pub mod Planes
+pub mod Rotation
+pub mod TablesByRule

@@ -1,0 +1,19 @@
+-- `keccak::permutation::chi_lane` meets its contract.
+-- Assumes nothing.
+use borrow.Author.Needs.{needs}
+use Rattle.keccak.proofs.permutation.chi_lane.Statement.{statement}
+use Rattle.keccak.proofs.permutation.chi_lane.Tie as tie
+
+returns : tie.Need-returns
+returns c = cc
+
+pub chi-lane-spec : {M : Type 1} → statement M
+chi-lane-spec =
+    tie.close
+    (tie.spec
+    (λ c κs. search needs)
+    (λ c. search needs)
+    (λ c κs. search needs)
+    (λ c. search needs)
+    (λ c κs. search needs)
+    returns)

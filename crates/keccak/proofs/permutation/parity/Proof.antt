@@ -1,0 +1,21 @@
+-- `keccak::permutation::parity` meets its contract.
+-- Assumes nothing.
+use borrow.Author.Needs.{needs}
+use Rattle.keccak.specs.Permutation.{parity}
+use Rattle.keccak.proofs.permutation.parity.Statement.{statement}
+use Rattle.keccak.proofs.permutation.parity.Tie as tie
+
+returns : tie.Need-returns
+unfolding parity
+returns c = cc
+
+pub parity-spec : {M : Type 1} → statement M
+parity-spec =
+    tie.close
+    (tie.spec
+    (λ c κs. search needs)
+    (λ c κs. search needs)
+    (λ c κs. search needs)
+    (λ c κs. search needs)
+    (λ c κs. search needs)
+    returns)
