@@ -1,46 +1,28 @@
+-- `keccak::add_block` meets its contract.
+-- Assumes nothing.
+use borrow.Author.Needs.{needs}
+use Prim.Native.Nat.{_-_}
+use Rattle.keccak.specs.Sponge.{padded, addBlock}
+use Rattle.keccak.specs.Steps.{blockLane}
+use Rattle.basics.proofs.Fill.{Filled, start, step, end}
 use Rattle.keccak.proofs.add_block.Statement.{statement}
 use Rattle.keccak.proofs.add_block.Tie as tie
-use Rattle.keccak.proofs.add_block.Reads as reads
-use Rattle.keccak.proofs.add_block.Lts as lts
-use Rattle.keccak.proofs.block_lane.Reads as block-lane-reads
 
 abbrev Inv-loop : tie.InvT-loop
-Inv-loop «data» n a out₀ i₀ out i = ?
+Inv-loop «data» n a out₀ i₀ out i = Filled 25 (blockLane a (padded «data») n) out i
 
 abbrev μ-loop : tie.MeasureT-loop
-μ-loop «data» n a out₀ i₀ out i = ?
+μ-loop «data» n a out₀ i₀ out i = 25 - i
 
--- src/lib.rt:109:5
 loop-holds : tie.Need-loop-holds Inv-loop μ-loop
-loop-holds c = ?
+loop-holds c = start _ _ _ (search needs)
 
--- src/lib.rt:110:18
-block-lane-requires : tie.Need-block-lane-requires Inv-loop μ-loop
-block-lane-requires c κs = ?
-
--- src/lib.rt:110:9
-mul-out : tie.Need-mul-out Inv-loop μ-loop
-mul-out c = ?
-
--- src/lib.rt:110:9
-array-write-out : tie.Need-array-write-out Inv-loop μ-loop
-array-write-out c = ?
-
--- src/lib.rt:109:9
-add-i : tie.Need-add-i Inv-loop μ-loop
-add-i c = ?
-
--- src/lib.rt:109:5
-loop-less : tie.Need-loop-less Inv-loop μ-loop
-loop-less c = ?
-
--- src/lib.rt:109:5
 loop-again : tie.Need-loop-again Inv-loop μ-loop
-loop-again c = ?
+loop-again c = step _ (c .before .before .before .loop .inv) (search needs) (c .block-lane .ensures)
 
--- src/lib.rt:104:1
 returns : tie.Need-returns Inv-loop μ-loop
-returns c = ?
+unfolding addBlock
+returns c = end (c .before .loop .inv) (search needs)
 
 pub add-block-spec : {M : Type 1} → statement M
 add-block-spec =
@@ -49,10 +31,10 @@ add-block-spec =
     Inv-loop
     μ-loop
     loop-holds
-    block-lane-requires
-    mul-out
-    array-write-out
-    add-i
-    loop-less
+    (λ c κs. search needs)
+    (λ c. search needs)
+    (λ c. search needs)
+    (λ c. search needs)
+    (λ c. search needs)
     loop-again
     returns)

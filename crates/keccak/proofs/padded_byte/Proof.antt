@@ -1,49 +1,35 @@
+-- `keccak::padded_byte` meets its contract.
+-- Assumes nothing.
 use borrow.Author.Needs.{needs}
+use mathlib.Core.Path.{sym}
+use native.Mathlib.Omega.{arith}
+use Rattle.keccak.proofs.Padding.{in-message, padding-only, padding-first, padding-last, padding-between}
 use Rattle.keccak.proofs.padded_byte.Statement.{statement}
 use Rattle.keccak.proofs.padded_byte.Tie as tie
-use Rattle.keccak.proofs.padded_byte.Reads as reads
-use Rattle.keccak.proofs.padded_byte.Lts as lts
 
--- src/lib.rt:20:16
-shared-slice-read-result : tie.Need-shared-slice-read-result
-shared-slice-read-result c = search needs
-
--- src/lib.rt:20:9
 returns : tie.Need-returns
-returns c = ?
+returns c = sym (in-message _ _ (search needs))
 
--- src/lib.rt:22:16
-mul-last : tie.Need-mul-last
-mul-last c = search needs
-
--- src/lib.rt:22:16
-add-last : tie.Need-add-last
-add-last c = search needs
-
--- src/lib.rt:25:13
 returns-2 : tie.Need-returns-2
-returns-2 c = ?
+returns-2 c = sym (padding-only _ _ (omega arith) (omega arith))
 
--- src/lib.rt:27:9
 returns-3 : tie.Need-returns-3
-returns-3 c = ?
+returns-3 c = sym (padding-first _ _ (omega arith) (λ e. c .if3 .left (omega arith)))
 
--- src/lib.rt:30:9
 returns-4 : tie.Need-returns-4
-returns-4 c = ?
+returns-4 c = sym (padding-last _ _ (omega (arith, c .before .if2 .left)) (omega arith))
 
--- src/lib.rt:15:1
 returns-5 : tie.Need-returns-5
-returns-5 c = ?
+returns-5 c = sym (padding-between _ _ (omega (arith, c .before .if2 .left)) (λ e. c .if4 .left (omega arith)))
 
 pub padded-byte-spec : {M : Type 1} → statement M
 padded-byte-spec =
     tie.close
     (tie.spec
-    shared-slice-read-result
+    (λ c. search needs)
     returns
-    mul-last
-    add-last
+    (λ c. search needs)
+    (λ c. search needs)
     returns-2
     returns-3
     returns-4

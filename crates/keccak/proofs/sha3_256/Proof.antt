@@ -1,52 +1,49 @@
+-- `keccak::sha3_256` meets its contract.
+-- Assumes nothing.
+use borrow.Author.Needs.{needs}
+use mathlib.Core.Path.{_≡_, _∙_, refl, ap}
+use mathlib.Core.List.{List}
+use Prim.Native.Nat.{ℕ, _+_, _-_, _*_, _/_, _≤_}
+use native.Mathlib.Numerals.{add-one}
+use native.Mathlib.Omega.{arith}
+use lib.ListN.{length, take, drop}
+use Rattle.keccak.specs.Permutation.{permutation}
+use Rattle.keccak.specs.Sponge.{padded, addBlock, absorb, squeeze, sha3}
+use Rattle.keccak.proofs.Padding.{blocks-padded}
 use Rattle.keccak.proofs.sha3_256.Statement.{statement}
 use Rattle.keccak.proofs.sha3_256.Tie as tie
-use Rattle.keccak.proofs.sha3_256.Reads as reads
-use Rattle.keccak.proofs.sha3_256.Lts as lts
-use Rattle.keccak.proofs.add_block.Reads as add-block-reads
-use Rattle.keccak.proofs.permutation.permute.Reads as permute-reads
-use Rattle.keccak.proofs.squeeze.Reads as squeeze-reads
 
 abbrev Inv-loop : tie.InvT-loop
-Inv-loop «data» a₀ blocks n₀ a n = ?
+Inv-loop «data» a₀ blocks n₀ a n = (n ≤ blocks) × (a ≡ absorb (padded «data») n)
 
 abbrev μ-loop : tie.MeasureT-loop
-μ-loop «data» a₀ blocks n₀ a n = ?
+μ-loop «data» a₀ blocks n₀ a n = blocks - n
 
--- src/lib.rt:138:19
-add-blocks : tie.Need-add-blocks Inv-loop μ-loop
-add-blocks c = ?
-
--- src/lib.rt:139:5
 loop-holds : tie.Need-loop-holds Inv-loop μ-loop
-loop-holds c = ?
+unfolding absorb
+loop-holds c = (search needs, refl)
 
--- src/lib.rt:140:41
-add-block-requires : tie.Need-add-block-requires Inv-loop μ-loop
-add-block-requires c κs = ?
-
--- src/lib.rt:140:13
-permute-requires : tie.Need-permute-requires Inv-loop μ-loop
-permute-requires c κs = ?
-
--- src/lib.rt:139:9
-add-n : tie.Need-add-n Inv-loop μ-loop
-add-n c = ?
-
--- src/lib.rt:139:5
-loop-less : tie.Need-loop-less Inv-loop μ-loop
-loop-less c = ?
-
--- src/lib.rt:139:5
 loop-again : tie.Need-loop-again Inv-loop μ-loop
-loop-again c = ?
+unfolding absorb
+loop-again c =
+    let at-loop = c .before .before .before in
+    let m = at-loop .before .before .args .«data» .now in
+    let n = at-loop .loop .n in (
+      search needs,
+      rw add-one
+          (c .permute .ensures
+          ∙ ap permutation
+          (c .before .add-block .ensures
+          ∙ ap (λ (a : List ℕ). addBlock a (take 136 (drop (136 * n) (padded m)))) (at-loop .loop .inv .1))),
+    )
 
--- src/lib.rt:143:5
-squeeze-requires : tie.Need-squeeze-requires Inv-loop μ-loop
-squeeze-requires c κs = ?
-
--- src/lib.rt:134:1
 returns : tie.Need-returns Inv-loop μ-loop
-returns c = ?
+unfolding sha3
+returns c =
+    let at-loop = c .before .before in
+    let m = at-loop .before .before .args .«data» .now in
+    let e : at-loop .loop .n ≡ length (padded m) / 136 = rw (blocks-padded m) (omega arith) in
+    c .squeeze .ensures ∙ ap squeeze (rw e at (at-loop .loop .inv .1))
 
 pub sha3-256-spec : {M : Type 1} → statement M
 sha3-256-spec =
@@ -54,12 +51,12 @@ sha3-256-spec =
     (tie.spec
     Inv-loop
     μ-loop
-    add-blocks
+    (λ c. search needs)
     loop-holds
-    add-block-requires
-    permute-requires
-    add-n
-    loop-less
+    (λ c κs. search needs)
+    (λ c κs. search needs)
+    (λ c. search needs)
+    (λ c. search needs)
     loop-again
-    squeeze-requires
+    (λ c κs. search needs)
     returns)

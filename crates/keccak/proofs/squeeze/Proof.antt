@@ -1,42 +1,27 @@
+-- `keccak::squeeze` meets its contract.
+-- Assumes nothing.
+use borrow.Author.Needs.{needs}
+use Prim.Native.Nat.{_-_}
+use Rattle.keccak.specs.Sponge.{squeeze, byteOf}
+use Rattle.basics.proofs.Fill.{Filled, start, step, end}
 use Rattle.keccak.proofs.squeeze.Statement.{statement}
 use Rattle.keccak.proofs.squeeze.Tie as tie
-use Rattle.keccak.proofs.squeeze.Reads as reads
-use Rattle.keccak.proofs.squeeze.Lts as lts
-use Rattle.keccak.proofs.byte_of.Reads as byte-of-reads
 
 abbrev Inv-loop : tie.InvT-loop
-Inv-loop a out₀ i₀ out i = ?
+Inv-loop a out₀ i₀ out i = Filled 32 (byteOf a) out i
 
 abbrev μ-loop : tie.MeasureT-loop
-μ-loop a out₀ i₀ out i = ?
+μ-loop a out₀ i₀ out i = 32 - i
 
--- src/lib.rt:127:5
 loop-holds : tie.Need-loop-holds Inv-loop μ-loop
-loop-holds c = ?
+loop-holds c = start _ _ _ (search needs)
 
--- src/lib.rt:128:18
-byte-of-requires : tie.Need-byte-of-requires Inv-loop μ-loop
-byte-of-requires c κs = ?
-
--- src/lib.rt:128:9
-array-write-out : tie.Need-array-write-out Inv-loop μ-loop
-array-write-out c = ?
-
--- src/lib.rt:127:9
-add-i : tie.Need-add-i Inv-loop μ-loop
-add-i c = ?
-
--- src/lib.rt:127:5
-loop-less : tie.Need-loop-less Inv-loop μ-loop
-loop-less c = ?
-
--- src/lib.rt:127:5
 loop-again : tie.Need-loop-again Inv-loop μ-loop
-loop-again c = ?
+loop-again c = step _ (c .before .before .before .loop .inv) (search needs) (c .byte-of .ensures)
 
--- src/lib.rt:123:1
 returns : tie.Need-returns Inv-loop μ-loop
-returns c = ?
+unfolding squeeze
+returns c = end (c .before .loop .inv) (search needs)
 
 pub squeeze-spec : {M : Type 1} → statement M
 squeeze-spec =
@@ -45,9 +30,9 @@ squeeze-spec =
     Inv-loop
     μ-loop
     loop-holds
-    byte-of-requires
-    array-write-out
-    add-i
-    loop-less
+    (λ c κs. search needs)
+    (λ c. search needs)
+    (λ c. search needs)
+    (λ c. search needs)
     loop-again
     returns)

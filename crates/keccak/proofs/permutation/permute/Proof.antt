@@ -1,46 +1,39 @@
+-- `keccak::permutation::permute` meets its contract.
+-- Assumes nothing.
+use borrow.Author.Needs.{needs}
+use mathlib.Core.Path.{_≡_, _∙_, refl, ap}
+use mathlib.Core.List.{List}
+use Prim.Native.Nat.{ℕ, _-_, _≤_}
+use native.Mathlib.Numerals.{add-one}
+use native.Mathlib.Omega.{arith}
+use lib.ListN.{getD}
+use Rattle.keccak.specs.Tables.{roundConstants}
+use Rattle.keccak.specs.Permutation.{round, rounds, permutation}
 use Rattle.keccak.proofs.permutation.permute.Statement.{statement}
 use Rattle.keccak.proofs.permutation.permute.Tie as tie
-use Rattle.keccak.proofs.permutation.permute.Reads as reads
-use Rattle.keccak.proofs.permutation.permute.Lts as lts
-use Rattle.keccak.proofs.permutation.round.Reads as round-reads
 
 abbrev Inv-loop : tie.InvT-loop
-Inv-loop a₀ constants i₀ a i = ?
+Inv-loop a₀ constants i₀ a i = (i ≤ 24) × (a ≡ rounds a₀ i)
 
 abbrev μ-loop : tie.MeasureT-loop
-μ-loop a₀ constants i₀ a i = ?
+μ-loop a₀ constants i₀ a i = 24 - i
 
--- src/permutation.rt:234:5
 loop-holds : tie.Need-loop-holds Inv-loop μ-loop
-loop-holds c = ?
+unfolding rounds
+loop-holds c = (search needs, refl)
 
--- src/permutation.rt:235:29
-mul-round : tie.Need-mul-round Inv-loop μ-loop
-mul-round c = ?
-
--- src/permutation.rt:235:29
-array-read-round : tie.Need-array-read-round Inv-loop μ-loop
-array-read-round c = ?
-
--- src/permutation.rt:235:13
-round-requires : tie.Need-round-requires Inv-loop μ-loop
-round-requires c κs = ?
-
--- src/permutation.rt:234:9
-add-i : tie.Need-add-i Inv-loop μ-loop
-add-i c = ?
-
--- src/permutation.rt:234:5
-loop-less : tie.Need-loop-less Inv-loop μ-loop
-loop-less c = ?
-
--- src/permutation.rt:234:5
 loop-again : tie.Need-loop-again Inv-loop μ-loop
-loop-again c = ?
+unfolding rounds round roundConstants
+loop-again c =
+    let at-loop = c .before .before .loop in
+    (search needs, rw add-one (c .round .ensures ∙ ap (λ (a : List ℕ). round a (at-loop .i)) (at-loop .inv .1)))
 
--- src/permutation.rt:230:1
 returns : tie.Need-returns Inv-loop μ-loop
-returns c = ?
+unfolding permutation
+returns c =
+    let at-loop = c .before .loop in
+    let e : at-loop .i ≡ 24 = omega arith in
+    rw e at (at-loop .inv .1)
 
 pub permute-spec : {M : Type 1} → statement M
 permute-spec =
@@ -49,10 +42,10 @@ permute-spec =
     Inv-loop
     μ-loop
     loop-holds
-    mul-round
-    array-read-round
-    round-requires
-    add-i
-    loop-less
+    (λ c. search needs)
+    (λ c. search needs)
+    (λ c κs. search needs)
+    (λ c. search needs)
+    (λ c. search needs)
     loop-again
     returns)

@@ -1,0 +1,64 @@
+-- Lanes of eight bytes.
+-- Assumes nothing.
+use mathlib.Core.Path.{_≡_, _∙_, refl, sym, ap}
+use mathlib.Core.List.{List, [], _∷_, _++_}
+use Prim.Native.Nat.{ℕ, zero, suc, _+_, _*_, _^_, _≤_, _<_}
+use native.Mathlib.Nat.{add-zero, add-assoc}
+use native.Mathlib.Omega.{arith}
+use lib.ListN.{length, getD, take, drop, replicate, List·getD-eq-default, length-take}
+use lib.Seq.{getD-take, getD-drop}
+use Rattle.basics.specs.Lists.{sum}
+use Rattle.basics.proofs.Sums.{sum-same}
+use Rattle.keccak.specs.Sponge.{padded, laneAt}
+use Rattle.keccak.specs.Steps.{littleEndian}
+use Rattle.keccak.proofs.Padding.{in-message}
+
+pub by-bytes : (s : List ℕ) (k : ℕ)
+    → littleEndian (getD s k 0) (getD s (k + 1) 0) (getD s (k + 2) 0) (getD s (k + 3) 0) (getD s (k + 4) 0) (getD s (k + 5) 0)
+    (getD s (k + 6) 0) (getD s (k + 7) 0)
+    ≡ laneAt s k
+unfolding laneAt sum
+by-bytes s k = rw (add-zero k) (omega arith)
+
+pub from-bytes : (s : List ℕ) (k : ℕ) {b0 b1 b2 b3 b4 b5 b6 b7 : ℕ}
+    → b0 ≡ getD s k 0 → b1 ≡ getD s (k + 1) 0 → b2 ≡ getD s (k + 2) 0 → b3 ≡ getD s (k + 3) 0 → b4 ≡ getD s (k + 4) 0
+    → b5 ≡ getD s (k + 5) 0 → b6 ≡ getD s (k + 6) 0 → b7 ≡ getD s (k + 7) 0 → littleEndian b0 b1 b2 b3 b4 b5 b6 b7 ≡ laneAt s k
+from-bytes s k e0 e1 e2 e3 e4 e5 e6 e7 = (λ i. littleEndian (e0 i) (e1 i) (e2 i) (e3 i) (e4 i) (e5 i) (e6 i) (e7 i)) ∙ by-bytes s k
+
+same-lane : (s t : List ℕ) (k l : ℕ) → ((j : ℕ) → j < 8 → getD s (k + j) 0 ≡ getD t (l + j) 0) → laneAt s k ≡ laneAt t l
+unfolding laneAt
+same-lane s t k l h = sum-same 8 _ _ (λ j below. ap (λ (b : ℕ). b * 2 ^ (8 * j)) (h j below))
+
+-- a lane that is all of the message
+pub in-message-lane : (m : List ℕ) (k : ℕ) → k + 8 ≤ length m → laneAt m k ≡ laneAt (padded m) k
+in-message-lane m k h = same-lane m (padded m) k k (λ j below. sym (in-message m (k + j) (omega arith)))
+
+zeros : (n i : ℕ) → _≡_ {A = ℕ} (getD (replicate n 0) i 0) 0
+zeros zero i = refl
+zeros (suc n) zero = refl
+zeros (suc n) (suc i) = zeros n i
+
+-- zeros behind a list read as its end does
+zeros-behind : (s : List ℕ) (n i : ℕ) → getD (s ++ replicate n 0) i 0 ≡ getD s i 0
+zeros-behind [] n i = zeros n i
+zeros-behind (x ∷ s) n zero = refl
+zeros-behind (x ∷ s) n (suc i) = zeros-behind s n i
+
+-- the lane i of a block that begins at the byte o
+pub block-lane : (p : List ℕ) (o i : ℕ) → i < 17 → laneAt p (o + 8 * i) ≡ laneAt (take 136 (drop o p) ++ replicate 64 0) (8 * i)
+block-lane p o i h =
+    same-lane p (take 136 (drop o p) ++ replicate 64 0) (o + 8 * i) (8 * i)
+    (λ j below.
+    ap (λ (k : ℕ). getD p k 0) (add-assoc o (8 * i) j)
+    ∙ sym (zeros-behind (take 136 (drop o p)) 64 (8 * i + j)
+    ∙ getD-take 136 (drop o p) (8 * i + j) 0 (omega arith)
+    ∙ getD-drop o p (8 * i + j) 0))
+
+-- past the block are the capacity's zeros
+pub past-block : (p : List ℕ) (o i : ℕ) → 17 ≤ i → laneAt (take 136 (drop o p) ++ replicate 64 0) (8 * i) ≡ 0
+unfolding sum laneAt
+past-block p o i h =
+    same-lane (take 136 (drop o p) ++ replicate 64 0) [] (8 * i) 0
+    (λ j below.
+    zeros-behind (take 136 (drop o p)) 64 (8 * i + j)
+    ∙ List·getD-eq-default (take 136 (drop o p)) 0 (omega (arith, length-take 136 (drop o p))))
