@@ -1,13 +1,19 @@
 -- `keccak::permutation::parity` meets its contract.
 -- Assumes nothing.
 use borrow.Author.Needs.{needs}
-use Rattle.keccak.specs.Permutation.{parity}
+use Rattle.keccak.specs.Permutation.{_⊕_, parity}
 use Rattle.keccak.proofs.permutation.parity.Statement.{statement}
 use Rattle.keccak.proofs.permutation.parity.Tie as tie
 
 returns : tie.Need-returns
 unfolding parity
-returns c = cc
+returns c =
+    λ i.
+    c .before .before .before .before .lane .ensures i
+    ⊕ c .before .before .before .lane2 .ensures i
+    ⊕ c .before .before .lane3 .ensures i
+    ⊕ c .before .lane4 .ensures i
+    ⊕ c .lane5 .ensures i
 
 pub parity-spec : {M : Type 1} → statement M
 parity-spec =
