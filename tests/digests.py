@@ -16,7 +16,7 @@ PUBLISHED = [
     (b"\xa3" * 200, "79f38adec5c20307a98ef76e8324afbfd46cfd81b22e3973c65fa1bd9de31787"),
 ]
 
-pattern = bytes((i * i + i // 3) % 256 for i in range(513))
+pattern = bytes((5 * i + i // 3 + i // 7) % 256 for i in range(513))
 for message, digest in PUBLISHED:
     assert hashlib.sha3_256(message).hexdigest() == digest
 for message in [message for message, _ in PUBLISHED] + [pattern[:n] for n in [*range(301), 511, 512, 513]]:

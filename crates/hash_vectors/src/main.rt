@@ -1,13 +1,13 @@
-// Prints the digests of five published messages, then those of the first n bytes of a fixed pattern, each behind the number of its bytes:
-// n from 0 to 300, and 511 to 513. Byte i of the pattern is (i^2 + i / 3) mod 256.
-// stdout is what tests/digests.py prints: the digests of another implementation, Python's hashlib, of which the first five were
-// published by NIST.
-ghost use Prim.Native.Nat.{_≤_, _<_};
+// Prints digests, each behind the number of bytes of its message: of five messages whose digests NIST has published, and of the first n
+// bytes of a fixed pattern, for n from 0 to 300 and from 511 to 513. Byte i of the pattern is (5 i + i / 3 + i / 7) mod 256.
+// stdout is what tests/digests.py prints: the digests of another implementation, Python's hashlib, held there to the published ones.
+
+ghost use Prim.Native.Nat.{_<_};
 
 fn pattern_byte(i: usize) -> u8
     requires { ⌜ i < 513 ⌝ }
 {
-    ((i * i + i / 3) % 256) as u8
+    ((5 * i + i / 3 + i / 7) % 256) as u8
 }
 
 fn pattern() -> [u8; 513] {
@@ -18,20 +18,34 @@ fn pattern() -> [u8; 513] {
     bytes
 }
 
+fn print_byte(x: u8) {
+    io::print_hex(1, x as u64, 2);
+}
+
+fn print_bytes(bytes: &[u8; 32]) {
+    for i in 0..32 {
+        print_byte(bytes[i]);
+    }
+}
+
 fn print_digest(message: &[u8]) {
     let digest = keccak::sha3_256(message);
     io::print_decimal(1, message.len() as u64);
     io::write_all(1, b" ");
-    for i in 0..32 {
-        io::print_hex(1, digest[i] as u64, 2);
-    }
+    print_bytes(&digest);
     io::write_all(1, b"\n");
 }
 
-fn print_prefix(bytes: &[u8; 513], n: usize)
-    requires { ⌜ n ≤ 513 ⌝ }
-{
-    print_digest(&bytes[..n]);
+fn print_digest_of_first(bytes: &[u8], n: usize) {
+    if n <= bytes.len() {
+        print_digest(&bytes[..n]);
+    }
+}
+
+fn print_digests(bytes: &[u8], start: usize, end: usize) {
+    for n in start..end {
+        print_digest_of_first(bytes, n);
+    }
 }
 
 fn print_published() {
@@ -48,10 +62,6 @@ fn print_published() {
 fn main() {
     print_published();
     let bytes = pattern();
-    for n in 0..301 {
-        print_prefix(&bytes, n);
-    }
-    print_prefix(&bytes, 511);
-    print_prefix(&bytes, 512);
-    print_prefix(&bytes, 513);
+    print_digests(&bytes, 0, 301);
+    print_digests(&bytes, 511, 514);
 }
