@@ -1,8 +1,10 @@
 // One permutation of the library beside three in Rust, in one run: a plain one, on field functions that each have their `%`; the
 // same, but with the sum of a row reduced once; and one that reduces neither products nor sums before the end of a row, as the
-// library does. Each round times the four in turn, and the medians are compared. All four must end in the same state.
+// library does. All four must end in the same state.
+mod measure;
+
+use measure::{compare, Way};
 use std::hint::black_box;
-use std::time::Instant;
 
 extern "C" {
     fn tuilarder_permute(state: *mut [u32; 24]) -> u32;
@@ -124,43 +126,21 @@ fn halves_row(row: &[u32], state: &[u32; 24]) -> u32 {
     ((high * 268435454 + low) % P) as u32
 }
 
-fn nanoseconds(calls: u32, state: &mut [u32; 24], permutation: &dyn Fn(&mut [u32; 24])) -> f64 {
-    let start = Instant::now();
-    for _ in 0..calls {
-        permutation(black_box(state));
-    }
-    start.elapsed().as_nanos() as f64 / calls as f64
-}
-
-fn median(mut times: Vec<f64>) -> f64 {
-    times.sort_by(f64::total_cmp);
-    times[times.len() / 2]
-}
-
 fn main() {
     let tables = Tables { constants: constants(), inverses: (24..71).map(|k| power(k, P - 2) as u32).collect() };
-    let library = |state: &mut [u32; 24]| assert_eq!(unsafe { tuilarder_permute(state) }, 0);
-    let plain = |state: &mut [u32; 24]| permute(&tables, state, plain_row);
-    let reduced_products = |state: &mut [u32; 24]| permute(&tables, state, reduced_products_row);
-    let halves = |state: &mut [u32; 24]| permute(&tables, state, halves_row);
-    let permutations: [(&str, &dyn Fn(&mut [u32; 24])); 4] = [
-        ("plain Rust, % for every operation", &plain),
-        ("Rust, sum of a row reduced once", &reduced_products),
-        ("Rust, one % for a row", &halves),
-        ("library", &library),
-    ];
-
-    let mut states = [[7u32; 24]; 4];
-    let mut times: [Vec<f64>; 4] = Default::default();
-    for _ in 0..41 {
-        for (k, (_, permutation)) in permutations.iter().enumerate() {
-            times[k].push(nanoseconds(200, &mut states[k], permutation));
-        }
-    }
-    assert!(states.iter().all(|state| *state == states[0]));
-    let medians = times.map(median);
-    println!("{:36}{:>9}   library's speed", "one permutation", "ns");
-    for (k, (name, _)) in permutations.iter().enumerate() {
-        println!("{:36}{:>9.0}   {:.2} times", name, medians[k], medians[k] / medians[3]);
-    }
+    let [mut plain, mut reduced_products, mut halves, mut library] = [[7u32; 24]; 4];
+    compare(
+        "one permutation",
+        200,
+        &mut [
+            Way { name: "plain Rust, % for every operation", call: &mut || permute(&tables, black_box(&mut plain), plain_row) },
+            Way {
+                name: "Rust, sum of a row reduced once",
+                call: &mut || permute(&tables, black_box(&mut reduced_products), reduced_products_row),
+            },
+            Way { name: "Rust, one % for a row", call: &mut || permute(&tables, black_box(&mut halves), halves_row) },
+            Way { name: "library", call: &mut || assert_eq!(unsafe { tuilarder_permute(black_box(&mut library)) }, 0) },
+        ],
+    );
+    assert!([plain, reduced_products, halves].iter().all(|state| *state == library));
 }

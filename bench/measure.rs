@@ -1,0 +1,35 @@
+// Times several ways to do one job, in one run.
+use std::time::Instant;
+
+pub struct Way<'a> {
+    pub name: &'a str,
+    pub call: &'a mut dyn FnMut(),
+}
+
+fn nanoseconds(calls: u32, call: &mut dyn FnMut()) -> f64 {
+    let start = Instant::now();
+    for _ in 0..calls {
+        call();
+    }
+    start.elapsed().as_nanos() as f64 / calls as f64
+}
+
+fn median(mut times: Vec<f64>) -> f64 {
+    times.sort_by(f64::total_cmp);
+    times[times.len() / 2]
+}
+
+// Each of 41 rounds times the ways in turn; the medians are compared with that of the last way, which is the library.
+pub fn compare(job: &str, calls: u32, ways: &mut [Way]) {
+    let mut times = vec![Vec::new(); ways.len()];
+    for _ in 0..41 {
+        for (times, way) in times.iter_mut().zip(ways.iter_mut()) {
+            times.push(nanoseconds(calls, way.call));
+        }
+    }
+    let medians: Vec<f64> = times.into_iter().map(median).collect();
+    println!("{job:44}{:>9}   library's speed", "ns");
+    for (way, time) in ways.iter().zip(&medians) {
+        println!("{:44}{time:>9.0}   {:.2} times", way.name, time / medians[ways.len() - 1]);
+    }
+}
