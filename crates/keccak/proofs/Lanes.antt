@@ -5,11 +5,11 @@ use mathlib.Core.List.{List, [], _∷_, _++_}
 use Prim.Native.Nat.{ℕ, zero, suc, _+_, _*_, _^_, _≤_, _<_}
 use native.Mathlib.Nat.{add-zero, add-assoc}
 use native.Mathlib.Omega.{arith}
-use lib.ListN.{length, getD, take, drop, replicate, List·getD-eq-default, length-take}
+use lib.ListN.{length, getD, drop, replicate, List·getD-eq-default, length-take}
 use lib.Seq.{getD-take, getD-drop}
 use Rattle.basics.specs.Lists.{sum}
 use Rattle.basics.proofs.Sums.{sum-same}
-use Rattle.keccak.specs.Sponge.{padded, laneAt}
+use Rattle.keccak.specs.Sponge.{padded, laneAt, block}
 use Rattle.keccak.specs.Steps.{littleEndian}
 use Rattle.keccak.proofs.Padding.{in-message}
 
@@ -44,21 +44,22 @@ zeros-behind [] n i = zeros n i
 zeros-behind (x ∷ s) n zero = refl
 zeros-behind (x ∷ s) n (suc i) = zeros-behind s n i
 
--- the lane i of a block that begins at the byte o
-pub block-lane : (p : List ℕ) (o i : ℕ) → i < 17 → laneAt p (o + 8 * i) ≡ laneAt (take 136 (drop o p) ++ replicate 64 0) (8 * i)
-block-lane p o i h =
-    same-lane p (take 136 (drop o p) ++ replicate 64 0) (o + 8 * i) (8 * i)
+-- the lane i of the block n
+pub block-lane : (p : List ℕ) (n i : ℕ) → i < 17 → laneAt p (136 * n + 8 * i) ≡ laneAt (block p n ++ replicate 64 0) (8 * i)
+block-lane p n i h =
+    same-lane p (block p n ++ replicate 64 0) (136 * n + 8 * i) (8 * i)
     (λ j below.
-    ap (λ (k : ℕ). getD p k 0) (add-assoc o (8 * i) j)
-    ∙ sym (zeros-behind (take 136 (drop o p)) 64 (8 * i + j)
-    ∙ getD-take 136 (drop o p) (8 * i + j) 0 (omega arith)
-    ∙ getD-drop o p (8 * i + j) 0))
+    ap (λ (k : ℕ). getD p k 0) (add-assoc (136 * n) (8 * i) j)
+    ∙ sym
+    (zeros-behind (block p n) 64 (8 * i + j)
+    ∙ getD-take 136 (drop (136 * n) p) (8 * i + j) 0 (omega arith)
+    ∙ getD-drop (136 * n) p (8 * i + j) 0))
 
--- past the block are the capacity's zeros
-pub past-block : (p : List ℕ) (o i : ℕ) → 17 ≤ i → laneAt (take 136 (drop o p) ++ replicate 64 0) (8 * i) ≡ 0
+-- behind it are the capacity's zeros
+pub capacity-lane : (p : List ℕ) (n i : ℕ) → 17 ≤ i → laneAt (block p n ++ replicate 64 0) (8 * i) ≡ 0
 unfolding sum laneAt
-past-block p o i h =
-    same-lane (take 136 (drop o p) ++ replicate 64 0) [] (8 * i) 0
+capacity-lane p n i h =
+    same-lane (block p n ++ replicate 64 0) [] (8 * i) 0
     (λ j below.
-    zeros-behind (take 136 (drop o p)) 64 (8 * i + j)
-    ∙ List·getD-eq-default (take 136 (drop o p)) 0 (omega (arith, length-take 136 (drop o p))))
+    zeros-behind (block p n) 64 (8 * i + j)
+    ∙ List·getD-eq-default (block p n) 0 (omega (arith, length-take 136 (drop (136 * n) p))))

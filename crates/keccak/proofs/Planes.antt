@@ -2,7 +2,7 @@
 -- Assumes nothing.
 use mathlib.Core.Path.{_≡_, _∙_, refl, sym}
 use mathlib.Core.List.{List, [], _∷_}
-use Prim.Native.Nat.{ℕ}
+use Prim.Native.Nat.{ℕ, zero, suc, _<_}
 use native.Mathlib.Omega.{arith}
 use lib.ListN.{length, getD}
 use Rattle.basics.specs.Lists.{tabulate}
@@ -18,6 +18,14 @@ is-plane (a ∷ b ∷ c ∷ []) h = absurd (omega arith)
 is-plane (a ∷ b ∷ c ∷ d ∷ []) h = absurd (omega arith)
 is-plane (a ∷ b ∷ c ∷ d ∷ e ∷ []) h = refl
 is-plane (a ∷ b ∷ c ∷ d ∷ e ∷ f ∷ l) h = absurd (omega arith)
+
+pub plane-at : (f : ℕ → ℕ) (x : ℕ) → x < 5 → getD (plane f) x 0 ≡ f x
+plane-at f zero h = refl
+plane-at f (suc zero) h = refl
+plane-at f (suc (suc zero)) h = refl
+plane-at f (suc (suc (suc zero))) h = refl
+plane-at f (suc (suc (suc (suc zero)))) h = refl
+plane-at f (suc (suc (suc (suc (suc x))))) h = absurd (omega arith)
 
 -- a plane by its five lanes
 pub by-lanes : {v0 v1 v2 v3 v4 w0 w1 w2 w3 w4 : ℕ}

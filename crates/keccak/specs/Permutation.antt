@@ -36,21 +36,33 @@ parity a x = lane a x 0 ⊕ lane a x 1 ⊕ lane a x 2 ⊕ lane a x 3 ⊕ lane a 
 unfoldable pub effect : List ℕ → ℕ → ℕ
 effect a x = parity a (x + 4) ⊕ rotate (parity a (x + 1)) 1
 
--- 3.2.1, step 3
+-- 3.2.1, step 3: A'[x, y]
+abbrev pub thetaLane : List ℕ → ℕ → ℕ → ℕ
+thetaLane a x y = lane a x y ⊕ effect a x
+
 unfoldable pub theta : List ℕ → List ℕ
-theta a = state (λ x y. lane a x y ⊕ effect a x)
+theta a = state (thetaLane a)
 
--- 3.2.2
+-- 3.2.2, with table 2 in the place of the steps: A'[x, y]
+abbrev pub rhoLane : List ℕ → ℕ → ℕ → ℕ
+rhoLane a x y = rotate (lane a x y) (lane offsets x y)
+
 unfoldable pub rho : List ℕ → List ℕ
-rho a = state (λ x y. rotate (lane a x y) (lane offsets x y))
+rho a = state (rhoLane a)
 
--- 3.2.3
+-- 3.2.3: A'[x, y]
+abbrev pub piLane : List ℕ → ℕ → ℕ → ℕ
+piLane a x y = lane a (x + 3 * y) x
+
 unfoldable pub pi : List ℕ → List ℕ
-pi a = state (λ x y. lane a (x + 3 * y) x)
+pi a = state (piLane a)
 
--- 3.2.4
+-- 3.2.4: A'[x, y]
+abbrev pub chiLane : List ℕ → ℕ → ℕ → ℕ
+chiLane a x y = lane a x y ⊕ bitAnd (complement (lane a (x + 1) y)) (lane a (x + 2) y)
+
 unfoldable pub chi : List ℕ → List ℕ
-chi a = state (λ x y. lane a x y ⊕ bitAnd (complement (lane a (x + 1) y)) (lane a (x + 2) y))
+chi a = state (chiLane a)
 
 -- 3.2.5, algorithm 6: the round constant is added to A[0, 0]
 unfoldable pub iota : List ℕ → ℕ → List ℕ

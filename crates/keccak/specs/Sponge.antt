@@ -21,14 +21,21 @@ padded m = m ++ bytes (0 ∷ 1 ∷ pad10*1 1088 (8 * length m + 2))
 unfoldable pub laneAt : List ℕ → ℕ → ℕ
 laneAt s k = sum 8 (λ j. getD s (k + j) 0 * 2 ^ (8 * j))
 
--- 4, algorithm 8, step 6: a block of 136 bytes, with the capacity's 64 zero bytes behind it, is added to the state
+-- 4, algorithm 8, step 4: the block n of a padded message
+abbrev pub block : List ℕ → ℕ → List ℕ
+block p n = take 136 (drop (136 * n) p)
+
+-- 4, algorithm 8, step 6: the lane i of S ⊕ (P ‖ 0^c), where P is a block and 0^c the 64 zero bytes of the capacity
+abbrev pub addedLane : List ℕ → List ℕ → ℕ → ℕ
+addedLane s p i = getD s i 0 ⊕ laneAt (p ++ replicate 64 0) (8 * i)
+
 unfoldable pub addBlock : List ℕ → List ℕ → List ℕ
-addBlock a block = tabulate 25 (λ i. getD a i 0 ⊕ laneAt (block ++ replicate 64 0) (8 * i))
+addBlock s p = tabulate 25 (addedLane s p)
 
 -- 4, algorithm 8, steps 5 and 6: the state after the first n blocks
 unfoldable pub absorb : List ℕ → ℕ → List ℕ
 absorb p zero = replicate 25 0
-absorb p (suc n) = permutation (addBlock (absorb p n) (take 136 (drop (136 * n) p)))
+absorb p (suc n) = permutation (addBlock (absorb p n) (block p n))
 
 -- 3.1.3, B.1: the byte i of the state
 unfoldable pub byteOf : List ℕ → ℕ → ℕ

@@ -4,9 +4,9 @@ mod tables;
 
 ghost use mathlib.Core.Path.{_≡_};
 ghost use Prim.Native.Nat.{_+_, _*_, _≤_, _<_};
-ghost use lib.ListN.{length, getD, take, drop};
-ghost use Rattle.keccak.specs.Sponge.{padded, laneAt, addBlock, byteOf, squeeze, sha3};
-ghost use Rattle.keccak.specs.Steps.{littleEndian, blockLane};
+ghost use lib.ListN.{length, getD};
+ghost use Rattle.keccak.specs.Sponge.{padded, laneAt, block, addedLane, addBlock, byteOf, squeeze, sha3};
+ghost use Rattle.keccak.specs.Steps.{littleEndian};
 
 // The bytes of a block: 1088 bits, which with the capacity of 512 bits are the state.
 const RATE: usize = 136;
@@ -90,10 +90,10 @@ fn padded_lane(data: &[u8], k: usize) -> u64
     padding_lane(data, k)
 }
 
-// The lane i of the state with the block n added, which ends before the capacity.
-fn block_lane(a: &[u64; 25], data: &[u8], n: usize, i: usize) -> u64
+// The lane i of the state with the block n added: 17 lanes, and then the capacity.
+fn added_lane(a: &[u64; 25], data: &[u8], n: usize, i: usize) -> u64
     requires { ⌜ (i < 25) × (136 * n ≤ length (now «data»)) ⌝ }
-    ensures { λ r. ⌜ r ≡ blockLane (now (a .entry)) (padded (now («data» .entry))) n i ⌝ }
+    ensures { λ r. ⌜ r ≡ addedLane (now (a .entry)) (block (padded (now («data» .entry))) n) i ⌝ }
 {
     if i < 17 {
         return a[i] ^ padded_lane(data, 136 * n + 8 * i);
@@ -103,11 +103,11 @@ fn block_lane(a: &[u64; 25], data: &[u8], n: usize, i: usize) -> u64
 
 fn add_block(a: [u64; 25], data: &[u8], n: usize) -> [u64; 25]
     requires { ⌜ 136 * n ≤ length (now «data») ⌝ }
-    ensures { λ r. ⌜ r ≡ addBlock a (take 136 (drop (136 * n) (padded (now («data» .entry))))) ⌝ }
+    ensures { λ r. ⌜ r ≡ addBlock a (block (padded (now («data» .entry))) n) ⌝ }
 {
     let mut out = [0u64; 25];
     for i in 0..25 {
-        out[i] = block_lane(&a, data, n, i);
+        out[i] = added_lane(&a, data, n, i);
     }
     out
 }

@@ -3,8 +3,9 @@
 ghost use mathlib.Core.Path.{_≡_};
 ghost use Prim.Native.Nat.{_+_, _*_, _%_, _<_};
 ghost use lib.ListN.{getD};
-ghost use Rattle.keccak.specs.Permutation.{lane, _⊕_, rotate, parity, effect, theta, rho, pi, chi, iota, permutation};
-ghost use Rattle.keccak.specs.Steps.{plane, ofPlanes, effectOf, thetaLane, rhoLane, piLane, chiLane};
+ghost use Rattle.keccak.specs.Permutation.{lane, rotate, parity, effect, thetaLane, theta, rhoLane, rho, piLane, pi, chiLane, chi, iota, permutation};
+ghost use Rattle.keccak.specs.Steps.{plane, ofPlanes, effectOf};
+ghost use Rattle.keccak.specs.Tables.{offsets};
 
 // The lane x, y, coordinates modulo 5.
 fn lane(a: &[u64; 25], x: usize, y: usize) -> u64
@@ -56,6 +57,7 @@ fn of_planes(p: [u64; 5], q: [u64; 5], r: [u64; 5], s: [u64; 5], t: [u64; 5]) ->
     ]
 }
 
+// C[x] of theta.
 fn parity(a: &[u64; 25], x: usize) -> u64
     ensures { λ r. ⌜ r ≡ parity (now (a .entry)) x ⌝ }
 {
@@ -74,6 +76,7 @@ fn parities(a: &[u64; 25]) -> [u64; 5]
     ]
 }
 
+// D[x] of theta, from the parities C.
 fn effect(c: &[u64; 5], x: usize) -> u64
     requires { ⌜ x < 5 ⌝ }
     ensures { λ r. ⌜ r ≡ effectOf (now (c .entry)) x ⌝ }
@@ -94,15 +97,17 @@ fn effects(a: &[u64; 25]) -> [u64; 5]
     ]
 }
 
+// From the effects D, which the five planes share.
 fn theta_lane(a: &[u64; 25], d: &[u64; 5], x: usize, y: usize) -> u64
-    requires { ⌜ x < 5 ⌝ }
-    ensures { λ r. ⌜ r ≡ thetaLane (now (a .entry)) (now (d .entry)) x y ⌝ }
+    requires { ⌜ (x < 5) × (now d ≡ plane (effect (now a))) ⌝ }
+    ensures { λ r. ⌜ r ≡ thetaLane (now (a .entry)) x y ⌝ }
 {
     lane(a, x, y) ^ d[x]
 }
 
 fn theta_plane(a: &[u64; 25], d: &[u64; 5], y: usize) -> [u64; 5]
-    ensures { λ r. ⌜ r ≡ plane (λ x. thetaLane (now (a .entry)) (now (d .entry)) x y) ⌝ }
+    requires { ⌜ now d ≡ plane (effect (now a)) ⌝ }
+    ensures { λ r. ⌜ r ≡ plane (λ x. thetaLane (now (a .entry)) x y) ⌝ }
 {
     [
         theta_lane(a, d, 0, y),
@@ -126,34 +131,36 @@ fn theta(a: [u64; 25]) -> [u64; 25]
     )
 }
 
-fn rho_lane(a: &[u64; 25], offsets: &[u64; 25], x: usize, y: usize) -> u64
-    ensures { λ r. ⌜ r ≡ rhoLane (now (a .entry)) (now (offsets .entry)) x y ⌝ }
+fn rho_lane(a: &[u64; 25], table: &[u64; 25], x: usize, y: usize) -> u64
+    requires { ⌜ now table ≡ offsets ⌝ }
+    ensures { λ r. ⌜ r ≡ rhoLane (now (a .entry)) x y ⌝ }
 {
-    rotate(lane(a, x, y), lane(offsets, x, y))
+    rotate(lane(a, x, y), lane(table, x, y))
 }
 
-fn rho_plane(a: &[u64; 25], offsets: &[u64; 25], y: usize) -> [u64; 5]
-    ensures { λ r. ⌜ r ≡ plane (λ x. rhoLane (now (a .entry)) (now (offsets .entry)) x y) ⌝ }
+fn rho_plane(a: &[u64; 25], table: &[u64; 25], y: usize) -> [u64; 5]
+    requires { ⌜ now table ≡ offsets ⌝ }
+    ensures { λ r. ⌜ r ≡ plane (λ x. rhoLane (now (a .entry)) x y) ⌝ }
 {
     [
-        rho_lane(a, offsets, 0, y),
-        rho_lane(a, offsets, 1, y),
-        rho_lane(a, offsets, 2, y),
-        rho_lane(a, offsets, 3, y),
-        rho_lane(a, offsets, 4, y),
+        rho_lane(a, table, 0, y),
+        rho_lane(a, table, 1, y),
+        rho_lane(a, table, 2, y),
+        rho_lane(a, table, 3, y),
+        rho_lane(a, table, 4, y),
     ]
 }
 
 fn rho(a: [u64; 25]) -> [u64; 25]
     ensures { λ r. ⌜ r ≡ rho a ⌝ }
 {
-    let offsets = super::tables::OFFSETS;
+    let table = super::tables::offsets();
     of_planes(
-        rho_plane(&a, &offsets, 0),
-        rho_plane(&a, &offsets, 1),
-        rho_plane(&a, &offsets, 2),
-        rho_plane(&a, &offsets, 3),
-        rho_plane(&a, &offsets, 4),
+        rho_plane(&a, &table, 0),
+        rho_plane(&a, &table, 1),
+        rho_plane(&a, &table, 2),
+        rho_plane(&a, &table, 3),
+        rho_plane(&a, &table, 4),
     )
 }
 
@@ -226,11 +233,10 @@ fn round(a: [u64; 25], constant: u64) -> [u64; 25]
     iota(chi(pi(rho(theta(a)))), constant)
 }
 
-// The table is read once, since each use of one copies it.
 pub fn permute(mut a: [u64; 25]) -> [u64; 25]
     ensures { λ r. ⌜ r ≡ permutation a ⌝ }
 {
-    let constants = super::tables::ROUND_CONSTANTS;
+    let constants = super::tables::round_constants();
     for i in 0..24 {
         let next = round(a, constants[i]);
         a = next;

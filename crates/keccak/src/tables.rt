@@ -1,7 +1,8 @@
-// The tables of the permutation: specs/Tables.antt, once more for the code.
+// The tables of the permutation.
+ghost use mathlib.Core.Path.{_≡_};
+ghost use Rattle.keccak.specs.Tables.{offsets, roundConstants};
 
-// By how many places rho rotates each lane, the lane x, y at x + 5 y.
-pub const OFFSETS: [u64; 25] = [
+const OFFSETS: [u64; 25] = [
     0,
     1,
     190,
@@ -29,7 +30,7 @@ pub const OFFSETS: [u64; 25] = [
     78,
 ];
 
-pub const ROUND_CONSTANTS: [u64; 24] = [
+const ROUND_CONSTANTS: [u64; 24] = [
     0x0000000000000001,
     0x0000000000008082,
     0x800000000000808a,
@@ -55,3 +56,16 @@ pub const ROUND_CONSTANTS: [u64; 24] = [
     0x0000000080000001,
     0x8000000080008008,
 ];
+
+// By how many places rho rotates each lane, the lane x, y at x + 5 y.
+pub fn offsets() -> [u64; 25]
+    ensures { λ r. ⌜ r ≡ offsets ⌝ }
+{
+    OFFSETS
+}
+
+pub fn round_constants() -> [u64; 24]
+    ensures { λ r. ⌜ r ≡ roundConstants ⌝ }
+{
+    ROUND_CONSTANTS
+}

@@ -2,14 +2,13 @@
 -- Assumes nothing.
 use borrow.Author.Needs.{needs}
 use Prim.Native.Nat.{_-_}
-use Rattle.keccak.specs.Sponge.{padded, addBlock}
-use Rattle.keccak.specs.Steps.{blockLane}
+use Rattle.keccak.specs.Sponge.{padded, block, addedLane, addBlock}
 use Rattle.basics.proofs.Fill.{Filled, start, step, end}
 use Rattle.keccak.proofs.add_block.Statement.{statement}
 use Rattle.keccak.proofs.add_block.Tie as tie
 
 abbrev Inv-loop : tie.InvT-loop
-Inv-loop «data» n a out₀ i₀ out i = Filled 25 (blockLane a (padded «data») n) out i
+Inv-loop «data» n a out₀ i₀ out i = Filled 25 (addedLane a (block (padded «data») n)) out i
 
 abbrev μ-loop : tie.MeasureT-loop
 μ-loop «data» n a out₀ i₀ out i = 25 - i
@@ -18,7 +17,7 @@ loop-holds : tie.Need-loop-holds Inv-loop μ-loop
 loop-holds c = start _ _ _ (search needs)
 
 loop-again : tie.Need-loop-again Inv-loop μ-loop
-loop-again c = step _ (c .before .before .before .loop .inv) (search needs) (c .block-lane .ensures)
+loop-again c = step _ (c .before .before .before .loop .inv) (search needs) (c .added-lane .ensures)
 
 returns : tie.Need-returns Inv-loop μ-loop
 unfolding addBlock

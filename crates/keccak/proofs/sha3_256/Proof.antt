@@ -3,12 +3,12 @@
 use borrow.Author.Needs.{needs}
 use mathlib.Core.Path.{_≡_, _∙_, refl, ap}
 use mathlib.Core.List.{List}
-use Prim.Native.Nat.{ℕ, _+_, _-_, _*_, _/_, _≤_}
+use Prim.Native.Nat.{ℕ, _-_, _/_, _≤_}
 use native.Mathlib.Numerals.{add-one}
 use native.Mathlib.Omega.{arith}
-use lib.ListN.{length, take, drop}
+use lib.ListN.{length}
 use Rattle.keccak.specs.Permutation.{permutation}
-use Rattle.keccak.specs.Sponge.{padded, addBlock, absorb, squeeze, sha3}
+use Rattle.keccak.specs.Sponge.{padded, block, addBlock, absorb, squeeze, sha3}
 use Rattle.keccak.proofs.Padding.{blocks-padded}
 use Rattle.keccak.proofs.sha3_256.Statement.{statement}
 use Rattle.keccak.proofs.sha3_256.Tie as tie
@@ -34,7 +34,7 @@ loop-again c =
           (c .permute .ensures
           ∙ ap permutation
           (c .before .add-block .ensures
-          ∙ ap (λ (a : List ℕ). addBlock a (take 136 (drop (136 * n) (padded m)))) (at-loop .loop .inv .1))),
+          ∙ ap (λ (a : List ℕ). addBlock a (block (padded m) n)) (at-loop .loop .inv .1))),
     )
 
 returns : tie.Need-returns Inv-loop μ-loop

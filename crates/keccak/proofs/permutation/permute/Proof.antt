@@ -7,8 +7,7 @@ use Prim.Native.Nat.{ℕ, _-_, _≤_}
 use native.Mathlib.Numerals.{add-one}
 use native.Mathlib.Omega.{arith}
 use lib.ListN.{getD}
-use Rattle.keccak.specs.Tables.{roundConstants}
-use Rattle.keccak.specs.Permutation.{round, rounds, permutation}
+use Rattle.keccak.specs.Permutation.{theta, rho, pi, chi, iota, round, rounds, permutation}
 use Rattle.keccak.proofs.permutation.permute.Statement.{statement}
 use Rattle.keccak.proofs.permutation.permute.Tie as tie
 
@@ -23,10 +22,16 @@ unfolding rounds
 loop-holds c = (search needs, refl)
 
 loop-again : tie.Need-loop-again Inv-loop μ-loop
-unfolding rounds round roundConstants
+unfolding rounds round
 loop-again c =
     let at-loop = c .before .before .loop in
-    (search needs, rw add-one (c .round .ensures ∙ ap (λ (a : List ℕ). round a (at-loop .i)) (at-loop .inv .1)))
+    let constants = c .before .before .before .round-constants .ensures in (
+      search needs,
+      rw add-one
+          (c .round .ensures
+          ∙ ap (λ (table : List ℕ). iota (chi (pi (rho (theta (at-loop .a))))) (getD table (at-loop .i) 0)) constants
+          ∙ ap (λ (a : List ℕ). round a (at-loop .i)) (at-loop .inv .1)),
+    )
 
 returns : tie.Need-returns Inv-loop μ-loop
 unfolding permutation
@@ -41,6 +46,7 @@ permute-spec =
     (tie.spec
     Inv-loop
     μ-loop
+    (λ c κs. search needs)
     loop-holds
     (λ c. search needs)
     (λ c. search needs)

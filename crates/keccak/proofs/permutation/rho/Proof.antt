@@ -2,13 +2,12 @@
 -- Assumes nothing.
 use borrow.Author.Needs.{needs}
 use Rattle.keccak.specs.Permutation.{rho}
-use Rattle.keccak.specs.Tables.{offsets}
 use Rattle.keccak.proofs.Planes.{by-planes}
 use Rattle.keccak.proofs.permutation.rho.Statement.{statement}
 use Rattle.keccak.proofs.permutation.rho.Tie as tie
 
 returns : tie.Need-returns
-unfolding rho offsets
+unfolding rho
 returns c =
     by-planes _
     (c .of-planes .ensures)
@@ -22,6 +21,7 @@ pub rho-spec : {M : Type 1} → statement M
 rho-spec =
     tie.close
     (tie.spec
+    (λ c κs. search needs)
     (λ c κs. search needs)
     (λ c κs. search needs)
     (λ c κs. search needs)

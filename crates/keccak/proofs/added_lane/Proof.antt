@@ -1,27 +1,27 @@
--- `keccak::block_lane` meets its contract.
+-- `keccak::added_lane` meets its contract.
 -- Assumes nothing.
 use borrow.Author.Needs.{needs}
 use mathlib.Core.Path.{_∙_, sym, ap}
-use Prim.Native.Nat.{_*_}
+use native.Mathlib.Omega.{arith}
 use lib.Bits.{bitXor, xor-zero-r}
 use lib.ListN.{getD}
 use Rattle.keccak.specs.Sponge.{padded}
-use Rattle.keccak.proofs.Lanes.{block-lane, past-block}
-use Rattle.keccak.proofs.block_lane.Statement.{statement}
-use Rattle.keccak.proofs.block_lane.Tie as tie
+use Rattle.keccak.proofs.Lanes.{block-lane, capacity-lane}
+use Rattle.keccak.proofs.added_lane.Statement.{statement}
+use Rattle.keccak.proofs.added_lane.Tie as tie
 
 returns : tie.Need-returns
 returns c =
     let args = c .before .before .before .before .args in
-    ap (bitXor (getD (args .a .now) (args .i) 0)) (c .padded-lane .ensures ∙ block-lane (padded (args .«data» .now)) (136 * args .n) (args .i) (search needs))
+    ap (bitXor (getD (args .a .now) (args .i) 0)) (c .padded-lane .ensures ∙ block-lane (padded (args .«data» .now)) (args .n) (args .i) (omega arith))
 
 returns-2 : tie.Need-returns-2
 returns-2 c =
     let args = c .before .before .before .args in
-    sym (ap (bitXor (getD (args .a .now) (args .i) 0)) (past-block (padded (args .«data» .now)) (136 * args .n) (args .i) (search needs)) ∙ xor-zero-r _)
+    sym (ap (bitXor (getD (args .a .now) (args .i) 0)) (capacity-lane (padded (args .«data» .now)) (args .n) (args .i) (omega arith)) ∙ xor-zero-r _)
 
-pub block-lane-spec : {M : Type 1} → statement M
-block-lane-spec =
+pub added-lane-spec : {M : Type 1} → statement M
+added-lane-spec =
     tie.close
     (tie.spec
     (λ c. search needs)
