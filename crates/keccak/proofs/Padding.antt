@@ -1,6 +1,6 @@
 -- The padded message by bytes: the bits 01 1 0 .. 0 1 are 0x06, zeros and 0x80, or 0x86 where one byte is left (FIPS 202, B.2).
 -- Assumes nothing.
-use mathlib.Core.Path.{_≡_, _∙_, refl, sym, ap, ap₂}
+use mathlib.Core.Path.{_≡_, _∙_, refl, sym, ap}
 use mathlib.Core.List.{List, [], _∷_, _++_}
 use Prim.Native.Nat.{ℕ, zero, suc, _+_, _-_, _*_, _/_, _%_, _^_, _≤_, _<_}
 use native.Mathlib.Nat.{not-suc-le-zero, lt-of-not-le, le-of-suc-le-suc}
@@ -15,7 +15,7 @@ use Rattle.basics.proofs.Sums.{sum-same}
 use Rattle.keccak.specs.Sponge.{bytes, pad10*1, padded}
 
 -- k bytes of padding, as table 6 of B.2 writes them
-unfoldable padding : ℕ → List ℕ
+unfoldable pub padding : ℕ → List ℕ
 padding zero = []
 padding (suc zero) = 0x86 ∷ []
 padding (suc (suc k)) = 0x06 ∷ replicate k 0 ++ (0x80 ∷ [])
@@ -59,12 +59,14 @@ padding-bytes (suc k) =
     rw (e, ← replicate-append-replicate 5 n)
     (bytes-cons 0 1 1 0 0 0 0 0 (replicate n 0 ++ (1 ∷ [])) ∙ ap (λ (l : List ℕ). 0x06 ∷ l) (zeros-then-one k))
 
-padded-bytes : (m : List ℕ) → padded m ≡ m ++ padding (suc (135 - length m % 136))
+-- the padding is B.2's, of 136 - length m % 136 bytes
+pub padded-bytes : (m : List ℕ) → padded m ≡ m ++ padding (136 - length m % 136)
 unfolding padded pad10*1
 padded-bytes m =
     let k = 135 - length m % 136 in
+    let size : 136 - length m % 136 ≡ suc k = omega arith in
     let zeros : (1088 - (8 * length m + 2 + 2) % 1088) % 1088 ≡ 8 * k + 4 = omega arith in
-    rw zeros (ap (λ (l : List ℕ). m ++ l) (padding-bytes k))
+    rw (size, zeros) (ap (λ (l : List ℕ). m ++ l) (padding-bytes k))
 
 length-padding : (k : ℕ) → length (padding k) ≡ k
 unfolding padding
@@ -79,11 +81,11 @@ blocks-padded m = rw (padded-bytes m, length-append, length-padding) (omega arit
 -- ---- the padded message, byte by byte
 
 pub in-message : (m : List ℕ) (i : ℕ) → i < length m → getD (padded m) i 0 ≡ getD m i 0
-in-message m i h = rw (padded-bytes m) (List·getD-append m (padding (suc (135 - length m % 136))) 0 i h)
+in-message m i h = rw (padded-bytes m) (List·getD-append m (padding (136 - length m % 136)) 0 i h)
 
 -- the byte j of the padding
-behind : (m : List ℕ) (i j : ℕ) → i ≡ length m + j → getD (padded m) i 0 ≡ getD (padding (suc (135 - length m % 136))) j 0
-behind m i j e = rw (padded-bytes m, e) (getD-append-add m (padding (suc (135 - length m % 136))) j 0)
+behind : (m : List ℕ) (i j : ℕ) → i ≡ length m + j → getD (padded m) i 0 ≡ getD (padding (136 - length m % 136)) j 0
+behind m i j e = rw (padded-bytes m, e) (getD-append-add m (padding (136 - length m % 136)) j 0)
 
 only : (k : ℕ) → k ≡ 1 → getD (padding k) 0 0 ≡ 0x86
 unfolding padding

@@ -11,7 +11,7 @@ use Rattle.keccak.specs.Tables.{offsets, roundConstants}
 abbrev pub lane : List ℕ → ℕ → ℕ → ℕ
 lane a x y = getD a (x % 5 + 5 * (y % 5)) 0
 
--- the state whose lane x, y is f x y
+-- 3.1.2: the state whose lane A[x, y] is f x y
 unfoldable pub state : (ℕ → ℕ → ℕ) → List ℕ
 state f = tabulate 25 (λ i. f (i % 5) (i / 5))
 
@@ -20,11 +20,11 @@ infixl 40 _⊕_
 abbrev pub _⊕_ : ℕ → ℕ → ℕ
 x ⊕ y = bitXor x y
 
--- every bit ⊕ 1
+-- 3.2.4: every bit ⊕ 1
 abbrev pub complement : ℕ → ℕ
 complement x = 2 ^ 64 - 1 - x
 
--- rotation to the left: bit z goes to bit (z + n) mod 64
+-- 3.2.1, 3.2.2: rotation to the left; bit z goes to bit (z + n) mod 64
 unfoldable pub rotate : ℕ → ℕ → ℕ
 rotate x n = x * 2 ^ (n % 64) % 2 ^ 64 + x / 2 ^ (64 - n % 64)
 
@@ -32,7 +32,7 @@ rotate x n = x * 2 ^ (n % 64) % 2 ^ 64 + x / 2 ^ (64 - n % 64)
 unfoldable pub parity : List ℕ → ℕ → ℕ
 parity a x = lane a x 0 ⊕ lane a x 1 ⊕ lane a x 2 ⊕ lane a x 3 ⊕ lane a x 4
 
--- 3.2.1, step 2: D[x], of C[x - 1] and C[x + 1]
+-- 3.2.1, step 2: D[x], of C[x - 1] and C[x + 1], x modulo 5
 unfoldable pub effect : List ℕ → ℕ → ℕ
 effect a x = parity a (x + 4) ⊕ rotate (parity a (x + 1)) 1
 
@@ -40,13 +40,15 @@ effect a x = parity a (x + 4) ⊕ rotate (parity a (x + 1)) 1
 abbrev pub thetaLane : List ℕ → ℕ → ℕ → ℕ
 thetaLane a x y = lane a x y ⊕ effect a x
 
+-- 3.2.1, algorithm 1
 unfoldable pub theta : List ℕ → List ℕ
 theta a = state (thetaLane a)
 
--- 3.2.2, with table 2 in the place of the steps: A'[x, y]
+-- 3.2.2: A'[x, y], its offset read from table 2
 abbrev pub rhoLane : List ℕ → ℕ → ℕ → ℕ
 rhoLane a x y = rotate (lane a x y) (lane offsets x y)
 
+-- 3.2.2, algorithm 2
 unfoldable pub rho : List ℕ → List ℕ
 rho a = state (rhoLane a)
 
@@ -54,6 +56,7 @@ rho a = state (rhoLane a)
 abbrev pub piLane : List ℕ → ℕ → ℕ → ℕ
 piLane a x y = lane a (x + 3 * y) x
 
+-- 3.2.3, algorithm 3
 unfoldable pub pi : List ℕ → List ℕ
 pi a = state (piLane a)
 
@@ -61,6 +64,7 @@ pi a = state (piLane a)
 abbrev pub chiLane : List ℕ → ℕ → ℕ → ℕ
 chiLane a x y = lane a x y ⊕ bitAnd (complement (lane a (x + 1) y)) (lane a (x + 2) y)
 
+-- 3.2.4, algorithm 4
 unfoldable pub chi : List ℕ → List ℕ
 chi a = state (chiLane a)
 
@@ -68,7 +72,7 @@ chi a = state (chiLane a)
 unfoldable pub iota : List ℕ → ℕ → List ℕ
 iota a constant = set a 0 (lane a 0 0 ⊕ constant)
 
--- 3.3: the round i
+-- 3.3: Rnd, the round i
 unfoldable pub round : List ℕ → ℕ → List ℕ
 round a i = iota (chi (pi (rho (theta a)))) (getD roundConstants i 0)
 

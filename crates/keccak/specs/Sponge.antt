@@ -25,10 +25,11 @@ laneAt s k = sum 8 (λ j. getD s (k + j) 0 * 2 ^ (8 * j))
 abbrev pub block : List ℕ → ℕ → List ℕ
 block p n = take 136 (drop (136 * n) p)
 
--- 4, algorithm 8, step 6: the lane i of S ⊕ (P ‖ 0^c), where P is a block and 0^c the 64 zero bytes of the capacity
+-- 4, algorithm 8, step 6: the lane i of S ⊕ (P ‖ 0^c), where P is a block and 0^c are the 64 zero bytes of the capacity
 abbrev pub addedLane : List ℕ → List ℕ → ℕ → ℕ
 addedLane s p i = getD s i 0 ⊕ laneAt (p ++ replicate 64 0) (8 * i)
 
+-- 4, algorithm 8, step 6: S ⊕ (P ‖ 0^c)
 unfoldable pub addBlock : List ℕ → List ℕ → List ℕ
 addBlock s p = tabulate 25 (addedLane s p)
 
@@ -45,6 +46,6 @@ byteOf a i = getD a (i / 8) 0 / 2 ^ (8 * (i % 8)) % 256
 unfoldable pub squeeze : List ℕ → List ℕ
 squeeze a = tabulate 32 (byteOf a)
 
--- 6.1: SHA3-256
+-- 6.1, 4: SHA3-256, of the padded message's blocks of 136 bytes
 unfoldable pub sha3 : List ℕ → List ℕ
 sha3 m = squeeze (absorb (padded m) (length (padded m) / 136))

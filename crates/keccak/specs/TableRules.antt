@@ -1,5 +1,5 @@
--- FIPS 202's own rules for the tables of the permutation.
-use mathlib.Core.List.{List, [], _∷_}
+-- FIPS 202's own rules for the tables of the permutation. proofs/TablesByRule.antt proves that the tables are what they give.
+use mathlib.Core.List.{List, _∷_}
 use Prim.Native.Nat.{ℕ, zero, suc, _+_, _-_, _*_, _/_, _%_, _^_}
 use lib.ListN.{getD, take, set, replicate}
 use Rattle.basics.specs.Lists.{tabulate, sum}
@@ -13,11 +13,11 @@ walk (suc n) t x y table = walk n (t + 1) y ((2 * x + 3 * y) % 5) (set table (x 
 unfoldable pub offsetsByRule : List ℕ
 offsetsByRule = walk 24 0 1 0 (replicate 25 0)
 
--- R[i] = R[i] ⊕ R[8]; the exclusive or of two bits is the parity of their sum
+-- 3.2.5, algorithm 5, step 3: R[i] = R[i] ⊕ R[8]; the exclusive or of two bits is the parity of their sum
 unfoldable pub addBit8 : ℕ → List ℕ → List ℕ
 addBit8 i r = set r i ((getD r i 0 + getD r 8 0) % 2)
 
--- 3.2.5, algorithm 5, step 3: a zero in front, then bits 0, 4, 5 and 6, then the first eight bits
+-- 3.2.5, algorithm 5, step 3: a zero in front; then R[0], R[4], R[5] and R[6]; then the first eight bits
 unfoldable pub step : List ℕ → List ℕ
 step r = take 8 (addBit8 6 (addBit8 5 (addBit8 4 (addBit8 0 (0 ∷ r)))))
 
@@ -34,5 +34,6 @@ rc t = getD (register (t % 255)) 0 0
 unfoldable pub roundConstant : ℕ → ℕ
 roundConstant i = sum 7 (λ j. rc (j + 7 * i) * 2 ^ (2 ^ j - 1))
 
+-- 3.2.5: the round constants of the 24 rounds
 unfoldable pub roundConstantsByRule : List ℕ
 roundConstantsByRule = tabulate 24 roundConstant

@@ -1,4 +1,4 @@
--- The tables of the permutation. That they are what FIPS 202's rules give is proved in proofs/TablesByRule.antt.
+-- The tables of the permutation, proved in proofs/TablesByRule.antt to be what FIPS 202's rules give (TableRules.antt).
 use mathlib.Core.List.{List, [], _∷_}
 use Prim.Native.Nat.{ℕ}
 

@@ -11,7 +11,7 @@ ghost use Rattle.keccak.specs.Steps.{littleEndian};
 // The bytes of a block: 1088 bits, which with the capacity of 512 bits are the state.
 const RATE: usize = 136;
 
-// The byte i of the padded message: the bits 01 1 0 .. 0 1 behind the message, the lowest bit of a byte first.
+// The byte i of the padded message: behind the message come the bits 0 1, 1, 0 .. 0, 1, the lowest bit of a byte first.
 fn padded_byte(data: &[u8], i: usize) -> u8
     ensures { λ r. ⌜ r ≡ getD (padded (now («data» .entry))) i 0 ⌝ }
 {
@@ -19,6 +19,7 @@ fn padded_byte(data: &[u8], i: usize) -> u8
     if i < n {
         return data[i];
     }
+    // the last byte of the last block
     let last = n / RATE * RATE + 135;
     if i == n {
         if i == last {
@@ -96,7 +97,7 @@ fn added_lane(a: &[u64; 25], data: &[u8], n: usize, i: usize) -> u64
     ensures { λ r. ⌜ r ≡ addedLane (now (a .entry)) (block (padded (now («data» .entry))) n) i ⌝ }
 {
     if i < 17 {
-        return a[i] ^ padded_lane(data, 136 * n + 8 * i);
+        return a[i] ^ padded_lane(data, RATE * n + 8 * i);
     }
     a[i]
 }
@@ -130,7 +131,7 @@ fn squeeze(a: [u64; 25]) -> [u8; 32]
     out
 }
 
-// The digest of any string of bytes. Padding adds 1 to 136 bytes, so that there is always one block more than whole ones.
+// The digest of any string of bytes. Padding adds 1 to 136 bytes, so the last block is there also where the message is whole blocks.
 pub fn sha3_256(data: &[u8]) -> [u8; 32]
     ensures { λ r. ⌜ r ≡ sha3 (now («data» .entry)) ⌝ }
 {

@@ -1,8 +1,7 @@
 // The permutation Keccak-f[1600]. A state is 25 lanes by value; each step makes the next state of five planes, where a plane is the
 // five lanes of one y.
 ghost use mathlib.Core.Path.{_≡_};
-ghost use Prim.Native.Nat.{_+_, _*_, _%_, _<_};
-ghost use lib.ListN.{getD};
+ghost use Prim.Native.Nat.{_<_};
 ghost use Rattle.keccak.specs.Permutation.{lane, rotate, parity, effect, thetaLane, theta, rhoLane, rho, piLane, pi, chiLane, chi, iota, permutation};
 ghost use Rattle.keccak.specs.Steps.{plane, ofPlanes, effectOf};
 ghost use Rattle.keccak.specs.Tables.{offsets};
