@@ -14,10 +14,10 @@ pub extern "C" fn tuilarder_permute(state: &mut [u32; 24]) -> u32
     answer.number
 }
 
-// The SHA3-256 digest of any bytes, as many as none.
+// The SHA3-256 digest of any string of bytes, the empty one too, into 32 lent bytes.
 #[no_mangle]
 pub extern "C" fn tuilarder_sha3_256(data: &[u8], digest: &mut [u8; 32])
-    ensures { λ r. ⌜ now (digest .exit) ≡ sha3 (now («data» .entry)) ⌝ }
+    ensures { λ _. ⌜ now (digest .exit) ≡ sha3 (now («data» .entry)) ⌝ }
 {
     let hashed = keccak::sha3_256(data);
     *digest = hashed;
