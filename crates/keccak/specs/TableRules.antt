@@ -3,6 +3,7 @@ use mathlib.Core.List.{List, _∷_}
 use Prim.Native.Nat.{ℕ, zero, suc, _+_, _-_, _*_, _/_, _%_, _^_}
 use lib.ListN.{getD, take, set, replicate}
 use Rattle.basics.specs.Lists.{tabulate, sum}
+use Rattle.keccak.specs.Permutation.{_⊕_}
 
 -- 3.2.2, algorithm 2, step 3: n steps from the step t on, at the lane x, y
 unfoldable pub walk : ℕ → ℕ → ℕ → ℕ → List ℕ → List ℕ
@@ -13,9 +14,9 @@ walk (suc n) t x y table = walk n (t + 1) y ((2 * x + 3 * y) % 5) (set table (x 
 unfoldable pub offsetsByRule : List ℕ
 offsetsByRule = walk 24 0 1 0 (replicate 25 0)
 
--- 3.2.5, algorithm 5, step 3: R[i] = R[i] ⊕ R[8]; the exclusive or of two bits is the parity of their sum
+-- 3.2.5, algorithm 5, step 3: R[i] = R[i] ⊕ R[8]
 unfoldable pub addBit8 : ℕ → List ℕ → List ℕ
-addBit8 i r = set r i ((getD r i 0 + getD r 8 0) % 2)
+addBit8 i r = set r i (getD r i 0 ⊕ getD r 8 0)
 
 -- 3.2.5, algorithm 5, step 3: a zero in front; then R[0], R[4], R[5] and R[6]; then the first eight bits
 unfoldable pub step : List ℕ → List ℕ

@@ -6,7 +6,13 @@ use Rattle.keccak.proofs.permutation.chi_plane.Statement.{statement}
 use Rattle.keccak.proofs.permutation.chi_plane.Tie as tie
 
 returns : tie.Need-returns
-returns c = by-lanes (c .before .before .before .before .chi-lane .ensures) (c .before .before .before .chi-lane2 .ensures) (c .before .before .chi-lane3 .ensures) (c .before .chi-lane4 .ensures) (c .chi-lane5 .ensures)
+returns c =
+    by-lanes
+    (c .before .before .before .before .chi-lane .ensures)
+    (c .before .before .before .chi-lane2 .ensures)
+    (c .before .before .chi-lane3 .ensures)
+    (c .before .chi-lane4 .ensures)
+    (c .chi-lane5 .ensures)
 
 pub chi-plane-spec : {M : Type 1} → statement M
 chi-plane-spec =

@@ -13,7 +13,12 @@ use Rattle.keccak.proofs.permutation.effects.Tie as tie
 returns : tie.Need-returns
 unfolding effect parity
 returns c =
-    by-lanes (c .before .before .before .before .before .before .before .before .effect .ensures) (c .before .before .before .before .before .before .effect2 .ensures) (c .before .before .before .before .effect3 .ensures) (c .before .before .effect4 .ensures) (c .effect5 .ensures)
+    by-lanes
+    (c .before .before .before .before .before .before .before .before .effect .ensures)
+    (c .before .before .before .before .before .before .effect2 .ensures)
+    (c .before .before .before .before .effect3 .ensures)
+    (c .before .before .effect4 .ensures)
+    (c .effect5 .ensures)
     ∙ ap (λ (l : List ℕ). plane (effectOf l)) (c .before .before .before .before .before .before .before .before .before .before .parities .ensures)
 
 pub effects-spec : {M : Type 1} → statement M

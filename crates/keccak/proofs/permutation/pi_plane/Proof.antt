@@ -6,7 +6,13 @@ use Rattle.keccak.proofs.permutation.pi_plane.Statement.{statement}
 use Rattle.keccak.proofs.permutation.pi_plane.Tie as tie
 
 returns : tie.Need-returns
-returns c = by-lanes (c .before .before .before .before .lane .ensures) (c .before .before .before .lane2 .ensures) (c .before .before .lane3 .ensures) (c .before .lane4 .ensures) (c .lane5 .ensures)
+returns c =
+    by-lanes
+    (c .before .before .before .before .lane .ensures)
+    (c .before .before .before .lane2 .ensures)
+    (c .before .before .lane3 .ensures)
+    (c .before .lane4 .ensures)
+    (c .lane5 .ensures)
 
 pub pi-plane-spec : {M : Type 1} → statement M
 pi-plane-spec =

@@ -6,7 +6,13 @@ use Rattle.keccak.proofs.permutation.theta_plane.Statement.{statement}
 use Rattle.keccak.proofs.permutation.theta_plane.Tie as tie
 
 returns : tie.Need-returns
-returns c = by-lanes (c .before .before .before .before .theta-lane .ensures) (c .before .before .before .theta-lane2 .ensures) (c .before .before .theta-lane3 .ensures) (c .before .theta-lane4 .ensures) (c .theta-lane5 .ensures)
+returns c =
+    by-lanes
+    (c .before .before .before .before .theta-lane .ensures)
+    (c .before .before .before .theta-lane2 .ensures)
+    (c .before .before .theta-lane3 .ensures)
+    (c .before .theta-lane4 .ensures)
+    (c .theta-lane5 .ensures)
 
 pub theta-plane-spec : {M : Type 1} → statement M
 theta-plane-spec =
