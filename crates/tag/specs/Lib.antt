@@ -1,0 +1,5 @@
+pub mod Pattern
+pub mod Start
+pub mod TagString
+pub mod Elements
+pub mod Steps

@@ -1,0 +1,109 @@
+// Words: kind and length, and four bytes each, highest byte first.
+ghost use mathlib.Core.Path.{_≡_};
+ghost use mathlib.Core.Bool.{true};
+ghost use mathlib.Core.List.{_++_};
+ghost use Prim.Native.Nat.{_+_, _-_, _*_, _≤_};
+ghost use lib.Dec.{leb};
+ghost use lib.ListN.{length, take, drop, replicate};
+ghost use Rattle.basics.specs.Logic.{_and_, same, all};
+ghost use Rattle.basics.specs.Digits.{digits};
+ghost use Rattle.tag.specs.Pattern.{isAbsorb, lengthOf, alternate};
+ghost use Rattle.tag.specs.TagString.{wordBytes, wordAt, wordsOf};
+
+pub fn is_absorb(word: u32) -> bool
+    ensures { λ r. ⌜ r ≡ isAbsorb word ⌝ }
+{
+    word >= 2147483648
+}
+
+pub fn length_of(word: u32) -> u32
+    ensures { λ r. ⌜ r ≡ lengthOf word ⌝ }
+{
+    word % 2147483648
+}
+
+// Whether both are ABSORB, or both SQUEEZE.
+pub fn same_kind(a: u32, b: u32) -> bool
+    ensures { λ r. ⌜ r ≡ same (isAbsorb a) (isAbsorb b) ⌝ }
+{
+    a / 2147483648 == b / 2147483648
+}
+
+// Whether kinds alternate from ABSORB, and lengths are at least 1.
+pub(crate) fn alternate(words: &[u32]) -> bool
+    ensures { λ r. ⌜ r ≡ alternate true (now (words .entry)) and all (λ w. leb 1 (lengthOf w)) (now (words .entry)) ⌝ }
+{
+    // 1 where an ABSORB is next, 0 where a SQUEEZE is
+    let mut next: u32 = 1;
+    for i in 0..words.len() {
+        let word = words[i];
+        if word / 2147483648 != next {
+            return false;
+        }
+        if word % 2147483648 == 0 {
+            return false;
+        }
+        next = 1 - next;
+    }
+    true
+}
+
+fn widen(byte: u8) -> u32
+    ensures { λ r. ⌜ r ≡ byte ⌝ }
+{
+    byte as u32
+}
+
+// The word k of a string.
+pub(crate) fn word_at(string: &[u8], k: usize) -> u32
+    requires { ⌜ 4 * k + 4 ≤ length (now string) ⌝ }
+    ensures { λ r. ⌜ r ≡ wordAt (now (string .entry)) k ⌝ }
+{
+    let at = 4 * k;
+    widen(string[at]) * 0x100_0000
+        + widen(string[at + 1]) * 0x1_0000
+        + widen(string[at + 2]) * 0x100
+        + widen(string[at + 3])
+}
+
+// The words of a string of at most 256 bytes, and zeros behind them.
+pub(crate) fn words_of(string: &[u8]) -> [u32; 64]
+    requires { ⌜ length (now string) ≤ 256 ⌝ }
+    ensures { λ r. ⌜ r ≡ wordsOf (now (string .entry)) ++ replicate (64 - length (wordsOf (now (string .entry)))) 0 ⌝ }
+{
+    let mut out = [0u32; 64];
+    for k in 0..string.len() / 4 {
+        out[k] = word_at(string, k);
+    }
+    out
+}
+
+// Writes a word's four bytes from a place of the buffer on.
+fn put_word(buffer: &mut [u8], at: usize, word: u32)
+    requires { ⌜ at + 4 ≤ length (now buffer) ⌝ }
+    ensures { λ _. ⌜ now (buffer .exit) ≡ take at (now (buffer .entry)) ++ digits 256 4 word ++ drop (at + 4) (now (buffer .entry)) ⌝ }
+{
+    buffer[at] = (word / 0x100_0000 % 256) as u8;
+    buffer[at + 1] = (word / 0x1_0000 % 256) as u8;
+    buffer[at + 2] = (word / 0x100 % 256) as u8;
+    buffer[at + 3] = (word % 256) as u8;
+}
+
+pub(crate) fn put_words(buffer: &mut [u8], words: &[u32])
+    requires { ⌜ 4 * length (now words) ≤ length (now buffer) ⌝ }
+    ensures { λ _. ⌜ now (buffer .exit) ≡ wordBytes (now (words .entry)) ++ drop (4 * length (now (words .entry))) (now (buffer .entry)) ⌝ }
+{
+    for i in 0..words.len() {
+        put_word(buffer, 4 * i, words[i]);
+    }
+}
+
+// Copies bytes to a place of the buffer.
+pub(crate) fn put_bytes(buffer: &mut [u8], at: usize, bytes: &[u8])
+    requires { ⌜ at + length (now bytes) ≤ length (now buffer) ⌝ }
+    ensures { λ _. ⌜ now (buffer .exit) ≡ take at (now (buffer .entry)) ++ now (bytes .entry) ++ drop (at + length (now (bytes .entry))) (now (buffer .entry)) ⌝ }
+{
+    for i in 0..bytes.len() {
+        buffer[at + i] = bytes[i];
+    }
+}

@@ -1,0 +1,201 @@
+#!/usr/bin/env python3
+"""What the program tag_vectors is run on, and what it must print.
+
+  tests/tags.py cases > crates/tag_vectors/stdin
+  tests/tags.py answers safe_oracle.py < crates/tag_vectors/stdin > crates/tag_vectors/stdout
+
+The answers are those of another implementation: safe_oracle.py, in Python, written from document 01 by other hands.
+A line of input is a call; lists are hexadecimal:
+
+  w WORDS SEPARATOR LENGTH    check, and write to a buffer of that length (four digits)
+  r STRING LENGTH             read, with a separator of that length (sixteen digits)
+  e DIGEST                    the tag's elements
+
+A line of output is what the call answers:
+
+  w NUMBER COUNT WORDS OTHERS, NUMBER WRITTEN BUFFER
+  r NUMBER COUNT WORDS OTHERS, SEPARATOR
+  e ELEMENTS
+
+OTHERS is the sum of the unused ones of the 64 words. The buffer holds the byte a5 at every place before the call.
+"""
+import importlib.util
+import random
+import sys
+
+ABSORB = 1 << 31
+LONGEST = ABSORB - 1
+random = random.Random(31)
+
+
+def pattern(pairs, cuts=1, longest=40):
+    """An accepted pattern: pairs of ABSORB and SQUEEZE, each cut into up to so many words."""
+    return [top + random.randint(1, longest) for _ in range(pairs) for top in (ABSORB, 0) for _ in range(random.randint(1, cuts))]
+
+
+def separator(length):
+    return bytes(random.randrange(256) for _ in range(length))
+
+
+def merged(words):
+    """The number of merged words, to lend buffers about as long as the string."""
+    return sum(k == 0 or words[k] // ABSORB != words[k - 1] // ABSORB for k in range(len(words)))
+
+
+def write_cases():
+    """Words, separator and how much longer the buffer is than the string."""
+    b1 = [ABSORB + 3, ABSORB + 3, 3]
+    # document 01's examples, and its samples
+    yield [], b"", 8
+    yield [ABSORB + 3, 0], b"", 8
+    yield [1], b"", 8
+    yield [ABSORB + 1], b"", 8
+    yield [0xffffffff, ABSORB + 1, 1], b"", 8
+    yield [ABSORB + 1, 1], separator(257), 8
+    yield b1, b"AB", -1
+    yield b1, b"AB", 0
+    yield b1, b"AB", 7
+    yield [ABSORB + 1, 1], bytes.fromhex("8000000200000002"), 0
+    yield [ABSORB + 1, 1, ABSORB + 2, 2], b"", 0
+    yield [0xfffffffe, ABSORB + 1, 1], b"", 0
+    # several faults at once
+    long = [0xffffffff, 0xffffffff]
+    for words in ([0] * 65, [0], [0, ABSORB], [1, 0], [1, ABSORB], [5, ABSORB + 1], [ABSORB, 1], [1] + long, long + [0, ABSORB + 1], long,
+                  long + [0], [1] + long + [1], [ABSORB] + long + [1], long + [1], [ABSORB + 1] * 65, [1] * 66, [0] * 130, [1, ABSORB + 1] * 40):
+        for length in (0, 257):
+            yield words, separator(length), 4
+            yield words, separator(length), -1
+    # 63 to 66 words, merged and not
+    for count in (63, 64, 65, 66):
+        yield ([ABSORB + 7, 9] * 33)[-count:], b"", 0
+        yield [ABSORB + 7] * (count - 1) + [9], b"\0", 0
+        yield [ABSORB + 7] + [9] * (count - 1), b"\0", 0
+        yield [ABSORB + 7] * (count - 2) + [0, 9], b"\0", 0
+    yield [ABSORB + 7, 9] * 32, separator(256), 0
+    yield [ABSORB + 7, 9] * 32, separator(256), -1
+    yield [ABSORB + 7, 9] * 32, separator(257), 0
+    # lengths 1 and 2147483647, and their sums
+    for first, second in ((1, 1), (1, LONGEST), (LONGEST, 1), (LONGEST, LONGEST), (LONGEST - 1, 1), (LONGEST - 1, 2), (1 << 30, 1 << 30),
+                          ((1 << 30) - 1, 1 << 30)):
+        yield [ABSORB + first, second], b"x", 0
+        yield [ABSORB + first, ABSORB + second, 1], b"x", 0
+        yield [ABSORB + 1, first, second], b"x", 0
+        yield [ABSORB + first, 1, ABSORB + second, 1], b"x", 0
+        yield [ABSORB + 1, 1, ABSORB + first, ABSORB + second, 1], b"x", 0
+        yield [ABSORB + first, ABSORB + second, 1, ABSORB + 1, 1], b"x", 0
+        yield [ABSORB + 1, first, second, 1, ABSORB + 1, 1], b"x", 0
+    yield [ABSORB + (1 << 25)] * 63 + [1], b"", 0
+    yield [ABSORB + (1 << 26)] * 32 + [1], b"", 0
+    yield [ABSORB + LONGEST] * 63 + [1], b"", 0
+    yield [ABSORB + LONGEST, LONGEST] * 32, b"", 0
+    # separators, buffers exact, one byte short, longer and empty
+    for length in (0, 1, 2, 3, 4, 8, 31, 32, 255, 256, 257):
+        for room in (-1, 0, 1, 5):
+            yield pattern(2, 2), separator(length), room
+        yield pattern(1, 3), separator(length), -8 - length
+    # any pattern, some damaged at one word
+    for number in range(150):
+        words = pattern(random.randint(1, 6), 3)
+        if number % 3 == 0:
+            words[random.randrange(len(words))] ^= random.choice([ABSORB, LONGEST, 1 << random.randrange(32)])
+        if number % 7 == 0:
+            words[random.randrange(len(words))] &= ABSORB
+        yield words, separator(random.choice([0, 1, 2, 8, 31])), random.choice([-1, 0, 0, 0, 1, 4])
+
+
+def read_cases():
+    """A string, and the separator's length."""
+    def string(words, bytes_behind):
+        return b"".join(w.to_bytes(4, "big") for w in words) + bytes_behind
+    # document 01's example, its samples
+    yield string([ABSORB + 3], b""), 0
+    yield bytes.fromhex("80000006000000034142"), 2
+    both = bytes.fromhex("80000001000000018000000200000002")
+    for length in range(18):
+        yield both, length
+    # a string cut at every length, with its separator's length and with that moved along
+    whole = string([ABSORB + 6, 3, 0xffffffff, LONGEST], b"protocol")
+    for length in range(len(whole)):
+        yield whole[:length], 8
+        yield whole[:length], max(0, length - 16)
+    for length in (0, 7, 8, 9, 12, 23, 24, 25, 255, 256, 257, 1 << 31, (1 << 32) + 8, (1 << 64) - 1):
+        yield whole, length
+    # words that are not sound: unmerged, of length 0, of the wrong kind, odd, too many
+    for words in ([], [ABSORB + 1, ABSORB + 1], [ABSORB + 1, 1, 1], [1, ABSORB + 1], [ABSORB, 1], [ABSORB + 1, 0], [ABSORB + 1, 1, ABSORB + 1],
+                  [ABSORB + 1, 1, ABSORB + 1, 0], [ABSORB + 1, 1, ABSORB, 1], [ABSORB + 1, 1, ABSORB + 1, ABSORB + 1], [ABSORB + 1, 1] * 31,
+                  ([ABSORB + 1, 1] * 32)[:63], [ABSORB + 1, 1] * 32, ([ABSORB + 1, 1] * 33)[:65], [ABSORB + 1, 1] * 33, [ABSORB + 1, 1] * 60,
+                  [ABSORB + 1, 1] * 31 + [ABSORB + 1, 0], [ABSORB + 1, 1] * 31 + [1, 1]):
+        yield string(words, b""), 0
+        yield string(words, b"abc"), 3
+        yield string(words, b"abc"), 2
+    for length in (0, 1, 255, 256, 257):
+        yield string([ABSORB + 9, 1], separator(length)), length
+        yield string([ABSORB + 9, 1] * 32, separator(length)), length
+    for _ in range(40):
+        length = random.randrange(12)
+        words = [w ^ random.choice([0, 0, 0, 0, 0, ABSORB, 1]) for w in pattern(random.randint(1, 4))]
+        yield string(words, separator(length)), length + random.choice([0, 0, 0, 4, 8, 1])
+
+
+def element_cases():
+    for digest in ([0xff] * 32, [0] * 32, [0x3f, 0xff, 0xff, 0xff] * 8, [0x40, 0, 0, 0] * 8, [0x80, 0, 0, 1] * 8, list(range(32))):
+        yield bytes(digest)
+    for _ in range(20):
+        yield separator(32)
+
+
+def cases():
+    for words, behind, room in write_cases():
+        length = max(0, 4 * merged(words) + len(behind) + room)
+        print("w", "".join("%08x" % w for w in words), behind.hex(), "%04x" % length)
+    for string, length in read_cases():
+        print("r", string.hex(), "%016x" % length)
+    for digest in element_cases():
+        print("e", digest.hex())
+
+
+def hexadecimal(words):
+    return "".join("%08x" % w for w in words)
+
+
+def elements(oracle, digest):
+    """Elements 8 to 15 of the state that START gives where the hash gives this digest."""
+    class Hash:
+        def sha3_256(string):
+            return Hash
+
+        def digest():
+            return digest
+    oracle.hashlib = Hash
+    return oracle.start([ABSORB + 1, 1], b"")[1]["state"][8:16]
+
+
+def answer(oracle, kind, *fields):
+    if kind == "e":
+        return hexadecimal(elements(oracle, bytes.fromhex(fields[0])))
+    if kind == "r":
+        number, words, count, behind = oracle.read_tag(bytes.fromhex(fields[0]), int(fields[1], 16))
+        return "%d %d %s %d, %s" % (number, count, hexadecimal(words[:count]), sum(words[count:]), behind.hex())
+    words = [int(fields[0][k:k + 8], 16) for k in range(0, len(fields[0]), 8)]
+    behind = bytes.fromhex(fields[1])
+    number = oracle.start_number(words, behind)
+    list_ = oracle.merged(words) if number == 0 else []
+    refused, length, buffer = oracle.write_tag(words, behind, bytes([0xa5] * int(fields[2], 16)))
+    return "%d %d %s 0, %d %d %s" % (number, len(list_), hexadecimal(list_), refused, length, buffer.hex())
+
+
+def answers(path):
+    spec = importlib.util.spec_from_file_location("oracle", path)
+    oracle = importlib.util.module_from_spec(spec)
+    spec.loader.exec_module(oracle)
+    for line in sys.stdin:
+        kind, *fields = line.rstrip("\n").split(" ")
+        print(kind, answer(oracle, kind, *fields))
+
+
+if sys.argv[1:] == ["cases"]:
+    cases()
+elif len(sys.argv) == 3 and sys.argv[1] == "answers":
+    answers(sys.argv[2])
+else:
+    sys.exit(__doc__)
