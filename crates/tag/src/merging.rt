@@ -7,6 +7,7 @@ ghost use mathlib.Core.Path.{_≡_};
 ghost use mathlib.Core.List.{List, [], _∷_, _++_};
 ghost use Prim.Native.Nat.{ℕ, _+_, _≤_, _<_};
 ghost use lib.ListN.{length, set};
+ghost use Rattle.tag.specs.Pattern.{lengthOf};
 ghost use Rattle.tag.specs.Steps.{merged};
 
 // The words and one more behind them.
@@ -19,6 +20,14 @@ fn pushed(list: Merged, word: u32) -> Merged
     next.words[count] = word;
     next.count = count + 1;
     next
+}
+
+// A word with so many elements more.
+fn lengthened(word: u32, elements: u32) -> u32
+    requires { ⌜ lengthOf word + elements ≤ 2147483647 ⌝ }
+    ensures { λ r. ⌜ r ≡ word + elements ⌝ }
+{
+    word + elements
 }
 
 // The answer for some words and one more, from the answer for the words: one step of the pass.
@@ -41,7 +50,7 @@ fn with_word(list: Merged, word: u32) -> Merged
         return refused(basics::MERGED_LENGTH_TOO_LONG);
     }
     let mut next = list;
-    next.words[count - 1] = last + words::length_of(word);
+    next.words[count - 1] = lengthened(last, words::length_of(word));
     next
 }
 

@@ -1,12 +1,12 @@
 // Words: kind and length, and four bytes each, highest byte first.
 ghost use mathlib.Core.Path.{_≡_};
 ghost use mathlib.Core.Bool.{true};
-ghost use mathlib.Core.List.{_++_};
+ghost use mathlib.Core.List.{[], _∷_, _++_};
 ghost use Prim.Native.Nat.{_+_, _-_, _*_, _≤_};
 ghost use lib.Dec.{leb};
 ghost use lib.ListN.{length, take, drop, replicate};
 ghost use Rattle.basics.specs.Logic.{_and_, same, all};
-ghost use Rattle.basics.specs.Digits.{digits};
+ghost use Rattle.basics.specs.Digits.{digits, number};
 ghost use Rattle.tag.specs.Pattern.{isAbsorb, lengthOf, alternate};
 ghost use Rattle.tag.specs.TagString.{wordBytes, wordAt, wordsOf};
 
@@ -33,25 +33,26 @@ pub fn same_kind(a: u32, b: u32) -> bool
 pub(crate) fn alternate(words: &[u32]) -> bool
     ensures { λ r. ⌜ r ≡ alternate true (now (words .entry)) and all (λ w. leb 1 (lengthOf w)) (now (words .entry)) ⌝ }
 {
-    // 1 where an ABSORB is next, 0 where a SQUEEZE is
-    let mut next: u32 = 1;
+    // a SQUEEZE, so that the first word has to be ABSORB
+    let mut last: u32 = 0;
     for i in 0..words.len() {
         let word = words[i];
-        if word / 2147483648 != next {
+        if same_kind(last, word) {
             return false;
         }
-        if word % 2147483648 == 0 {
+        if length_of(word) == 0 {
             return false;
         }
-        next = 1 - next;
+        last = word;
     }
     true
 }
 
-fn widen(byte: u8) -> u32
-    ensures { λ r. ⌜ r ≡ byte ⌝ }
+// The word of four bytes, highest byte first.
+fn big_endian(b0: u8, b1: u8, b2: u8, b3: u8) -> u32
+    ensures { λ r. ⌜ r ≡ number 256 (b0 ∷ b1 ∷ b2 ∷ b3 ∷ []) ⌝ }
 {
-    byte as u32
+    b0 as u32 * 0x100_0000 + b1 as u32 * 0x1_0000 + b2 as u32 * 0x100 + b3 as u32
 }
 
 // The word k of a string.
@@ -60,10 +61,7 @@ pub(crate) fn word_at(string: &[u8], k: usize) -> u32
     ensures { λ r. ⌜ r ≡ wordAt (now (string .entry)) k ⌝ }
 {
     let at = 4 * k;
-    widen(string[at]) * 0x100_0000
-        + widen(string[at + 1]) * 0x1_0000
-        + widen(string[at + 2]) * 0x100
-        + widen(string[at + 3])
+    big_endian(string[at], string[at + 1], string[at + 2], string[at + 3])
 }
 
 // The words of a string of at most 256 bytes, and zeros behind them.

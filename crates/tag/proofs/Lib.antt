@@ -1,0 +1,4 @@
+pub mod WordKinds
+pub mod MergeStep
+pub mod Answers
+pub mod Bytes

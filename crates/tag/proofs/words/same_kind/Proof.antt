@@ -1,0 +1,15 @@
+-- `tag::words::same_kind` meets its contract.
+-- Assumes nothing.
+use Rattle.tag.proofs.WordKinds.{same-kinds}
+use borrow.Author.Needs.{needs}
+use Rattle.tag.proofs.words.same_kind.Statement.{statement}
+use Rattle.tag.proofs.words.same_kind.Tie as tie
+
+returns : tie.Need-returns
+returns c = same-kinds _ _ (search needs) (search needs)
+
+pub same-kind-spec : {M : Type 1} → statement M
+same-kind-spec =
+    tie.close
+    (tie.spec
+    returns)
