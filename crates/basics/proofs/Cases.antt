@@ -42,6 +42,11 @@ pub and-both : (a b : Bool) → a ≡ true → b ≡ true → a and b ≡ true
 unfolding _and_
 and-both a b e g = rw (e, g)
 
+pub and-false : (a : Bool) → a and false ≡ false
+unfolding _and_
+and-false true = refl
+and-false false = refl
+
 pub or-false : (a b : Bool) → a or b ≡ false → (a ≡ false) × (b ≡ false)
 unfolding _or_
 or-false true b e = absurd (true≢false e)
@@ -81,6 +86,12 @@ same-false true true e = absurd (true≢false e)
 same-false true false e = refl
 same-false false true e = refl
 same-false false false e = absurd (true≢false e)
+
+pub same-not : (a b : Bool) → same (not a) b ≡ not (same a b)
+unfolding same
+same-not true b = refl
+same-not false true = refl
+same-not false false = refl
 
 module _ {ℓ} {A : Type ℓ} (f : A → Bool) where
   -- a loop that tests one element after the other: what is left to test has the whole's outcome

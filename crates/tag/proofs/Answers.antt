@@ -6,8 +6,8 @@ use mathlib.Core.List.{List, [], _∷_, _++_}
 use mathlib.Core.Logic.{_≢_}
 use Prim.Native.Nat.{ℕ, suc, _+_, _-_, _≤_, _<_}
 use native.Mathlib.Omega.{arith}
-use lib.ListN.{length, getD, set, replicate, length-append, length-set, List·getD-append}
-use lib.Seq.{set-at, set-append-left, append-snoc}
+use lib.ListN.{length, getD, take, set, replicate, length-append, length-set, List·getD-append}
+use lib.Seq.{take-append-seam, set-at, set-append-left, append-snoc}
 use Rattle.basics.specs.Logic.{same, any}
 use Rattle.basics.specs.Numbers.{accepted, mergedLengthTooLong}
 use Rattle.basics.proofs.Cases.{cases}
@@ -15,7 +15,7 @@ use Rattle.tag.specs.Pattern.{isAbsorb, lengthOf, phases, mergedWords}
 use Rattle.tag.specs.Start.{tooLong, given, withWords}
 use Rattle.tag.specs.Steps.{merged}
 use Rattle.tag.specs.declared.Merged.{Merged}
-use Rattle.tag.proofs.MergeStep.{merged-refused, merged-accepted, lastWord, step-refused, step-first, step-other-kind, step-too-long, step-same-kind}
+use Rattle.tag.proofs.MergeStep.{merged-refused, merged-accepted, merged-words-length, lastWord, step-refused, step-first, step-other-kind, step-too-long, step-same-kind}
 
 -- words in 64 places, and one word more
 pub push-word : (ws : List ℕ) (w : ℕ) → length ws < 64
@@ -41,6 +41,14 @@ module _ (n : ℕ) (ws : List ℕ) where
   pub word-at : (i : ℕ) → i < length ws → getD (withWords n ws .words) i 0 ≡ getD ws i 0
   unfolding withWords
   word-at i h = List·getD-append ws (replicate (64 - length ws) 0) 0 i h
+
+  pub count-within : withWords n ws .count ≤ length (withWords n ws .words)
+  unfolding withWords
+  count-within = omega (arith, length-append ws (replicate (64 - length ws) 0))
+
+  pub words-used : take (withWords n ws .count) (withWords n ws .words) ≡ ws
+  unfolding withWords
+  words-used = take-append-seam ws (replicate (64 - length ws) 0)
 
   -- one word more, where there is room for it
   pub push : (w : ℕ) → length ws < 64
@@ -73,6 +81,13 @@ pub if-refused : (ws : List ℕ) → merged ws .number ≢ 0 → any tooLong (ph
 unfolding withWords
 if-refused ws e =
     cases (any tooLong (phases ws)) (λ t. t) λ f. absurd (e (ap (λ (m : Merged). m .number) (merged-accepted ws f)))
+
+pub merged-count : (ws : List ℕ) → merged ws .count ≤ length ws
+unfolding withWords
+merged-count ws =
+    cases (any tooLong (phases ws))
+    (λ t. omega (arith, ap (λ (m : Merged). m .count) (merged-refused ws t)))
+    λ f. omega (arith, ap (λ (m : Merged). m .count) (merged-accepted ws f), merged-words-length ws)
 
 -- one step of the pass: the answer m for words, and the word w behind them
 module _ (m : Merged) (w : ℕ) (ws : List ℕ) (e : m ≡ merged ws) where

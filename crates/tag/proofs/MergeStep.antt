@@ -99,6 +99,21 @@ stays [] a e = absurd (true≢false (sym e))
 stays (b ∷ []) a e = stays-pair b a (or-end (tooLong b) e)
 stays (b ∷ c ∷ ps) a e = or-either (tooLong b) _ _ e (stays (c ∷ ps) a)
 
+-- merging makes no list longer
+join-length : (a : Phase) (ps : List Phase) → length (join a ps) ≤ suc (length ps)
+unfolding join
+join-length a [] = omega arith
+join-length a (b ∷ bs) = by (λ (l : List Phase). length l ≤ suc (suc (length bs))) _ _ _ (λ _. omega arith) λ _. omega arith
+
+merge-length : (ps : List Phase) → length (merge ps) ≤ length ps
+unfolding merge
+merge-length [] = omega arith
+merge-length (a ∷ ps) = omega (arith, join-length a (merge ps), merge-length ps)
+
+pub merged-words-length : (ws : List ℕ) → length (mergedWords ws) ≤ length ws
+unfolding mergedWords phases
+merged-words-length ws = rw (length-map (merge (map phaseOf ws)) wordOf) (rw (length-map ws phaseOf) at (merge-length (map phaseOf ws)))
+
 -- ---- the answers, one word more
 
 pub merged-refused : (ws : List ℕ) → any tooLong (phases ws) ≡ true → merged ws ≡ withWords mergedLengthTooLong []

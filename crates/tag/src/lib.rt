@@ -166,12 +166,12 @@ pub fn read_separator(string: &[u8], separator_length: usize) -> &[u8]
 }
 
 // The eight elements of the tag: the digest's words, each cut to its low 30 bits.
-pub fn elements(digest: &[u8; 32]) -> [u32; 8]
-    ensures { λ r. ⌜ r ≡ tagElements (now (digest .entry)) ⌝ }
+pub fn elements(digest: [u8; 32]) -> [u32; 8]
+    ensures { λ r. ⌜ r ≡ tagElements digest ⌝ }
 {
     let mut out = [0u32; 8];
     for k in 0..8 {
-        out[k] = words::word_at(digest, k) & 0x3fff_ffff;
+        out[k] = words::word_at(&digest, k) & 0x3fff_ffff;
     }
     out
 }

@@ -20,6 +20,15 @@ abbrev μ-loop : tie.MeasureT-loop
 loop-holds : tie.Need-loop-holds Inv-loop μ-loop
 loop-holds c = (search needs, paste-zero (c .args .buffer .now) (c .args .at) (c .args .bytes .now))
 
+slice-write-buffer : tie.Need-slice-write-buffer Inv-loop μ-loop
+slice-write-buffer c =
+    let args = c .before .before .before .args in
+    let buffer = args .buffer .now in
+    let bytes = args .bytes .now in
+    let i = c .before .before .loop .i in
+    let long = ap length (c .before .before .loop .inv .1) ∙ length-paste buffer (args .at) bytes i (omega arith) (omega arith) in
+    omega arith
+
 loop-again : tie.Need-loop-again Inv-loop μ-loop
 loop-again c =
     let args = c .before .before .before .args in
@@ -61,7 +70,7 @@ put-bytes-spec =
     loop-holds
     (λ c. search needs)
     (λ c. search needs)
-    (λ c. search needs)
+    slice-write-buffer
     (λ c. search needs)
     (λ c. search needs)
     loop-again

@@ -1,0 +1,142 @@
+-- Writing: its number, and what it leaves in the buffer.
+-- Assumes nothing.
+use mathlib.Core.Path.{_≡_, sym, ap, ap₂, _∙_}
+use mathlib.Core.Bool.{Bool, true, false, not}
+use mathlib.Core.List.{List, [], _∷_, _++_}
+use mathlib.Core.Logic.{_≢_}
+use Prim.Native.Nat.{ℕ, _+_, _*_, _≤_, _<_}
+use borrow.Author.Tests.{eq-eqb, ne-eqb, lt-ltb, le-ltb}
+use lib.Dec.{ltb, eqb}
+use native.Mathlib.Omega.{arith}
+use lib.ListN.{length, take, drop, length-append}
+use lib.Seq.{length-take-le, length-front, take-at, drop-append-add, drop-drop}
+use Rattle.basics.specs.Logic.{if_then_else_}
+use Rattle.basics.specs.Numbers.{accepted, bufferTooShort}
+use Rattle.tag.specs.Pattern.{mergedWords}
+use Rattle.tag.specs.Start.{startNumber, given, withWords, checked}
+use Rattle.tag.specs.TagString.{wordBytes, tagString, writeNumber, writtenBytes, written, bufferAfter}
+use Rattle.tag.specs.declared.Merged.{Merged}
+use Rattle.tag.proofs.Bytes.{length-word-bytes}
+use Rattle.tag.proofs.Answers.{count-at, count-within, words-used}
+use Rattle.tag.proofs.StartCheck.{checked-number, checked-accepted, few-words}
+
+module _ (ws separator : List ℕ) where
+  pub length-tag-string : length (tagString ws separator) ≡ 4 * length (mergedWords ws) + length separator
+  unfolding tagString
+  length-tag-string =
+      length-append (wordBytes (mergedWords ws)) separator
+      ∙ ap (λ (n : ℕ). n + length separator) (length-word-bytes (mergedWords ws))
+
+  module _ (buffer : List ℕ) where
+    pub number-of-check : startNumber ws separator ≢ 0 → writeNumber ws separator buffer ≡ startNumber ws separator
+    unfolding writeNumber if_then_else_
+    number-of-check n = rw (ne-eqb (startNumber ws separator) 0 n)
+
+    pub number-12 : startNumber ws separator ≡ 0 → length buffer < length (tagString ws separator) → writeNumber ws separator buffer ≡ bufferTooShort
+    unfolding writeNumber if_then_else_
+    number-12 e h = rw (e, lt-ltb (length buffer) (length (tagString ws separator)) h)
+
+    pub number-0 : startNumber ws separator ≡ 0 → length (tagString ws separator) ≤ length buffer → writeNumber ws separator buffer ≡ accepted
+    unfolding writeNumber if_then_else_
+    number-0 e h = rw (e, le-ltb (length buffer) (length (tagString ws separator)) h)
+
+    module _ (number : writeNumber ws separator buffer ≢ 0) where
+      none : writtenBytes ws separator buffer ≡ []
+      unfolding writtenBytes given if_then_else_
+      none = rw (ne-eqb (writeNumber ws separator buffer) 0 number)
+
+      pub written-refused : written ws separator buffer ≡ record { number = writeNumber ws separator buffer; length = 0 }
+      unfolding written
+      written-refused = rw none
+
+      pub buffer-refused : bufferAfter ws separator buffer ≡ buffer
+      unfolding bufferAfter
+      buffer-refused = rw none
+
+    module _ (number : writeNumber ws separator buffer ≡ 0) where
+      whole : writtenBytes ws separator buffer ≡ tagString ws separator
+      unfolding writtenBytes given if_then_else_
+      whole = rw number
+
+      pub written-accepted : written ws separator buffer ≡ record { number = 0; length = length (tagString ws separator) }
+      unfolding written
+      written-accepted = rw (number, whole)
+
+      pub buffer-accepted : bufferAfter ws separator buffer ≡ tagString ws separator ++ drop (length (tagString ws separator)) buffer
+      unfolding bufferAfter
+      buffer-accepted = rw whole
+
+-- ---- from the answer r of the start check
+
+module _ (ws separator buffer : List ℕ) (r : Merged) (e : r ≡ checked ws separator) where
+  number-checked : r .number ≡ startNumber ws separator
+  number-checked = ap (λ (m : Merged). m .number) e ∙ checked-number ws separator
+
+  pub check-refuses : r .number ≢ 0 → (record { number = r .number; length = 0 } ≡ written ws separator buffer) × (buffer ≡ bufferAfter ws separator buffer)
+  check-refuses n =
+      let number = number-of-check ws separator buffer (rw number-checked at n) in
+      let refused : writeNumber ws separator buffer ≢ 0 = rw number (rw number-checked at n) in
+      ((λ i. record { number = (number-checked ∙ sym number) i; length = 0 }) ∙ sym (written-refused ws separator buffer refused), sym (buffer-refused ws separator buffer refused))
+
+  module _ (n : r .number ≡ 0) where
+    started : startNumber ws separator ≡ 0
+    started = sym number-checked ∙ n
+
+    answer : r ≡ withWords accepted (mergedWords ws)
+    answer = e ∙ checked-accepted ws separator started
+
+    pub counted : r .count ≡ length (mergedWords ws)
+    counted = ap (λ (m : Merged). m .count) answer ∙ count-at accepted (mergedWords ws)
+
+    pub count-fits : r .count ≤ 64
+    count-fits = rw counted (few-words ws separator started)
+
+    pub count-inside : r .count ≤ length (r .words)
+    count-inside = rw answer (count-within accepted (mergedWords ws))
+
+    pub merged-words : take (r .count) (r .words) ≡ mergedWords ws
+    merged-words = ap (λ (m : Merged). take (m .count) (m .words)) answer ∙ words-used accepted (mergedWords ws)
+
+    string-length : length (tagString ws separator) ≡ 4 * r .count + length separator
+    string-length = length-tag-string ws separator ∙ ap (λ (k : ℕ). 4 * k + length separator) (sym counted)
+
+    pub buffer-too-short : length buffer < 4 * r .count + length separator → (record { number = 12; length = 0 } ≡ written ws separator buffer) × (buffer ≡ bufferAfter ws separator buffer)
+    buffer-too-short h =
+        let number = number-12 ws separator buffer started (rw string-length h) in
+        let refused : writeNumber ws separator buffer ≢ 0 = λ z. omega (arith, z, number) in
+        ((λ i. record { number = sym number i; length = 0 }) ∙ sym (written-refused ws separator buffer refused), sym (buffer-refused ws separator buffer refused))
+
+    -- the buffer with the words in its front
+    abbrev half : List ℕ
+    half = wordBytes (take (r .count) (r .words)) ++ drop (4 * length (take (r .count) (r .words))) buffer
+
+    half-words : half ≡ wordBytes (mergedWords ws) ++ drop (4 * r .count) buffer
+    half-words = rw merged-words (ap (λ (k : ℕ). wordBytes (mergedWords ws) ++ drop (4 * k) buffer) (sym counted))
+
+    words-length : length (wordBytes (mergedWords ws)) ≡ 4 * r .count
+    words-length = length-word-bytes (mergedWords ws) ∙ ap (λ (k : ℕ). 4 * k) (sym counted)
+
+    module _ (h : 4 * r .count + length separator ≤ length buffer) where
+      pub half-length : length half ≡ length buffer
+      half-length =
+          ap length half-words
+          ∙ length-front buffer (wordBytes (mergedWords ws)) (4 * r .count) (words-length ∙ sym (length-take-le (4 * r .count) buffer (omega arith)))
+
+      pub whole-string : (record { number = 0; length = 4 * r .count + length separator } ≡ written ws separator buffer)
+          × (take (4 * r .count) half ++ separator ++ drop (4 * r .count + length separator) half ≡ bufferAfter ws separator buffer)
+      unfolding tagString
+      whole-string =
+          let number = number-0 ws separator buffer started (rw string-length h) in
+          let front = wordBytes (mergedWords ws) in
+          let rest = drop (4 * r .count) buffer in
+          let behind : drop (4 * r .count + length separator) (front ++ rest) ≡ drop (4 * r .count + length separator) buffer =
+          ap (λ (k : ℕ). drop (k + length separator) (front ++ rest)) (sym words-length)
+          ∙ drop-append-add front rest (length separator)
+          ∙ drop-drop (length separator) (4 * r .count) buffer in
+          (
+            (λ i. record { number = 0; length = sym string-length i }) ∙ sym (written-accepted ws separator buffer number),
+            ap (λ (l : List ℕ). take (4 * r .count) l ++ separator ++ drop (4 * r .count + length separator) l) half-words
+            ∙ ap₂ (λ (x y : List ℕ). x ++ separator ++ y) (take-at front rest (4 * r .count) words-length) behind
+            ∙ ap (λ (k : ℕ). front ++ separator ++ drop k buffer) (sym string-length)
+            ∙ sym (buffer-accepted ws separator buffer number),
+          )
