@@ -5,3 +5,4 @@ pub mod Bytes
 pub mod Soundness
 pub mod StartCheck
 pub mod Writing
+pub mod Reading

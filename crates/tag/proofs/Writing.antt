@@ -132,11 +132,10 @@ module _ (ws separator buffer : List ℕ) (r : Merged) (e : r ≡ checked ws sep
           let behind : drop (4 * r .count + length separator) (front ++ rest) ≡ drop (4 * r .count + length separator) buffer =
           ap (λ (k : ℕ). drop (k + length separator) (front ++ rest)) (sym words-length)
           ∙ drop-append-add front rest (length separator)
-          ∙ drop-drop (length separator) (4 * r .count) buffer in
-          (
+          ∙ drop-drop (length separator) (4 * r .count) buffer in (
             (λ i. record { number = 0; length = sym string-length i }) ∙ sym (written-accepted ws separator buffer number),
             ap (λ (l : List ℕ). take (4 * r .count) l ++ separator ++ drop (4 * r .count + length separator) l) half-words
-            ∙ ap₂ (λ (x y : List ℕ). x ++ separator ++ y) (take-at front rest (4 * r .count) words-length) behind
-            ∙ ap (λ (k : ℕ). front ++ separator ++ drop k buffer) (sym string-length)
-            ∙ sym (buffer-accepted ws separator buffer number),
+                ∙ ap₂ (λ (x y : List ℕ). x ++ separator ++ y) (take-at front rest (4 * r .count) words-length) behind
+                ∙ ap (λ (k : ℕ). front ++ separator ++ drop k buffer) (sym string-length)
+                ∙ sym (buffer-accepted ws separator buffer number),
           )

@@ -2,7 +2,6 @@
 use crate::Merged;
 use crate::refused;
 use crate::words;
-
 ghost use mathlib.Core.Path.{_≡_};
 ghost use mathlib.Core.List.{List, [], _∷_, _++_};
 ghost use Prim.Native.Nat.{ℕ, _+_, _≤_, _<_};

@@ -1,47 +1,44 @@
 -- `tag::read_separator` meets its contract.
 -- Assumes nothing.
+use mathlib.Core.Path.{sym, _∙_}
+use Rattle.tag.proofs.Reading.{number-read, passed, separator-refused, separator-accepted, nothing-left, last-part}
 use borrow.Author.Needs.{needs}
 use Rattle.tag.proofs.read_separator.Statement.{statement}
 use Rattle.tag.proofs.read_separator.Tie as tie
 
-sub-result : tie.Need-sub-result
-sub-result c = ?
-
-part-result-start : tie.Need-part-result-start
-part-result-start c = ?
-
-part-result-end : tie.Need-part-result-end
-part-result-end c = ?
-
 returns : tie.Need-returns
-returns c = ?
+returns c =
+    let string = c .before .before .before .before .before .args .string .now in
+    let n = c .before .before .before .before .before .args .separator-length in
+    let number = number-read string n _ (c .before .before .before .read .ensures) in
+    nothing-left string n ∙ sym (separator-refused string n (λ z. c .before .if1 .taken (sym number ∙ z)))
 
 sub-result-2 : tie.Need-sub-result-2
-sub-result-2 c = ?
-
-sub-result-3 : tie.Need-sub-result-3
-sub-result-3 c = ?
-
-part-result-start-2 : tie.Need-part-result-start-2
-part-result-start-2 c = ?
-
-part-result-end-2 : tie.Need-part-result-end-2
-part-result-end-2 c = ?
+sub-result-2 c =
+    let string = c .before .before .before .before .args .string .now in
+    let n = c .before .before .before .before .args .separator-length in
+    let number = number-read string n _ (c .before .before .read .ensures) in
+    passed string n (number ∙ c .if1 .left) .long
 
 returns-2 : tie.Need-returns-2
-returns-2 c = ?
+returns-2 c =
+    let string = c .before .before .before .before .before .args .string .now in
+    let n = c .before .before .before .before .before .args .separator-length in
+    let number = number-read string n _ (c .before .before .before .read .ensures) in
+    let accepted = number ∙ c .before .if1 .left in
+    last-part string n (passed string n accepted .long) ∙ sym (separator-accepted string n accepted)
 
 pub read-separator-spec : {M : Type 1} → statement M
 read-separator-spec =
     tie.close
     (tie.spec
     (λ c κs. search needs)
-    sub-result
-    part-result-start
-    part-result-end
+    (λ c. search needs)
+    (λ c. search needs)
+    (λ c. search needs)
     returns
     sub-result-2
-    sub-result-3
-    part-result-start-2
-    part-result-end-2
+    (λ c. search needs)
+    (λ c. search needs)
+    (λ c. search needs)
     returns-2)

@@ -76,13 +76,12 @@ returns-3 c =
     let separator = c .before .before .before .before .before .before .before .before .before .before .before .before .before .before .before .before .before .args .separator .now in
     let buffer = c .before .before .before .before .before .before .before .before .before .before .before .before .before .before .before .before .before .args .buffer .now in
     let checked = c .before .before .before .before .before .before .before .before .before .before .before .before .before .check in
-    let string = whole-string words separator buffer (checked .result) (checked .ensures) (c .before .before .before .before .before .before .before .before .before .before .before .if1 .left) (c .before .before .before .before .before .before .before .before .before .before .if2 .left) in
-    (
+    let string = whole-string words separator buffer (checked .result) (checked .ensures) (c .before .before .before .before .before .before .before .before .before .before .before .if1 .left) (c .before .before .before .before .before .before .before .before .before .before .if2 .left) in (
       string .0,
       c .before .before .put-bytes .ensures
-      ∙ ap (λ (l : List ℕ). take (4 * checked .result .count) l ++ separator ++ drop (4 * checked .result .count + length separator) l)
-      (c .before .before .before .before .before .before .put-words .ensures)
-      ∙ string .1,
+          ∙ ap (λ (l : List ℕ). take (4 * checked .result .count) l ++ separator ++ drop (4 * checked .result .count + length separator) l)
+          (c .before .before .before .before .before .before .put-words .ensures)
+          ∙ string .1,
     )
 
 pub write-spec : {M : Type 1} → statement M

@@ -58,14 +58,13 @@ loop-again c =
     let rest : tests (not (isAbsorb last)) (drop i words) ≡ tests (not (isAbsorb last)) (getD words i 0 ∷ drop (suc i) words) =
     ap (tests (not (isAbsorb last))) (drop-cons words i 0 (omega arith)) in
     let other = sym (c .before .before .before .same-kind .ensures) ∙ c .before .before .if1 .left in
-    let some : lengthOf (getD words i 0) ≢ 0 = λ z. omega (arith, z, c .before .length-of .ensures) in
-    (
+    let some : lengthOf (getD words i 0) ≢ 0 = λ z. omega (arith, z, c .before .length-of .ensures) in (
       search needs,
       rw add-one
-      (c .before .before .before .before .before .before .loop .inv .1
-      ∙ rest
-      ∙ tests-pass _ _ _ (same-not _ _ ∙ ap not other) (le-leb 1 (lengthOf (getD words i 0)) (omega (arith, some)))
-      ∙ ap (λ (first : Bool). tests first (drop (suc i) words)) (sym (ap not (same-false _ _ other)))),
+          (c .before .before .before .before .before .before .loop .inv .1
+          ∙ rest
+          ∙ tests-pass _ _ _ (same-not _ _ ∙ ap not other) (le-leb 1 (lengthOf (getD words i 0)) (omega (arith, some)))
+          ∙ ap (λ (first : Bool). tests first (drop (suc i) words)) (sym (ap not (same-false _ _ other)))),
     )
 
 returns-3 : tie.Need-returns-3 Inv-loop μ-loop

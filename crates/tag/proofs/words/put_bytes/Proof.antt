@@ -34,12 +34,11 @@ loop-again c =
     let args = c .before .before .before .args in
     let buffer = args .buffer .now in
     let bytes = args .bytes .now in
-    let i = c .before .before .loop .i in
-    (
+    let i = c .before .before .loop .i in (
       search needs,
       rw add-one
-      (ap (λ (l : List ℕ). set l (args .at + i) (getD bytes i 0)) (c .before .before .loop .inv .1)
-      ∙ paste-suc buffer (args .at) bytes i 0 (omega arith) (omega arith)),
+          (ap (λ (l : List ℕ). set l (args .at + i) (getD bytes i 0)) (c .before .before .loop .inv .1)
+          ∙ paste-suc buffer (args .at) bytes i 0 (omega arith) (omega arith)),
     )
 
 same-length : tie.Need-same-length Inv-loop μ-loop

@@ -35,12 +35,11 @@ loop-again : tie.Need-loop-again Inv-loop μ-loop
 loop-again c =
     let buffer = c .before .before .before .before .before .before .before .before .before .args .buffer .now in
     let words = c .before .before .before .before .before .before .before .before .before .args .words .now in
-    let i = c .before .before .before .before .before .before .loop .i in
-    (
+    let i = c .before .before .before .before .before .before .loop .i in (
       search needs,
       c .before .before .put-word .ensures
-      ∙ ap (λ (l : List ℕ). take (4 * i) l ++ digits 256 4 (getD words i 0) ++ drop (4 * i + 4) l) (c .before .before .before .before .before .before .loop .inv .1)
-      ∙ next-word buffer words i (omega arith),
+          ∙ ap (λ (l : List ℕ). take (4 * i) l ++ digits 256 4 (getD words i 0) ++ drop (4 * i + 4) l) (c .before .before .before .before .before .before .loop .inv .1)
+          ∙ next-word buffer words i (omega arith),
     )
 
 same-length : tie.Need-same-length Inv-loop μ-loop

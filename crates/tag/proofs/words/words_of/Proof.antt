@@ -34,13 +34,12 @@ loop-again c =
     let string = c .before .before .before .before .args .string .now in
     let k = c .before .before .loop .k in
     let words = front string k in
-    let long = length-tabulate k (wordAt string) in
-    (
+    let long = length-tabulate k (wordAt string) in (
       search needs,
       rw add-one
-      (ap₂ (λ (l : List ℕ) (w : ℕ). set l k w) (c .before .before .loop .inv .1) (c .word-at .ensures)
-      ∙ ap (λ (j : ℕ). set (words ++ replicate (64 - length words) 0) j (wordAt string k)) (sym long)
-      ∙ push-word words (wordAt string k) (omega (arith, c .before .before .before .before .pre))),
+          (ap₂ (λ (l : List ℕ) (w : ℕ). set l k w) (c .before .before .loop .inv .1) (c .word-at .ensures)
+          ∙ ap (λ (j : ℕ). set (words ++ replicate (64 - length words) 0) j (wordAt string k)) (sym long)
+          ∙ push-word words (wordAt string k) (omega (arith, c .before .before .before .before .pre))),
     )
 
 returns : tie.Need-returns Inv-loop μ-loop
