@@ -73,6 +73,11 @@ unfolding same
 same-self true = refl
 same-self false = refl
 
+pub same-other : (a : Bool) → same a (not a) ≡ false
+unfolding same
+same-other true = refl
+same-other false = refl
+
 pub same-true : (a b : Bool) → same a b ≡ true → a ≡ b
 unfolding same
 same-true true true e = refl

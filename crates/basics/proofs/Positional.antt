@@ -35,7 +35,7 @@ number-digits base (suc n) x b h =
     ∙ ap (λ (y : ℕ). y * base + x % base) (number-digits base n (x / base) b q)
     ∙ div-add-mod' x base
 
-take-below : (m n : ℕ) (ds : List ℕ) → 0 < m → ((k : ℕ) → getD ds k 0 < m) → (k : ℕ) → getD (take n ds) k 0 < m
+pub take-below : (m n : ℕ) (ds : List ℕ) → 0 < m → ((k : ℕ) → getD ds k 0 < m) → (k : ℕ) → getD (take n ds) k 0 < m
 take-below m zero ds b h k = b
 take-below m (suc n) [] b h k = b
 take-below m (suc n) (d ∷ ds) b h zero = h zero

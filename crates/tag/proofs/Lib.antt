@@ -6,3 +6,5 @@ pub mod Soundness
 pub mod StartCheck
 pub mod Writing
 pub mod Reading
+pub mod MergedWords
+pub mod ReadBack

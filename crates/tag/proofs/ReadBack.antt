@@ -1,0 +1,212 @@
+-- Tag strings read back: what was written is read, and what was read is written again.
+-- Assumes nothing.
+use mathlib.Core.Path.{_≡_, refl, sym, ap, ap₂, _∙_}
+use mathlib.Core.Bool.{true, false}
+use mathlib.Core.List.{List, [], _∷_, _++_, map}
+use mathlib.Core.Logic.{_≢_, _↔_}
+use Prim.Native.Nat.{ℕ, zero, suc, _+_, _-_, _*_, _/_, _%_, _≤_, _<_}
+use native.Mathlib.Omega.{arith}
+use borrow.Author.Tests.{ltb-false, eqb-true, eq-eqb}
+use lib.Dec.{ltb, eqb, lit<}
+use lib.ListN.{length, getD, take, drop, length-append, length-drop, take-append-drop}
+use lib.Seq.{length-take-le, take-at, drop-at, getD-take}
+use Rattle.basics.specs.Logic.{_and_, any}
+use Rattle.basics.specs.Lists.{tabulate}
+use Rattle.basics.specs.Digits.{digits, number, numberAfter}
+use Rattle.basics.specs.Numbers.{accepted, notTagString}
+use Rattle.basics.proofs.Cases.{and-left, and-right, and-both, or-false}
+use Rattle.basics.proofs.Fill.{tabulate-cons, tabulate-same}
+use Rattle.basics.proofs.Positional.{number-digits, digits-number, take-below}
+use Rattle.tag.specs.Pattern.{Phase, phaseOf, wordOf, phases, mergedWords, soundWords}
+use Rattle.tag.specs.Start.{tooLong, startNumber, withWords}
+use Rattle.tag.specs.TagString.{wordBytes, tagString, wordAt, wordsOf, wordsPart, separatorPart, soundBytes, readNumber, readWords, readSeparator}
+use Rattle.tag.specs.declared.Merged.{Merged}
+use Rattle.tag.proofs.WordKinds.{word-below, phase-of-word}
+use Rattle.tag.proofs.Bytes.{length-word-bytes}
+use Rattle.tag.proofs.Answers.{words-used}
+use Rattle.tag.proofs.StartCheck.{rows}
+use Rattle.tag.proofs.Writing.{length-tag-string}
+use Rattle.tag.proofs.Reading.{number-0, read-accepted, separator-accepted, passed}
+use Rattle.tag.proofs.MergedWords.{merged-sound, sound-merged, sound-accepted}
+
+-- ---- words and their bytes
+
+words-of-four : (a b c d : ℕ) (rest : List ℕ) → wordsOf (a ∷ b ∷ c ∷ d ∷ rest) ≡ number 256 (a ∷ b ∷ c ∷ d ∷ []) ∷ wordsOf rest
+unfolding wordsOf wordAt
+words-of-four a b c d rest =
+    let s = a ∷ b ∷ c ∷ d ∷ rest in
+    let size : length s / 4 ≡ suc (length rest / 4) = omega arith in
+    ap (λ (n : ℕ). tabulate n (wordAt s)) size
+    ∙ tabulate-cons (length rest / 4) (wordAt s)
+    ∙ ap (λ (l : List ℕ). number 256 (a ∷ b ∷ c ∷ d ∷ []) ∷ l)
+    (tabulate-same (length rest / 4) (λ k. wordAt s (suc k)) (wordAt rest)
+    (λ k h. let place : 4 * suc k ≡ suc (suc (suc (suc (4 * k)))) = omega arith in ap (λ (j : ℕ). number 256 (take 4 (drop j s))) place))
+
+words-of-none : wordsOf [] ≡ []
+unfolding wordsOf tabulate
+words-of-none = refl
+
+-- words of 32 bits, read from their bytes
+words-of-bytes : (ws : List ℕ) → ((k : ℕ) → getD ws k 0 < 4294967296) → wordsOf (wordBytes ws) ≡ ws
+unfolding wordBytes digits
+words-of-bytes [] h = words-of-none
+words-of-bytes (w ∷ ws) h =
+    words-of-four _ _ _ _ (wordBytes ws)
+    ∙ ap₂ (λ (x : ℕ) (l : List ℕ). x ∷ l) (number-digits 256 4 w (lit< tt) (h 0)) (words-of-bytes ws (λ k. h (suc k)))
+
+four-below : (a b c d : ℕ) (rest : List ℕ) → ((k : ℕ) → getD (a ∷ b ∷ c ∷ d ∷ rest) k 0 < 256) → (k : ℕ) → getD (a ∷ b ∷ c ∷ d ∷ []) k 0 < 256
+four-below a b c d rest h zero = h 0
+four-below a b c d rest h (suc zero) = h 1
+four-below a b c d rest h (suc (suc zero)) = h 2
+four-below a b c d rest h (suc (suc (suc zero))) = h 3
+four-below a b c d rest h (suc (suc (suc (suc k)))) = lit< tt
+
+-- a string of whole words, written from its words
+bytes-of-words : (s : List ℕ) → length s % 4 ≡ 0 → ((k : ℕ) → getD s k 0 < 256) → wordBytes (wordsOf s) ≡ s
+unfolding wordBytes
+bytes-of-words [] e h = ap wordBytes words-of-none
+bytes-of-words (a ∷ []) e h = absurd (omega arith)
+bytes-of-words (a ∷ b ∷ []) e h = absurd (omega arith)
+bytes-of-words (a ∷ b ∷ c ∷ []) e h = absurd (omega arith)
+bytes-of-words (a ∷ b ∷ c ∷ d ∷ s) e h =
+    let four = digits-number 256 4 (a ∷ b ∷ c ∷ d ∷ []) refl (four-below a b c d s h) in
+    let rest = bytes-of-words s (omega arith) (λ k. h (suc (suc (suc (suc k))))) in
+    ap wordBytes (words-of-four a b c d s) ∙ ap₂ (λ (x y : List ℕ). x ++ y) four rest
+
+four-bytes-below : (a b c d : ℕ) → a < 256 → b < 256 → c < 256 → d < 256 → number 256 (a ∷ b ∷ c ∷ d ∷ []) < 4294967296
+unfolding number numberAfter
+four-bytes-below a b c d ha hb hc hd = omega arith
+
+-- the words of a string of bytes have 32 bits
+words-below : (s : List ℕ) → length s % 4 ≡ 0 → ((k : ℕ) → getD s k 0 < 256) → (k : ℕ) → getD (wordsOf s) k 0 < 4294967296
+words-below [] e h k = rw words-of-none (lit< tt)
+words-below (a ∷ []) e h k = absurd (omega arith)
+words-below (a ∷ b ∷ []) e h k = absurd (omega arith)
+words-below (a ∷ b ∷ c ∷ []) e h k = absurd (omega arith)
+words-below (a ∷ b ∷ c ∷ d ∷ s) e h zero = rw (words-of-four a b c d s) (four-bytes-below a b c d (h 0) (h 1) (h 2) (h 3))
+words-below (a ∷ b ∷ c ∷ d ∷ s) e h (suc k) = rw (words-of-four a b c d s) (words-below s (omega arith) (λ j. h (suc (suc (suc (suc j))))) k)
+
+-- ---- the merged pattern, as kinds and lengths, from its words
+
+phases-of-words : (ps : List Phase) → any tooLong ps ≡ false → (map phaseOf (map wordOf ps) ≡ ps) × ((k : ℕ) → getD (map wordOf ps) k 0 < 4294967296)
+unfolding any tooLong
+phases-of-words [] e = (refl, λ k. lit< tt)
+phases-of-words (a ∷ ps) e =
+    let o = or-false _ _ e in
+    let l : a .elements < 2147483648 = omega (arith, ltb-false 2147483647 (a .elements) (o .0)) in
+    let rest = phases-of-words ps (o .1) in
+    (ap₂ (λ (b : Phase) (bs : List Phase). b ∷ bs) (phase-of-word a l) (rest .0), below a l (map wordOf ps) (rest .1))
+  where
+    below : (a : Phase) → a .elements < 2147483648 → (ws : List ℕ) → ((k : ℕ) → getD ws k 0 < 4294967296) → (k : ℕ) → getD (wordOf a ∷ ws) k 0 < 4294967296
+    below a l ws h zero = word-below a l
+    below a l ws h (suc k) = h k
+
+-- ---- reading what was written
+
+module _ (ws separator : List ℕ) (e : startNumber ws separator ≡ accepted) where
+  abbrev s : List ℕ
+  s = tagString ws separator
+
+  abbrev n : ℕ
+  n = length separator
+
+  size : length s - n ≡ length (wordBytes (mergedWords ws))
+  size = omega (arith, length-tag-string ws separator, length-word-bytes (mergedWords ws))
+
+  front : wordsPart s n ≡ wordBytes (mergedWords ws)
+  unfolding wordsPart tagString
+  front = take-at (wordBytes (mergedWords ws)) separator (length s - n) (sym size)
+
+  back : separatorPart s n ≡ separator
+  unfolding separatorPart tagString
+  back = drop-at (wordBytes (mergedWords ws)) separator (length s - n) (sym size)
+
+  words : wordsOf (wordsPart s n) ≡ mergedWords ws
+  unfolding mergedWords
+  words = ap wordsOf front ∙ words-of-bytes (mergedWords ws) (phases-of-words (phases ws) (rows ws separator e .e5) .1)
+
+  sound-string : soundBytes (wordsPart s n) ≡ true
+  unfolding soundBytes
+  sound-string =
+      let whole : length (wordsPart s n) % 4 ≡ 0 = rw front (omega (arith, length-word-bytes (mergedWords ws))) in
+      and-both _ _ (eq-eqb (length (wordsPart s n) % 4) 0 whole) (ap soundWords words ∙ merged-sound ws separator e)
+
+  pub reads : readNumber s n ≡ accepted
+  reads = number-0 s n (ltb-false 256 n (rows ws separator e .e6)) (omega (arith, length-tag-string ws separator)) sound-string
+
+  pub reads-words : readWords s n ≡ withWords accepted (mergedWords ws)
+  reads-words = read-accepted s n reads ∙ ap (withWords accepted) words
+
+  pub reads-separator : readSeparator s n ≡ separator
+  reads-separator = separator-accepted s n reads ∙ back
+
+-- ---- writing what was read
+
+-- the words that reading gives
+abbrev pub wordsRead : List ℕ → ℕ → List ℕ
+wordsRead s n = take (readWords s n .count) (readWords s n .words)
+
+module _ (s : List ℕ) (n : ℕ) (bytes : (k : ℕ) → getD s k 0 < 256) (e : readNumber s n ≡ accepted) where
+  abbrev head : List ℕ
+  head = wordsPart s n
+
+  given : wordsRead s n ≡ wordsOf head
+  given = ap (λ (m : Merged). take (m .count) (m .words)) (read-accepted s n e) ∙ words-used accepted (wordsOf head)
+
+  whole : length head % 4 ≡ 0
+  unfolding soundBytes
+  whole = eqb-true (length head % 4) 0 (and-left _ _ (passed s n e .sound))
+
+  sound-words : soundWords (wordsOf head) ≡ true
+  unfolding soundBytes
+  sound-words = and-right _ _ (passed s n e .sound)
+
+  head-bytes : (k : ℕ) → getD head k 0 < 256
+  unfolding wordsPart
+  head-bytes = take-below 256 (length s - n) s (lit< tt) bytes
+
+  separator-length : length (separatorPart s n) ≡ n
+  unfolding separatorPart
+  separator-length = let long = passed s n e .long in omega (arith, length-drop (length s - n) s)
+
+  pub writes : startNumber (wordsRead s n) (readSeparator s n) ≡ accepted
+  writes =
+      ap₂ startNumber given (separator-accepted s n e)
+      ∙ sound-accepted (wordsOf head) (separatorPart s n) sound-words (rw separator-length (passed s n e .short))
+
+  pub writes-string : tagString (wordsRead s n) (readSeparator s n) ≡ s
+  unfolding tagString wordsPart separatorPart
+  writes-string =
+      ap₂ tagString given (separator-accepted s n e)
+      ∙ ap (λ (ws : List ℕ). wordBytes ws ++ separatorPart s n) (sound-merged (wordsOf head) sound-words (words-below head whole head-bytes))
+      ∙ ap (λ (l : List ℕ). l ++ separatorPart s n) (bytes-of-words head whole head-bytes)
+      ∙ take-append-drop (length s - n) s
+
+-- ---- what tag strings tell
+
+-- number 13: no accepted pattern with a separator of that length has this string
+pub refused-string : (s : List ℕ) (n : ℕ) → readNumber s n ≡ notTagString
+    → (ws separator : List ℕ) → startNumber ws separator ≡ accepted → length separator ≡ n → tagString ws separator ≢ s
+refused-string s n r ws separator e l q =
+    let z : accepted ≡ notTagString = sym (reads ws separator e) ∙ ap₂ readNumber q l ∙ r in
+    absurd (omega arith)
+
+-- an accepted pattern's kinds and lengths are those of its merged words
+phases-read : (ws separator : List ℕ) → startNumber ws separator ≡ accepted → map phaseOf (mergedWords ws) ≡ phases ws
+unfolding mergedWords
+phases-read ws separator e = phases-of-words (phases ws) (rows ws separator e .e5) .0
+
+module _ (ws separator vs other : List ℕ) (e : startNumber ws separator ≡ accepted) (f : startNumber vs other ≡ accepted) (l : length separator ≡ length other) where
+  tell : tagString ws separator ≡ tagString vs other → (phases ws ≡ phases vs) × (separator ≡ other)
+  tell q =
+      let answers = sym (reads-words ws separator e) ∙ ap₂ readWords q l ∙ reads-words vs other f in
+      let merged =
+      sym (words-used accepted (mergedWords ws)) ∙ ap (λ (m : Merged). take (m .count) (m .words)) answers ∙ words-used accepted (mergedWords vs) in
+      (
+        sym (phases-read ws separator e) ∙ ap (map phaseOf) merged ∙ phases-read vs other f,
+        sym (reads-separator ws separator e) ∙ ap₂ readSeparator q l ∙ reads-separator vs other f,
+      )
+
+  pub strings-tell : (tagString ws separator ≡ tagString vs other) ↔ ((phases ws ≡ phases vs) × (separator ≡ other))
+  unfolding tagString mergedWords
+  strings-tell = (tell, λ p. ap₂ (λ (ps : List Phase) (t : List ℕ). wordBytes (map wordOf ps) ++ t) (p .0) (p .1))
