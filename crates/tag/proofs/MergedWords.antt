@@ -95,8 +95,7 @@ words-alternate k [] f e = (refl, refl)
 words-alternate k (a ∷ ps) f e =
     let o = or-false _ _ e in
     let l : a .elements < 2147483648 = omega (arith, ltb-false 2147483647 (a .elements) (o .0)) in
-    let rest = words-alternate (not k) ps (f .2) (o .1) in
-    (
+    let rest = words-alternate (not k) ps (f .2) (o .1) in (
       and-both _ _ (ap (same k) (word-kind a l ∙ f .0) ∙ same-self k) (rest .0),
       and-both _ _ (ap (leb 1) (word-length a l) ∙ le-leb 1 (a .elements) (f .1)) (rest .1),
     )

@@ -201,8 +201,7 @@ module _ (ws separator vs other : List ℕ) (e : startNumber ws separator ≡ ac
   tell q =
       let answers = sym (reads-words ws separator e) ∙ ap₂ readWords q l ∙ reads-words vs other f in
       let merged =
-      sym (words-used accepted (mergedWords ws)) ∙ ap (λ (m : Merged). take (m .count) (m .words)) answers ∙ words-used accepted (mergedWords vs) in
-      (
+      sym (words-used accepted (mergedWords ws)) ∙ ap (λ (m : Merged). take (m .count) (m .words)) answers ∙ words-used accepted (mergedWords vs) in (
         sym (phases-read ws separator e) ∙ ap (map phaseOf) merged ∙ phases-read vs other f,
         sym (reads-separator ws separator e) ∙ ap₂ readSeparator q l ∙ reads-separator vs other f,
       )

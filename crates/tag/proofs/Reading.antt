@@ -122,3 +122,13 @@ module _ (s : List ℕ) (n : ℕ) where
   pub last-part : n ≤ length s → take (length s - (length s - n)) (drop (length s - n) s) ≡ separatorPart s n
   unfolding separatorPart
   last-part h = take-all (length s - (length s - n)) (drop (length s - n) s) (omega (arith, length-drop (length s - n) s))
+
+  -- where the part begins: so many bytes before the string's end
+  pub start-of-nothing : length s ≡ length s - length (take (length s - length s) (drop (length s) s))
+  start-of-nothing = let none : length (take (length s - length s) (drop (length s) s)) ≡ 0 = ap length nothing-left in omega arith
+
+  pub start-of-last : n ≤ length s → length s - n ≡ length s - length (take (length s - (length s - n)) (drop (length s - n) s))
+  unfolding separatorPart
+  start-of-last h =
+      let same : length (take (length s - (length s - n)) (drop (length s - n) s)) ≡ length (drop (length s - n) s) = ap length (last-part h) in
+      omega (arith, length-drop (length s - n) s)

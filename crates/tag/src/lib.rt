@@ -5,9 +5,10 @@ mod words;
 ghost use mathlib.Core.Path.{_≡_};
 ghost use mathlib.Core.Bool.{not};
 ghost use mathlib.Core.List.{[]};
-ghost use Prim.Native.Nat.{_+_, _*_, _%_, _≤_};
+ghost use Prim.Native.Nat.{_+_, _-_};
+ghost use denote.Ref.{ptr};
 ghost use lib.Dec.{eqb};
-ghost use lib.ListN.{length, take, drop, replicate};
+ghost use lib.ListN.{length};
 ghost use Rattle.basics.specs.Logic.{any};
 ghost use Rattle.tag.specs.Pattern.{lengthOf, soundWords};
 ghost use Rattle.tag.specs.Start.{withWords, checked};
@@ -157,6 +158,7 @@ pub fn read(string: &[u8], separator_length: usize) -> Merged
 // The separator of a tag string, as that part of the string itself; empty where `read` refuses.
 pub fn read_separator(string: &[u8], separator_length: usize) -> &[u8]
     ensures { λ r. ⌜ now r ≡ readSeparator (now (string .entry)) «separator_length» ⌝ }
+    ensures { λ r. ⌜ ptr r ≡ (ptr (string .entry) .0, length (now (string .entry)) - length (now r) + ptr (string .entry) .1) ⌝ }
 {
     let merged = read(string, separator_length);
     if merged.number != basics::ACCEPTED {

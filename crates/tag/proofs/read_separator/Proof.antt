@@ -1,7 +1,8 @@
 -- `tag::read_separator` meets its contract.
 -- Assumes nothing.
-use mathlib.Core.Path.{sym, _∙_}
-use Rattle.tag.proofs.Reading.{number-read, passed, separator-refused, separator-accepted, nothing-left, last-part}
+use mathlib.Core.Path.{sym, ap, _∙_}
+use Prim.Native.Nat.{ℕ, _+_}
+use Rattle.tag.proofs.Reading.{number-read, passed, separator-refused, separator-accepted, nothing-left, last-part, start-of-nothing, start-of-last}
 use borrow.Author.Needs.{needs}
 use Rattle.tag.proofs.read_separator.Statement.{statement}
 use Rattle.tag.proofs.read_separator.Tie as tie
@@ -11,7 +12,10 @@ returns c =
     let string = c .before .before .before .before .before .args .string .now in
     let n = c .before .before .before .before .before .args .separator-length in
     let number = number-read string n _ (c .before .before .before .read .ensures) in
-    nothing-left string n ∙ sym (separator-refused string n (λ z. c .before .if1 .taken (sym number ∙ z)))
+    let at = c .before .before .before .before .before .args .string .ptr in (
+      nothing-left string n ∙ sym (separator-refused string n (λ z. c .before .if1 .taken (sym number ∙ z))),
+      ap (λ (start : ℕ). (at .0, start + at .1)) (start-of-nothing string n),
+    )
 
 sub-result-2 : tie.Need-sub-result-2
 sub-result-2 c =
@@ -25,8 +29,12 @@ returns-2 c =
     let string = c .before .before .before .before .before .args .string .now in
     let n = c .before .before .before .before .before .args .separator-length in
     let number = number-read string n _ (c .before .before .before .read .ensures) in
+    let at = c .before .before .before .before .before .args .string .ptr in
     let accepted = number ∙ c .before .if1 .left in
-    last-part string n (passed string n accepted .long) ∙ sym (separator-accepted string n accepted)
+    let long = passed string n accepted .long in (
+      last-part string n long ∙ sym (separator-accepted string n accepted),
+      ap (λ (start : ℕ). (at .0, start + at .1)) (start-of-last string n long),
+    )
 
 pub read-separator-spec : {M : Type 1} → statement M
 read-separator-spec =
