@@ -22,15 +22,20 @@ fn digit(byte: u8) -> u8
     (byte % 16 + 9) % 16
 }
 
-fn byte_of(high: u8, low: u8) -> u8 {
-    digit(high) * 16 + digit(low)
+// The byte that two digits at a place write, and 0 behind the text.
+fn byte_at(text: &[u8], at: usize) -> u8
+    requires { ⌜ at ≤ 150000 ⌝ }
+{
+    if text.len() < at + 2 {
+        return 0;
+    }
+    digit(text[at]) * 16 + digit(text[at + 1])
 }
 
 // How many pairs of digits stand at a place, at most 1024. A byte below the digits, as a space or a newline, ends them.
 fn pairs(text: &[u8], at: usize) -> usize
     requires { ⌜ at ≤ 140000 ⌝ }
     ensures { λ r. ⌜ r ≤ 1024 ⌝ }
-    ensures { λ r. ⌜ 0 < r → at + (r + r) ≤ length (now (text .entry)) ⌝ }
 {
     let mut count: usize = 0;
     while count < 1024 {
@@ -46,14 +51,14 @@ fn pairs(text: &[u8], at: usize) -> usize
     count
 }
 
-fn field(text: &[u8], at: usize) -> Field
+fn field_at(text: &[u8], at: usize) -> Field
     requires { ⌜ at ≤ 140000 ⌝ }
-    ensures { λ r. ⌜ (r .count ≤ 1024) × (at < r .next) × (r .next ≤ at + 2049) ⌝ }
+    ensures { λ r. ⌜ (r .count ≤ length (r .bytes)) × (length (r .bytes) ≡ 1024) × (at < r .next) × (r .next ≤ at + 2049) ⌝ }
 {
     let count = pairs(text, at);
     let mut bytes = [0u8; 1024];
     for i in 0..count {
-        bytes[i] = byte_of(text[at + 2 * i], text[at + 2 * i + 1]);
+        bytes[i] = byte_at(text, at + 2 * i);
     }
     Field {
         bytes,
@@ -102,15 +107,33 @@ fn print_byte(byte: u8) {
     print_hex(byte as u32, 2);
 }
 
+// The first bytes of a buffer.
+fn print_first(buffer: &[u8; 1024], count: usize) {
+    for i in 0..1024 {
+        if i < count {
+            print_byte(buffer[i]);
+        }
+    }
+}
+
 fn print_bytes(bytes: &[u8]) {
     for i in 0..bytes.len() {
         print_byte(bytes[i]);
     }
 }
 
-fn print_words(words: &[u32]) {
-    for i in 0..words.len() {
-        print_hex(words[i], 8);
+fn print_elements(elements: &[u32; 8]) {
+    for i in 0..8 {
+        print_hex(elements[i], 8);
+    }
+}
+
+// The first words.
+fn print_words(words: &[u32; 64], count: usize) {
+    for i in 0..64 {
+        if i < count {
+            print_hex(words[i], 8);
+        }
     }
 }
 
@@ -139,9 +162,7 @@ fn print_merged(merged: tag::Merged) {
     let count = merged.count;
     print_number(merged.number as u64);
     print_number(count as u64);
-    if count <= 64 {
-        print_words(&words[..count]);
-    }
+    print_words(&words, count);
     io::write_all(1, b" ");
     io::print_decimal(1, sum_from(&words, count));
     io::write_all(1, b", ");
@@ -155,7 +176,7 @@ fn print_write(words: &[u32], separator: &[u8], size: usize)
     let written = tag::write(words, separator, &mut buffer[..size]);
     print_number(written.number as u64);
     print_number(written.length as u64);
-    print_bytes(&buffer[..size]);
+    print_first(&buffer, size);
 }
 
 fn print_read(string: &[u8], length: usize) {
@@ -168,9 +189,9 @@ fn write_line(text: &[u8], at: usize) -> usize
     requires { ⌜ at ≤ 131074 ⌝ }
     ensures { λ r. ⌜ at < r ⌝ }
 {
-    let first = field(text, at);
-    let second = field(text, first.next);
-    let third = field(text, second.next);
+    let first = field_at(text, at);
+    let second = field_at(text, first.next);
+    let third = field_at(text, second.next);
     let words = words_of(&first.bytes);
     let count = first.count / 4;
     let separator = second.bytes;
@@ -185,8 +206,8 @@ fn read_line(text: &[u8], at: usize) -> usize
     requires { ⌜ at ≤ 131074 ⌝ }
     ensures { λ r. ⌜ at < r ⌝ }
 {
-    let first = field(text, at);
-    let second = field(text, first.next);
+    let first = field_at(text, at);
+    let second = field_at(text, first.next);
     let string = first.bytes;
     let count = first.count;
     let digits = second.bytes;
@@ -199,13 +220,13 @@ fn elements_line(text: &[u8], at: usize) -> usize
     requires { ⌜ at ≤ 131074 ⌝ }
     ensures { λ r. ⌜ at < r ⌝ }
 {
-    let first = field(text, at);
+    let first = field_at(text, at);
     let mut digest = [0u8; 32];
     for i in 0..32 {
         digest[i] = first.bytes[i];
     }
-    let elements = tag::elements(&digest);
-    print_words(&elements);
+    let elements = tag::elements(digest);
+    print_elements(&elements);
     first.next
 }
 
