@@ -69,13 +69,6 @@ module _ (s : List ℕ) (n : ℕ) where
     number-13-short h = if-false _ _ _ (le-ltb 256 n h1) ∙ if-true _ _ _ (lt-ltb (length s) n h)
 
     module _ (h2 : n ≤ length s) where
-      abbrev size : ℕ
-      size = length s - n
-
-      pub length-words-part : length (wordsPart s n) ≡ size
-      unfolding wordsPart
-      length-words-part = length-take-le size s (omega arith)
-
       pub number-13 : soundBytes (wordsPart s n) ≡ false → readNumber s n ≡ notTagString
       unfolding readNumber
       number-13 e = if-false _ _ _ (le-ltb 256 n h1) ∙ if-false _ _ _ (le-ltb (length s) n h2) ∙ if-true _ _ _ (ap not e)
@@ -84,51 +77,64 @@ module _ (s : List ℕ) (n : ℕ) where
       unfolding readNumber
       number-0 e = if-false _ _ _ (le-ltb 256 n h1) ∙ if-false _ _ _ (le-ltb (length s) n h2) ∙ if-false _ _ _ (ap not e)
 
-      pub cut-word : size % 4 ≢ 0 → soundBytes (wordsPart s n) ≡ false
-      unfolding soundBytes _and_
-      cut-word h = rw (length-words-part, ne-eqb (size % 4) 0 h)
+  -- what precedes the separator, by its length
+  module _ (h : n ≤ length s) (size : ℕ) (e : size ≡ length s - n) where
+    part : take size s ≡ wordsPart s n
+    unfolding wordsPart
+    part = ap (λ (k : ℕ). take k s) e
 
-      pub too-long : 256 < size → size % 4 ≡ 0 → soundBytes (wordsPart s n) ≡ false
-      unfolding soundBytes
-      too-long h e =
-          let many : 64 < length (wordsOf (wordsPart s n)) = rw (length-words-of (wordsPart s n), length-words-part) (omega arith) in
-          rw (too-many (wordsOf (wordsPart s n)) many) (and-false _)
+    pub length-part : length (take size s) ≡ size
+    length-part = length-take-le size s (omega arith)
 
-      whole-words : size % 4 ≡ 0 → soundBytes (wordsPart s n) ≡ soundWords (wordsOf (wordsPart s n))
-      unfolding soundBytes _and_
-      whole-words e = rw (length-words-part, eq-eqb (size % 4) 0 e)
+    length-words-part : length (wordsPart s n) ≡ size
+    length-words-part = sym (ap length part) ∙ length-part
 
-      -- the words in 64 places
-      abbrev places : List ℕ
-      places = wordsOf (wordsPart s n) ++ replicate (64 - length (wordsOf (wordsPart s n))) 0
+    pub cut-word : size % 4 ≢ 0 → soundBytes (wordsPart s n) ≡ false
+    unfolding soundBytes _and_
+    cut-word z = rw (length-words-part, ne-eqb (size % 4) 0 z)
 
-      count : length (wordsOf (wordsPart s n)) ≡ size / 4
-      count = length-words-of (wordsPart s n) ∙ ap (λ (k : ℕ). k / 4) length-words-part
+    pub too-long : size % 4 ≡ 0 → 256 < size → soundBytes (wordsPart s n) ≡ false
+    unfolding soundBytes
+    too-long z l =
+        let many : 64 < length (wordsOf (wordsPart s n)) = rw (length-words-of (wordsPart s n), length-words-part) (omega arith) in
+        rw (too-many (wordsOf (wordsPart s n)) many) (and-false _)
 
-      words-used : take (size / 4) places ≡ wordsOf (wordsPart s n)
-      words-used = take-at (wordsOf (wordsPart s n)) _ (size / 4) count
+    -- the words in 64 places
+    abbrev places : List ℕ
+    places = wordsOf (take size s) ++ replicate (64 - length (wordsOf (take size s))) 0
 
-      -- the test of the words that stand in 64 places
-      pub sound-test : size % 4 ≡ 0 → (list : List ℕ) (b : Bool) → list ≡ places → b ≡ soundWords (take (size / 4) list) → soundBytes (wordsPart s n) ≡ b
-      sound-test e list b p t = whole-words e ∙ sym (t ∙ ap (λ (l : List ℕ). soundWords (take (size / 4) l)) p ∙ ap soundWords words-used)
+    count : length (wordsOf (take size s)) ≡ size / 4
+    count = length-words-of (take size s) ∙ ap (λ (k : ℕ). k / 4) length-part
 
-      pub answer : record { number = accepted; words = places; count = size / 4 } ≡ withWords accepted (wordsOf (wordsPart s n))
-      unfolding withWords
-      answer = λ i. record { number = accepted; words = places; count = sym count i }
+    -- their test
+    pub sound-test : size % 4 ≡ 0 → (list : List ℕ) (b : Bool) → list ≡ places → b ≡ soundWords (take (size / 4) list) → soundBytes (wordsPart s n) ≡ b
+    unfolding soundBytes _and_
+    sound-test z list b p t =
+        rw (length-words-part, eq-eqb (size % 4) 0 z)
+        (sym
+        (t
+        ∙ ap (λ (l : List ℕ). soundWords (take (size / 4) l)) p
+        ∙ ap soundWords (take-at (wordsOf (take size s)) _ (size / 4) count ∙ ap wordsOf part)))
 
-  pub nothing-left : take (length s - length s) (drop (length s) s) ≡ []
-  nothing-left = ap (take (length s - length s)) (drop-length s) ∙ take-nil (length s - length s)
+    pub answer : (list : List ℕ) → list ≡ places → record { number = accepted; words = list; count = size / 4 } ≡ withWords accepted (wordsOf (wordsPart s n))
+    unfolding withWords
+    answer list p =
+        (λ i. record { number = accepted; words = p i; count = sym count i })
+        ∙ ap (withWords accepted) (ap wordsOf part)
 
-  pub last-part : n ≤ length s → take (length s - (length s - n)) (drop (length s - n) s) ≡ separatorPart s n
-  unfolding separatorPart
-  last-part h = take-all (length s - (length s - n)) (drop (length s - n) s) (omega (arith, length-drop (length s - n) s))
+    -- the part behind it, and where that begins: so many bytes before the string's end
+    pub last-part : take (length s - size) (drop size s) ≡ separatorPart s n
+    unfolding separatorPart
+    last-part = take-all (length s - size) (drop size s) (omega (arith, length-drop size s)) ∙ ap (λ (k : ℕ). drop k s) e
 
-  -- where the part begins: so many bytes before the string's end
-  pub start-of-nothing : length s ≡ length s - length (take (length s - length s) (drop (length s) s))
-  start-of-nothing = let none : length (take (length s - length s) (drop (length s) s)) ≡ 0 = ap length nothing-left in omega arith
+    pub last-start : size ≡ length s - length (take (length s - size) (drop size s))
+    last-start =
+        let same : length (take (length s - size) (drop size s)) ≡ length s - size = length-take-le (length s - size) (drop size s) (omega (arith, length-drop size s)) in
+        omega arith
 
-  pub start-of-last : n ≤ length s → length s - n ≡ length s - length (take (length s - (length s - n)) (drop (length s - n) s))
-  unfolding separatorPart
-  start-of-last h =
-      let same : length (take (length s - (length s - n)) (drop (length s - n) s)) ≡ length (drop (length s - n) s) = ap length (last-part h) in
-      omega (arith, length-drop (length s - n) s)
+  -- the empty part at the string's end
+  pub empty-part : take (length s - length s) (drop (length s) s) ≡ []
+  empty-part = ap (take (length s - length s)) (drop-length s) ∙ take-nil (length s - length s)
+
+  pub empty-start : length s ≡ length s - length (take (length s - length s) (drop (length s) s))
+  empty-start = let none : length (take (length s - length s) (drop (length s) s)) ≡ 0 = ap length empty-part in omega arith

@@ -1,11 +1,11 @@
 // Patterns and tag strings: the check of a pattern, merging, and tag strings written, read back and cut to elements.
 mod merging;
-mod words;
+pub mod words;
 
 ghost use mathlib.Core.Path.{_≡_};
 ghost use mathlib.Core.Bool.{not};
 ghost use mathlib.Core.List.{[]};
-ghost use Prim.Native.Nat.{_+_, _-_};
+ghost use Prim.Native.Nat.{_+_, _-_, _≤_};
 ghost use denote.Ref.{ptr};
 ghost use lib.Dec.{eqb};
 ghost use lib.ListN.{length};
@@ -61,13 +61,16 @@ pub fn check(words: &[u32], separator: &[u8]) -> Merged
     if count > 64 {
         return refused(basics::WORD_COUNT_OUT_OF_RANGE);
     }
-    if has_length_zero(words) {
+    let length_zero = has_length_zero(words);
+    let first_absorb = words::is_absorb(words[0]);
+    let last_absorb = words::is_absorb(words[count - 1]);
+    if length_zero {
         return refused(basics::WORD_LENGTH_ZERO);
     }
-    if !words::is_absorb(words[0]) {
+    if !first_absorb {
         return refused(basics::FIRST_WORD_SQUEEZE);
     }
-    if words::is_absorb(words[count - 1]) {
+    if last_absorb {
         return refused(basics::LAST_WORD_ABSORB);
     }
     let merged = merging::merge(words);
@@ -126,6 +129,14 @@ pub fn write(words: &[u32], separator: &[u8], buffer: &mut [u8]) -> Written
     }
 }
 
+// How many bytes precede the separator.
+fn words_length(string: &[u8], separator_length: usize) -> usize
+    requires { ⌜ «separator_length» ≤ length (now string) ⌝ }
+    ensures { λ r. ⌜ r ≡ length (now (string .entry)) - «separator_length» ⌝ }
+{
+    string.len() - separator_length
+}
+
 // The merged words of a tag string whose separator has the given length.
 pub fn read(string: &[u8], separator_length: usize) -> Merged
     ensures { λ r. ⌜ r ≡ readWords (now (string .entry)) «separator_length» ⌝ }
@@ -136,7 +147,7 @@ pub fn read(string: &[u8], separator_length: usize) -> Merged
     if string.len() < separator_length {
         return refused(basics::NOT_TAG_STRING);
     }
-    let length = string.len() - separator_length;
+    let length = words_length(string, separator_length);
     if length % 4 != 0 {
         return refused(basics::NOT_TAG_STRING);
     }
@@ -164,7 +175,7 @@ pub fn read_separator(string: &[u8], separator_length: usize) -> &[u8]
     if merged.number != basics::ACCEPTED {
         return &string[string.len()..];
     }
-    &string[string.len() - separator_length..]
+    &string[words_length(string, separator_length)..]
 }
 
 // The eight elements of the tag: the digest's words, each cut to its low 30 bits.

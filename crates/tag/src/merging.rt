@@ -45,11 +45,13 @@ fn with_word(list: Merged, word: u32) -> Merged
     if !words::same_kind(last, word) {
         return pushed(list, word);
     }
-    if words::length_of(last) + words::length_of(word) > 2147483647 {
+    let elements = words::length_of(word);
+    let sum = words::length_of(last) + elements;
+    if sum > 2147483647 {
         return refused(basics::MERGED_LENGTH_TOO_LONG);
     }
     let mut next = list;
-    next.words[count - 1] = lengthened(last, words::length_of(word));
+    next.words[count - 1] = lengthened(last, elements);
     next
 }
 

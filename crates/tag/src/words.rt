@@ -10,12 +10,14 @@ ghost use Rattle.basics.specs.Digits.{digits, number};
 ghost use Rattle.tag.specs.Pattern.{isAbsorb, lengthOf, alternate};
 ghost use Rattle.tag.specs.TagString.{wordBytes, wordAt, wordsOf};
 
+// Whether a word is ABSORB; else it is SQUEEZE.
 pub fn is_absorb(word: u32) -> bool
     ensures { λ r. ⌜ r ≡ isAbsorb word ⌝ }
 {
     word >= 2147483648
 }
 
+// How many elements a word stands for.
 pub fn length_of(word: u32) -> u32
     ensures { λ r. ⌜ r ≡ lengthOf word ⌝ }
 {
@@ -23,7 +25,7 @@ pub fn length_of(word: u32) -> u32
 }
 
 // Whether both are ABSORB, or both SQUEEZE.
-pub fn same_kind(a: u32, b: u32) -> bool
+pub(crate) fn same_kind(a: u32, b: u32) -> bool
     ensures { λ r. ⌜ r ≡ same (isAbsorb a) (isAbsorb b) ⌝ }
 {
     a / 2147483648 == b / 2147483648

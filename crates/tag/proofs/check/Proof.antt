@@ -26,30 +26,30 @@ returns-2 c =
 
 returns-3 : tie.Need-returns-3
 returns-3 c =
-    let words = c .before .before .before .before .before .before .before .args .words .now in
-    let separator = c .before .before .before .before .before .before .before .args .separator .now in
+    let words = c .before .before .before .before .before .before .before .before .before .before .before .args .words .now in
+    let separator = c .before .before .before .before .before .before .before .before .before .before .before .args .separator .now in
     let e1 = some-words words separator (search needs) (search needs) in
     c .refused3 .ensures
-    ∙ sym (checked-refused words separator _ refl (number-2 words separator e1 (sym (c .before .before .has-length-zero .ensures) ∙ c .before .if3 .taken)))
+    ∙ sym (checked-refused words separator _ refl (number-2 words separator e1 (sym (c .before .before .before .before .before .before .has-length-zero .ensures) ∙ c .before .if3 .taken)))
 
 returns-4 : tie.Need-returns-4
 returns-4 c =
-    let words = c .before .before .before .before .before .before .before .before .before .before .args .words .now in
-    let separator = c .before .before .before .before .before .before .before .before .before .before .args .separator .now in
+    let words = c .before .before .before .before .before .before .before .before .before .before .before .before .args .words .now in
+    let separator = c .before .before .before .before .before .before .before .before .before .before .before .before .args .separator .now in
     let e1 = some-words words separator (search needs) (search needs) in
-    let e2 = sym (c .before .before .before .before .before .has-length-zero .ensures) ∙ c .before .before .before .before .if3 .left in
+    let e2 = sym (c .before .before .before .before .before .before .before .has-length-zero .ensures) ∙ c .before .before .if3 .left in
     c .refused4 .ensures
-    ∙ sym (checked-refused words separator _ refl (number-3 words separator e1 e2 (sym (ap not (c .before .before .is-absorb .ensures)) ∙ c .before .if4 .taken)))
+    ∙ sym (checked-refused words separator _ refl (number-3 words separator e1 e2 (sym (ap not (c .before .before .before .before .before .is-absorb .ensures)) ∙ c .before .if4 .taken)))
 
 returns-5 : tie.Need-returns-5
 returns-5 c =
     let words = c .before .before .before .before .before .before .before .before .before .before .before .before .before .args .words .now in
     let separator = c .before .before .before .before .before .before .before .before .before .before .before .before .before .args .separator .now in
     let e1 = some-words words separator (search needs) (search needs) in
-    let e2 = sym (c .before .before .before .before .before .before .before .before .has-length-zero .ensures) ∙ c .before .before .before .before .before .before .before .if3 .left in
-    let e3 = sym (ap not (c .before .before .before .before .before .is-absorb .ensures)) ∙ c .before .before .before .before .if4 .left in
+    let e2 = sym (c .before .before .before .before .before .before .before .before .has-length-zero .ensures) ∙ c .before .before .before .if3 .left in
+    let e3 = sym (ap not (c .before .before .before .before .before .before .is-absorb .ensures)) ∙ c .before .before .if4 .left in
     c .refused5 .ensures
-    ∙ sym (checked-refused words separator _ refl (number-4 words separator e1 e2 e3 (sym (c .before .before .is-absorb2 .ensures) ∙ c .before .if5 .taken)))
+    ∙ sym (checked-refused words separator _ refl (number-4 words separator e1 e2 e3 (sym (c .before .before .before .before .is-absorb2 .ensures) ∙ c .before .if5 .taken)))
 
 merge-requires : tie.Need-merge-requires
 merge-requires c κs = search needs
@@ -59,9 +59,9 @@ returns-6 c =
     let words = c .before .before .before .before .before .before .before .before .before .before .before .before .before .before .before .args .words .now in
     let separator = c .before .before .before .before .before .before .before .before .before .before .before .before .before .before .before .args .separator .now in
     let e1 = some-words words separator (search needs) (search needs) in
-    let e2 = sym (c .before .before .before .before .before .before .before .before .before .before .has-length-zero .ensures) ∙ c .before .before .before .before .before .before .before .before .before .if3 .left in
-    let e3 = sym (ap not (c .before .before .before .before .before .before .before .is-absorb .ensures)) ∙ c .before .before .before .before .before .before .if4 .left in
-    let e4 = sym (c .before .before .before .before .is-absorb2 .ensures) ∙ c .before .before .before .if5 .left in
+    let e2 = sym (c .before .before .before .before .before .before .before .before .before .before .has-length-zero .ensures) ∙ c .before .before .before .before .before .if3 .left in
+    let e3 = sym (ap not (c .before .before .before .before .before .before .before .before .is-absorb .ensures)) ∙ c .before .before .before .before .if4 .left in
+    let e4 = sym (c .before .before .before .before .before .before .is-absorb2 .ensures) ∙ c .before .before .before .if5 .left in
     let e5 = if-refused words (λ z. c .if6 .taken (ap (λ (m : Merged). m .number) (c .before .before .merge .ensures) ∙ z)) in
     c .before .before .merge .ensures ∙ merged-refused words e5 ∙ sym (checked-refused words separator _ refl (number-5 words separator e1 e2 e3 e4 e5))
 
@@ -70,9 +70,9 @@ returns-7 c =
     let words = c .before .before .before .before .before .before .before .before .before .before .before .before .before .before .before .before .before .args .words .now in
     let separator = c .before .before .before .before .before .before .before .before .before .before .before .before .before .before .before .before .before .args .separator .now in
     let e1 = some-words words separator (search needs) (search needs) in
-    let e2 = sym (c .before .before .before .before .before .before .before .before .before .before .before .before .has-length-zero .ensures) ∙ c .before .before .before .before .before .before .before .before .before .before .before .if3 .left in
-    let e3 = sym (ap not (c .before .before .before .before .before .before .before .before .before .is-absorb .ensures)) ∙ c .before .before .before .before .before .before .before .before .if4 .left in
-    let e4 = sym (c .before .before .before .before .before .before .is-absorb2 .ensures) ∙ c .before .before .before .before .before .if5 .left in
+    let e2 = sym (c .before .before .before .before .before .before .before .before .before .before .before .before .has-length-zero .ensures) ∙ c .before .before .before .before .before .before .before .if3 .left in
+    let e3 = sym (ap not (c .before .before .before .before .before .before .before .before .before .before .is-absorb .ensures)) ∙ c .before .before .before .before .before .before .if4 .left in
+    let e4 = sym (c .before .before .before .before .before .before .before .before .is-absorb2 .ensures) ∙ c .before .before .before .before .before .if5 .left in
     let e5 = if-accepted words (sym (ap (λ (m : Merged). m .number) (c .before .before .before .before .merge .ensures)) ∙ c .before .before .if6 .left) in
     c .refused6 .ensures
     ∙ sym (checked-refused words separator _ refl (number-6 words separator e1 e2 e3 e4 e5 (lt-ltb 256 (length separator) (search needs))))
@@ -82,9 +82,9 @@ returns-8 c =
     let words = c .before .before .before .before .before .before .before .before .before .before .before .before .before .before .before .before .args .words .now in
     let separator = c .before .before .before .before .before .before .before .before .before .before .before .before .before .before .before .before .args .separator .now in
     let e1 = some-words words separator (search needs) (search needs) in
-    let e2 = sym (c .before .before .before .before .before .before .before .before .before .before .before .has-length-zero .ensures) ∙ c .before .before .before .before .before .before .before .before .before .before .if3 .left in
-    let e3 = sym (ap not (c .before .before .before .before .before .before .before .before .is-absorb .ensures)) ∙ c .before .before .before .before .before .before .before .if4 .left in
-    let e4 = sym (c .before .before .before .before .before .is-absorb2 .ensures) ∙ c .before .before .before .before .if5 .left in
+    let e2 = sym (c .before .before .before .before .before .before .before .before .before .before .before .has-length-zero .ensures) ∙ c .before .before .before .before .before .before .if3 .left in
+    let e3 = sym (ap not (c .before .before .before .before .before .before .before .before .before .is-absorb .ensures)) ∙ c .before .before .before .before .before .if4 .left in
+    let e4 = sym (c .before .before .before .before .before .before .before .is-absorb2 .ensures) ∙ c .before .before .before .before .if5 .left in
     let e5 = if-accepted words (sym (ap (λ (m : Merged). m .number) (c .before .before .before .merge .ensures)) ∙ c .before .if6 .left) in
     c .before .before .before .merge .ensures
     ∙ merged-accepted words e5
@@ -99,16 +99,16 @@ check-spec =
     (λ c κs. search needs)
     returns-2
     (λ c κs. search needs)
+    (λ c. search needs)
+    (λ c κs. search needs)
+    (λ c. search needs)
+    (λ c. search needs)
+    (λ c. search needs)
+    (λ c κs. search needs)
     (λ c κs. search needs)
     returns-3
-    (λ c. search needs)
-    (λ c κs. search needs)
     (λ c κs. search needs)
     returns-4
-    (λ c. search needs)
-    (λ c. search needs)
-    (λ c. search needs)
-    (λ c κs. search needs)
     (λ c κs. search needs)
     returns-5
     merge-requires

@@ -1,12 +1,9 @@
 -- `tag::read` meets its contract.
 -- Assumes nothing.
 use mathlib.Core.Path.{refl, sym, _∙_}
-use Prim.Native.Nat.{_-_, _/_}
 use native.Mathlib.Omega.{arith}
-use lib.ListN.{length}
 use lib.Seq.{length-take-le}
-use Rattle.tag.specs.TagString.{wordsPart}
-use Rattle.tag.proofs.Reading.{read-refused, read-accepted, number-6, number-13-short, number-13, number-0, cut-word, too-long, sound-test, answer}
+use Rattle.tag.proofs.Reading.{read-refused, read-accepted, number-6, number-13-short, number-13, number-0, length-part, cut-word, too-long, sound-test, answer}
 use borrow.Author.Needs.{needs}
 use Rattle.tag.proofs.read.Statement.{statement}
 use Rattle.tag.proofs.read.Tie as tie
@@ -25,45 +22,53 @@ returns-2 c =
 
 returns-3 : tie.Need-returns-3
 returns-3 c =
-    let string = c .before .before .before .before .before .args .string .now in
-    let n = c .before .before .before .before .before .args .separator-length in
-    c .refused3 .ensures ∙ sym (read-refused string n _ refl (number-13 string n (search needs) (search needs) (cut-word string n (search needs) (search needs) (search needs))))
+    let string = c .before .before .before .before .before .before .args .string .now in
+    let n = c .before .before .before .before .before .before .args .separator-length in
+    let size = c .before .before .words-length in
+    c .refused3 .ensures ∙ sym (read-refused string n _ refl (number-13 string n (search needs) (search needs) (cut-word string n (search needs) (size .result) (size .ensures) (search needs))))
 
 returns-4 : tie.Need-returns-4
 returns-4 c =
-    let string = c .before .before .before .before .before .before .args .string .now in
-    let n = c .before .before .before .before .before .before .args .separator-length in
-    c .refused4 .ensures ∙ sym (read-refused string n _ refl (number-13 string n (search needs) (search needs) (too-long string n (search needs) (search needs) (search needs) (search needs))))
+    let string = c .before .before .before .before .before .before .before .args .string .now in
+    let n = c .before .before .before .before .before .before .before .args .separator-length in
+    let size = c .before .before .before .words-length in
+    c .refused4 .ensures ∙ sym (read-refused string n _ refl (number-13 string n (search needs) (search needs) (too-long string n (search needs) (size .result) (size .ensures) (search needs) (search needs))))
 
 slice-aggregate-words-of : tie.Need-slice-aggregate-words-of
-slice-aggregate-words-of c = sym (length-take-le _ _ (omega arith))
+slice-aggregate-words-of c =
+    let string = c .before .before .before .before .before .before .before .args .string .now in
+    let n = c .before .before .before .before .before .before .before .args .separator-length in
+    let size = c .before .before .before .words-length in
+    sym (length-part string n (search needs) (size .result) (size .ensures))
 
 words-of-requires : tie.Need-words-of-requires
 words-of-requires c κs =
-    let string = c .before .before .before .before .before .before .args .string .now in
-    let n = c .before .before .before .before .before .before .args .separator-length in
-    let long = length-take-le (length string - n) string (omega arith) in
+    let string = c .before .before .before .before .before .before .before .args .string .now in
+    let n = c .before .before .before .before .before .before .before .args .separator-length in
+    let size = c .before .before .before .words-length in
+    let long = length-part string n (search needs) (size .result) (size .ensures) in
     omega arith
 
 slice-aggregate-is-sound : tie.Need-slice-aggregate-is-sound
 slice-aggregate-is-sound c = sym (length-take-le _ _ (search needs))
 
 returns-5 : tie.Need-returns-5
-unfolding wordsPart
 returns-5 c =
-    let string = c .before .before .before .before .before .before .before .before .before .before .args .string .now in
-    let n = c .before .before .before .before .before .before .before .before .before .before .args .separator-length in
-    let sound = sound-test string n (search needs) (search needs) (search needs) _ _ (c .before .before .before .words-of .ensures) (c .before .is-sound .ensures) in
-    (λ i. record { number = 0; words = c .before .before .before .words-of .ensures i; count = (length string - n) / 4 })
-    ∙ answer string n (search needs) (search needs)
+    let string = c .before .before .before .before .before .before .before .before .before .before .before .args .string .now in
+    let n = c .before .before .before .before .before .before .before .before .before .before .before .args .separator-length in
+    let size = c .before .before .before .before .before .before .before .words-length in
+    let list = c .before .before .before .words-of in
+    let sound = sound-test string n (search needs) (size .result) (size .ensures) (search needs) (list .result) _ (list .ensures) (c .before .is-sound .ensures) in
+    answer string n (search needs) (size .result) (size .ensures) (list .result) (list .ensures)
     ∙ sym (read-accepted string n (number-0 string n (search needs) (search needs) (sound ∙ c .if5 .taken)))
 
 returns-6 : tie.Need-returns-6
-unfolding wordsPart
 returns-6 c =
-    let string = c .before .before .before .before .before .before .before .before .before .before .before .args .string .now in
-    let n = c .before .before .before .before .before .before .before .before .before .before .before .args .separator-length in
-    let sound = sound-test string n (search needs) (search needs) (search needs) _ _ (c .before .before .before .before .words-of .ensures) (c .before .before .is-sound .ensures) in
+    let string = c .before .before .before .before .before .before .before .before .before .before .before .before .args .string .now in
+    let n = c .before .before .before .before .before .before .before .before .before .before .before .before .args .separator-length in
+    let size = c .before .before .before .before .before .before .before .before .words-length in
+    let list = c .before .before .before .before .words-of in
+    let sound = sound-test string n (search needs) (size .result) (size .ensures) (search needs) (list .result) _ (list .ensures) (c .before .before .is-sound .ensures) in
     c .refused5 .ensures ∙ sym (read-refused string n _ refl (number-13 string n (search needs) (search needs) (sound ∙ c .before .if5 .left)))
 
 pub read-spec : {M : Type 1} → statement M
@@ -74,7 +79,7 @@ read-spec =
     returns
     (λ c κs. search needs)
     returns-2
-    (λ c. search needs)
+    (λ c κs. search needs)
     (λ c κs. search needs)
     returns-3
     (λ c κs. search needs)

@@ -2,7 +2,7 @@
 -- Assumes nothing.
 use mathlib.Core.Path.{sym, ap, _∙_}
 use Prim.Native.Nat.{ℕ, _+_}
-use Rattle.tag.proofs.Reading.{number-read, passed, separator-refused, separator-accepted, nothing-left, last-part, start-of-nothing, start-of-last}
+use Rattle.tag.proofs.Reading.{number-read, passed, separator-refused, separator-accepted, last-part, last-start, empty-part, empty-start}
 use borrow.Author.Needs.{needs}
 use Rattle.tag.proofs.read_separator.Statement.{statement}
 use Rattle.tag.proofs.read_separator.Tie as tie
@@ -13,12 +13,12 @@ returns c =
     let n = c .before .before .before .before .before .args .separator-length in
     let number = number-read string n _ (c .before .before .before .read .ensures) in
     let at = c .before .before .before .before .before .args .string .ptr in (
-      nothing-left string n ∙ sym (separator-refused string n (λ z. c .before .if1 .taken (sym number ∙ z))),
-      ap (λ (start : ℕ). (at .0, start + at .1)) (start-of-nothing string n),
+      empty-part string n ∙ sym (separator-refused string n (λ z. c .before .if1 .taken (sym number ∙ z))),
+      ap (λ (start : ℕ). (at .0, start + at .1)) (empty-start string n),
     )
 
-sub-result-2 : tie.Need-sub-result-2
-sub-result-2 c =
+words-length-requires : tie.Need-words-length-requires
+words-length-requires c κs =
     let string = c .before .before .before .before .args .string .now in
     let n = c .before .before .before .before .args .separator-length in
     let number = number-read string n _ (c .before .before .read .ensures) in
@@ -26,14 +26,15 @@ sub-result-2 c =
 
 returns-2 : tie.Need-returns-2
 returns-2 c =
-    let string = c .before .before .before .before .before .args .string .now in
-    let n = c .before .before .before .before .before .args .separator-length in
-    let number = number-read string n _ (c .before .before .before .read .ensures) in
-    let at = c .before .before .before .before .before .args .string .ptr in
-    let accepted = number ∙ c .before .if1 .left in
-    let long = passed string n accepted .long in (
-      last-part string n long ∙ sym (separator-accepted string n accepted),
-      ap (λ (start : ℕ). (at .0, start + at .1)) (start-of-last string n long),
+    let string = c .before .before .before .before .before .before .args .string .now in
+    let n = c .before .before .before .before .before .before .args .separator-length in
+    let number = number-read string n _ (c .before .before .before .before .read .ensures) in
+    let at = c .before .before .before .before .before .before .args .string .ptr in
+    let accepted = number ∙ c .before .before .if1 .left in
+    let long = passed string n accepted .long in
+    let size = c .before .words-length in (
+      last-part string n long (size .result) (size .ensures) ∙ sym (separator-accepted string n accepted),
+      ap (λ (start : ℕ). (at .0, start + at .1)) (last-start string n long (size .result) (size .ensures)),
     )
 
 pub read-separator-spec : {M : Type 1} → statement M
@@ -45,7 +46,7 @@ read-separator-spec =
     (λ c. search needs)
     (λ c. search needs)
     returns
-    sub-result-2
+    words-length-requires
     (λ c. search needs)
     (λ c. search needs)
     (λ c. search needs)

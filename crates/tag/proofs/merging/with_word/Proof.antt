@@ -21,9 +21,9 @@ returns-3 c =
     ∙ other-kind _ _ ws e (c .before .before .before .before .before .before .fits .word .fits) (search needs) (search needs) (search needs)
     (sym (c .before .before .same-kind .ensures) ∙ not-true _ (c .before .if3 .taken))
 
-add-if4 : tie.Need-add-if4
+add-sum : tie.Need-add-sum
 unfolding lengthOf
-add-if4 c = simp (c .before .length-of .ensures, c .length-of2 .ensures) (omega arith)
+add-sum c = simp (c .before .length-of .ensures, c .length-of2 .ensures) (omega arith)
 
 returns-4 : tie.Need-returns-4
 returns-4 c =
@@ -33,14 +33,14 @@ returns-4 c =
     (rw (c .before .before .before .length-of .ensures, c .before .before .length-of2 .ensures) at (c .before .if4 .taken))
 
 lengthened-requires : tie.Need-lengthened-requires
-lengthened-requires c κs = rw (c .length-of3 .ensures) (rw (c .before .before .before .length-of .ensures, c .before .before .length-of2 .ensures) at (c .before .if4 .left))
+lengthened-requires c κs = rw (c .before .length-of2 .ensures) at (c .if4 .left)
 
 returns-5 : tie.Need-returns-5
 returns-5 c =
-    λ ws e. rw (c .lengthened .ensures, c .before .length-of3 .ensures)
-    (same-kind _ _ ws e (c .before .before .before .before .before .before .before .before .before .before .fits .word .fits) (search needs) (search needs)
-    (sym (c .before .before .before .before .before .before .same-kind .ensures) ∙ not-false _ (c .before .before .before .before .before .if3 .left))
-    (rw (c .before .before .before .before .length-of .ensures, c .before .before .before .length-of2 .ensures) at (c .before .before .if4 .left)))
+    λ ws e. rw (c .lengthened .ensures, c .before .before .before .length-of .ensures)
+    (same-kind _ _ ws e (c .before .before .before .before .before .before .before .before .before .fits .word .fits) (search needs) (search needs)
+    (sym (c .before .before .before .before .before .same-kind .ensures) ∙ not-false _ (c .before .before .before .before .if3 .left))
+    (rw (c .before .before .before .length-of .ensures, c .before .before .length-of2 .ensures) at (c .before .if4 .left)))
 
 pub with-word-spec : {M : Type 1} → statement M
 with-word-spec =
@@ -57,10 +57,9 @@ with-word-spec =
     returns-3
     (λ c κs. search needs)
     (λ c κs. search needs)
-    add-if4
+    add-sum
     (λ c κs. search needs)
     returns-4
-    (λ c κs. search needs)
     lengthened-requires
     (λ c. search needs)
     (λ c. search needs)
