@@ -87,14 +87,14 @@ pub fn check(words: &[u32], separator: &[u8]) -> Merged
 pub fn is_sound(words: &[u32]) -> bool
     ensures { λ r. ⌜ r ≡ soundWords (now (words .entry)) ⌝ }
 {
-    let count = words.len();
-    if count < 2 {
+    let n = words.len();
+    if n < 2 {
         return false;
     }
-    if count > 64 {
+    if n > 64 {
         return false;
     }
-    if count % 2 != 0 {
+    if n % 2 != 0 {
         return false;
     }
     words::alternate(words)
