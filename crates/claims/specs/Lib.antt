@@ -1,1 +1,2 @@
+pub mod TagStrings
 pub mod Samples

@@ -12,7 +12,7 @@ use Rattle.basics.specs.Logic.{same, any}
 use Rattle.basics.specs.Numbers.{accepted, mergedLengthTooLong}
 use Rattle.basics.proofs.Cases.{cases}
 use Rattle.tag.specs.Pattern.{isAbsorb, lengthOf, phases, mergedWords}
-use Rattle.tag.specs.Start.{tooLong, given, withWords}
+use Rattle.tag.specs.Start.{tooLong, withWords}
 use Rattle.tag.specs.Steps.{merged}
 use Rattle.tag.specs.declared.Merged.{Merged}
 use Rattle.tag.proofs.MergeStep.{merged-refused, merged-accepted, merged-words-length, lastWord, step-refused, step-first, step-other-kind, step-too-long, step-same-kind}
@@ -30,10 +30,6 @@ push-word ws w h =
     ∙ ap (λ (k : ℕ). ws ++ (w ∷ []) ++ replicate k 0) rest
 
 module _ (n : ℕ) (ws : List ℕ) where
-  pub number-at : withWords n ws .number ≡ n
-  unfolding withWords
-  number-at = refl
-
   pub count-at : withWords n ws .count ≡ length ws
   unfolding withWords
   count-at = refl

@@ -2,14 +2,14 @@
 -- Assumes nothing.
 use mathlib.Core.Path.{_≡_, refl, sym, ap, ap₂, _∙_}
 use mathlib.Core.List.{List, [], _∷_, _++_, append-assoc, append-nil}
-use Prim.Native.Nat.{ℕ, zero, suc, _+_, _*_, _/_, _%_, _≤_, _<_}
+use Prim.Native.Nat.{ℕ, suc, _+_, _*_, _/_, _%_, _≤_, _<_}
 use native.Mathlib.Numerals.{add-one}
 use native.Mathlib.Omega.{arith}
 use lib.ListN.{length, getD, take, drop, set, length-append, length-drop}
 use lib.Seq.{length-take-le, drop-cons, take-suc, take-at, drop-append-add, drop-drop, sets-eq}
-use Rattle.basics.specs.Digits.{digits, number, numberAfter}
+use Rattle.basics.specs.Digits.{digits}
 use Rattle.basics.proofs.Positional.{length-digits}
-use Rattle.tag.specs.TagString.{wordBytes, wordAt}
+use Rattle.tag.specs.TagString.{wordBytes}
 
 -- four bytes of a string
 pub four-bytes : (s : List ℕ) (at : ℕ) → at + 4 ≤ length s

@@ -2,13 +2,13 @@
 -- Assumes nothing.
 use mathlib.Core.Path.{_≡_, refl, sym, ap, ap₂, subst, _∙_}
 use mathlib.Core.Bool.{Bool, true, false, not, true≢false}
-use mathlib.Core.List.{List, [], _∷_, _++_, map}
-use Prim.Native.Nat.{ℕ, zero, suc, _+_, _-_, _%_, _≤_, _<_}
+use mathlib.Core.List.{List, [], _∷_, map}
+use Prim.Native.Nat.{ℕ, suc, _+_, _-_, _%_, _≤_, _<_}
 use native.Mathlib.Omega.{arith}
 use borrow.Author.Tests.{ltb-false, leb-true, le-leb, le-ltb, ne-eqb, eqb-false, not-false}
-use lib.Dec.{leb, ltb, eqb}
+use lib.Dec.{leb, eqb}
 use lib.ListN.{length, getD, length-map}
-use Rattle.basics.specs.Logic.{if_then_else_, _and_, _or_, same, all, any}
+use Rattle.basics.specs.Logic.{_or_, same, all, any}
 use Rattle.basics.specs.Numbers.{accepted}
 use Rattle.basics.proofs.Cases.{by, if-false, and-left, and-right, and-both, or-false, same-self, same-other, same-true, same-false}
 use Rattle.tag.specs.Pattern.{isAbsorb, lengthOf, Phase, phaseOf, wordOf, join, merge, phases, mergedWords, alternate, soundWords}

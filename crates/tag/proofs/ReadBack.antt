@@ -4,13 +4,13 @@ use mathlib.Core.Path.{_≡_, refl, sym, ap, ap₂, _∙_}
 use mathlib.Core.Bool.{true, false}
 use mathlib.Core.List.{List, [], _∷_, _++_, map}
 use mathlib.Core.Logic.{_≢_, _↔_}
-use Prim.Native.Nat.{ℕ, zero, suc, _+_, _-_, _*_, _/_, _%_, _≤_, _<_}
+use Prim.Native.Nat.{ℕ, zero, suc, _+_, _-_, _*_, _/_, _%_, _<_}
 use native.Mathlib.Omega.{arith}
 use borrow.Author.Tests.{ltb-false, eqb-true, eq-eqb}
-use lib.Dec.{ltb, eqb, lit<}
-use lib.ListN.{length, getD, take, drop, length-append, length-drop, take-append-drop}
-use lib.Seq.{length-take-le, take-at, drop-at, getD-take}
-use Rattle.basics.specs.Logic.{_and_, any}
+use lib.Dec.{lit<}
+use lib.ListN.{length, getD, take, drop, length-drop, take-append-drop}
+use lib.Seq.{take-at, drop-at}
+use Rattle.basics.specs.Logic.{any}
 use Rattle.basics.specs.Lists.{tabulate}
 use Rattle.basics.specs.Digits.{digits, number, numberAfter}
 use Rattle.basics.specs.Numbers.{accepted, notTagString}
@@ -19,7 +19,7 @@ use Rattle.basics.proofs.Fill.{tabulate-cons, tabulate-same}
 use Rattle.basics.proofs.Positional.{number-digits, digits-number, take-below}
 use Rattle.tag.specs.Pattern.{Phase, phaseOf, wordOf, phases, mergedWords, soundWords}
 use Rattle.tag.specs.Start.{tooLong, startNumber, withWords}
-use Rattle.tag.specs.TagString.{wordBytes, tagString, wordAt, wordsOf, wordsPart, separatorPart, soundBytes, readNumber, readWords, readSeparator}
+use Rattle.tag.specs.TagString.{wordBytes, tagString, wordAt, wordsOf, wordsPart, separatorPart, soundBytes, readNumber, readWords, wordsRead, readSeparator}
 use Rattle.tag.specs.declared.Merged.{Merged}
 use Rattle.tag.proofs.WordKinds.{word-below, phase-of-word}
 use Rattle.tag.proofs.Bytes.{length-word-bytes}
@@ -141,10 +141,6 @@ module _ (ws separator : List ℕ) (e : startNumber ws separator ≡ accepted) w
   reads-separator = separator-accepted s n reads ∙ back
 
 -- ---- writing what was read
-
--- the words that reading gives
-abbrev pub wordsRead : List ℕ → ℕ → List ℕ
-wordsRead s n = take (readWords s n .count) (readWords s n .words)
 
 module _ (s : List ℕ) (n : ℕ) (bytes : (k : ℕ) → getD s k 0 < 256) (e : readNumber s n ≡ accepted) where
   abbrev head : List ℕ

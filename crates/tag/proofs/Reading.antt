@@ -1,18 +1,18 @@
 -- Reading: its number, the words and the separator.
 -- Assumes nothing.
-use mathlib.Core.Path.{_≡_, refl, sym, ap, _∙_}
+use mathlib.Core.Path.{_≡_, sym, ap, _∙_}
 use mathlib.Core.Bool.{Bool, true, false, not}
-use mathlib.Core.List.{List, [], _∷_, _++_}
+use mathlib.Core.List.{List, [], _++_}
 use mathlib.Core.Logic.{_≢_}
 use Prim.Native.Nat.{ℕ, _-_, _/_, _%_, _≤_, _<_}
 use native.Mathlib.Omega.{arith}
-use borrow.Author.Tests.{ltb-false, lt-ltb, le-ltb, eq-eqb, ne-eqb, eqb-true, not-false}
-use lib.Dec.{ltb, eqb}
+use borrow.Author.Tests.{ltb-false, lt-ltb, le-ltb, eq-eqb, ne-eqb, not-false}
+use lib.Dec.{eqb}
 use lib.ListN.{length, take, drop, replicate, length-drop}
 use lib.Seq.{length-take-le, take-at, take-all, take-nil, drop-length}
 use Rattle.basics.specs.Logic.{if_then_else_, _and_}
 use Rattle.basics.specs.Numbers.{accepted, separatorTooLong, notTagString}
-use Rattle.basics.proofs.Cases.{by, if-true, if-false, and-left, and-right, and-false}
+use Rattle.basics.proofs.Cases.{by, if-true, if-false, and-false}
 use Rattle.basics.proofs.Fill.{length-tabulate}
 use Rattle.tag.specs.Pattern.{soundWords}
 use Rattle.tag.specs.Start.{given, withWords}

@@ -1,21 +1,20 @@
 -- Writing: its number, and what it leaves in the buffer.
 -- Assumes nothing.
 use mathlib.Core.Path.{_≡_, sym, ap, ap₂, _∙_}
-use mathlib.Core.Bool.{Bool, true, false, not}
-use mathlib.Core.List.{List, [], _∷_, _++_}
+use mathlib.Core.List.{List, [], _++_}
 use mathlib.Core.Logic.{_≢_}
 use Prim.Native.Nat.{ℕ, _+_, _*_, _≤_, _<_}
-use borrow.Author.Tests.{eq-eqb, ne-eqb, lt-ltb, le-ltb}
-use lib.Dec.{ltb, eqb}
+use borrow.Author.Tests.{ne-eqb, lt-ltb, le-ltb}
 use native.Mathlib.Omega.{arith}
 use lib.ListN.{length, take, drop, length-append}
-use lib.Seq.{length-take-le, length-front, take-at, drop-append-add, drop-drop}
+use lib.Seq.{take-at, take-append-seam, drop-append-add, drop-drop}
 use Rattle.basics.specs.Logic.{if_then_else_}
 use Rattle.basics.specs.Numbers.{accepted, bufferTooShort}
 use Rattle.tag.specs.Pattern.{mergedWords}
 use Rattle.tag.specs.Start.{startNumber, given, withWords, checked}
 use Rattle.tag.specs.TagString.{wordBytes, tagString, writeNumber, writtenBytes, written, bufferAfter}
 use Rattle.tag.specs.declared.Merged.{Merged}
+use Rattle.tag.specs.declared.Written.{Written}
 use Rattle.tag.proofs.Bytes.{length-word-bytes}
 use Rattle.tag.proofs.Answers.{count-at, count-within, words-used}
 use Rattle.tag.proofs.StartCheck.{checked-number, checked-accepted, few-words}
@@ -117,11 +116,6 @@ module _ (ws separator buffer : List ℕ) (r : Merged) (e : r ≡ checked ws sep
     words-length = length-word-bytes (mergedWords ws) ∙ ap (λ (k : ℕ). 4 * k) (sym counted)
 
     module _ (h : 4 * r .count + length separator ≤ length buffer) where
-      pub half-length : length half ≡ length buffer
-      half-length =
-          ap length half-words
-          ∙ length-front buffer (wordBytes (mergedWords ws)) (4 * r .count) (words-length ∙ sym (length-take-le (4 * r .count) buffer (omega arith)))
-
       pub whole-string : (record { number = 0; length = 4 * r .count + length separator } ≡ written ws separator buffer)
           × (take (4 * r .count) half ++ separator ++ drop (4 * r .count + length separator) half ≡ bufferAfter ws separator buffer)
       unfolding tagString
@@ -139,3 +133,10 @@ module _ (ws separator buffer : List ℕ) (r : Merged) (e : r ≡ checked ws sep
                 ∙ ap (λ (k : ℕ). front ++ separator ++ drop k buffer) (sym string-length)
                 ∙ sym (buffer-accepted ws separator buffer number),
           )
+
+-- the tag string stands in the buffer's front
+pub front-of-buffer : (ws separator buffer : List ℕ) → writeNumber ws separator buffer ≡ accepted
+    → take (written ws separator buffer .length) (bufferAfter ws separator buffer) ≡ tagString ws separator
+front-of-buffer ws separator buffer e =
+    ap₂ (λ (w : Written) (l : List ℕ). take (w .length) l) (written-accepted ws separator buffer e) (buffer-accepted ws separator buffer e)
+    ∙ take-append-seam (tagString ws separator) (drop (length (tagString ws separator)) buffer)

@@ -1,6 +1,6 @@
 -- The start check of document 01, "Calls turned away": "START checks 1 to 6 in number order, whichever word is at fault".
 use mathlib.Core.Bool.{Bool, not}
-use mathlib.Core.List.{List, [], _∷_, _++_}
+use mathlib.Core.List.{List, [], _++_}
 use Prim.Native.Nat.{ℕ, _-_}
 use lib.Dec.{ltb, eqb}
 use lib.ListN.{length, getD, replicate}

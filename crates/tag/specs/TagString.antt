@@ -76,6 +76,10 @@ readNumber s n =
 unfoldable pub readWords : List ℕ → ℕ → Merged
 readWords s n = withWords (readNumber s n) (given (readNumber s n) (wordsOf (wordsPart s n)))
 
+-- the words that reading gives, without the places that are not used
+abbrev pub wordsRead : List ℕ → ℕ → List ℕ
+wordsRead s n = take (readWords s n .count) (readWords s n .words)
+
 -- "the separator comes back as that part of the string itself (empty on a refusal)"
 unfoldable pub readSeparator : List ℕ → ℕ → List ℕ
 readSeparator s n = given (readNumber s n) (separatorPart s n)

@@ -3,7 +3,6 @@ mod merging;
 pub mod words;
 
 ghost use mathlib.Core.Path.{_≡_};
-ghost use mathlib.Core.Bool.{not};
 ghost use mathlib.Core.List.{[]};
 ghost use Prim.Native.Nat.{_+_, _-_, _≤_};
 ghost use denote.Ref.{ptr};
@@ -12,7 +11,7 @@ ghost use lib.ListN.{length};
 ghost use Rattle.basics.specs.Logic.{any};
 ghost use Rattle.tag.specs.Pattern.{lengthOf, soundWords};
 ghost use Rattle.tag.specs.Start.{withWords, checked};
-ghost use Rattle.tag.specs.TagString.{wordBytes, written, bufferAfter, wordsOf, readWords, readSeparator};
+ghost use Rattle.tag.specs.TagString.{written, bufferAfter, readWords, readSeparator};
 ghost use Rattle.tag.specs.Elements.{tagElements};
 
 // Number 0 and merged words, with unused ones 0; or another number and no words.

@@ -30,17 +30,17 @@ returns-4 c =
     λ ws e. c .refused .ensures
     ∙ too-long _ _ ws e (c .before .before .before .before .before .before .before .before .before .fits .word .fits) (search needs) (search needs)
     (sym (c .before .before .before .before .before .same-kind .ensures) ∙ not-false _ (c .before .before .before .before .if3 .left))
-    (rw (c .before .before .before .length-of .ensures, c .before .before .length-of2 .ensures) at (c .before .if4 .taken))
+    (omega (arith, c .before .before .before .length-of .ensures, c .before .before .length-of2 .ensures))
 
 lengthened-requires : tie.Need-lengthened-requires
-lengthened-requires c κs = rw (c .before .length-of2 .ensures) at (c .if4 .left)
+lengthened-requires c κs = omega (arith, c .before .length-of2 .ensures)
 
 returns-5 : tie.Need-returns-5
 returns-5 c =
     λ ws e. rw (c .lengthened .ensures, c .before .before .before .length-of .ensures)
     (same-kind _ _ ws e (c .before .before .before .before .before .before .before .before .before .fits .word .fits) (search needs) (search needs)
     (sym (c .before .before .before .before .before .same-kind .ensures) ∙ not-false _ (c .before .before .before .before .if3 .left))
-    (rw (c .before .before .before .length-of .ensures, c .before .before .length-of2 .ensures) at (c .before .if4 .left)))
+    (omega (arith, c .before .before .before .length-of .ensures, c .before .before .length-of2 .ensures)))
 
 pub with-word-spec : {M : Type 1} → statement M
 with-word-spec =
