@@ -8,14 +8,14 @@ use Prim.Native.Nat.{ℕ, suc, _+_, _-_, _≤_, _<_}
 use native.Mathlib.Omega.{arith}
 use lib.ListN.{length, getD, take, set, replicate, length-append, length-set, List·getD-append}
 use lib.Seq.{take-append-seam, set-at, set-append-left, append-snoc}
-use Rattle.basics.specs.Logic.{same, any}
+use Rattle.basics.specs.Logic.{if_then_else_, same, any}
 use Rattle.basics.specs.Numbers.{accepted, mergedLengthTooLong}
 use Rattle.basics.proofs.Cases.{cases}
-use Rattle.tag.specs.Pattern.{isAbsorb, lengthOf, phases, mergedWords}
-use Rattle.tag.specs.Start.{tooLong, withWords}
-use Rattle.tag.specs.Steps.{merged}
+use Rattle.tag.specs.Pattern.{isAbsorb, lengthOf, merge, phases, mergedWords}
+use Rattle.tag.specs.Start.{tooLong, given, withWords}
+use Rattle.tag.specs.Steps.{mergeNumber, merged, Holds, Stepped}
 use Rattle.tag.specs.declared.Merged.{Merged}
-use Rattle.tag.proofs.MergeStep.{merged-refused, merged-accepted, merged-words-length, lastWord, step-refused, step-first, step-other-kind, step-too-long, step-same-kind}
+use Rattle.tag.proofs.MergeStep.{stays-too-long, merged-refused, merged-accepted, merged-words-length, lastWord, step-first, step-other-kind, step-too-long, step-same-kind}
 
 -- words in 64 places, and one word more
 pub push-word : (ws : List ℕ) (w : ℕ) → length ws < 64
@@ -78,64 +78,80 @@ unfolding withWords
 if-refused ws e =
     cases (any tooLong (phases ws)) (λ t. t) λ f. absurd (e (ap (λ (m : Merged). m .number) (merged-accepted ws f)))
 
-pub merged-count : (ws : List ℕ) → merged ws .count ≤ length ws
+-- a merged length that is too long stays so
+pub merged-stays : (ws vs : List ℕ) → merged ws ≡ withWords mergedLengthTooLong [] → merged (ws ++ vs) ≡ withWords mergedLengthTooLong []
 unfolding withWords
-merged-count ws =
-    cases (any tooLong (phases ws))
-    (λ t. omega (arith, ap (λ (m : Merged). m .count) (merged-refused ws t)))
-    λ f. omega (arith, ap (λ (m : Merged). m .count) (merged-accepted ws f), merged-words-length ws)
+merged-stays ws vs e =
+    let long = if-refused ws (λ z. omega (arith, z, ap (λ (m : Merged). m .number) e)) in
+    merged-refused (ws ++ vs) (stays-too-long ws vs long)
 
--- one step of the pass: the answer m for words, and the word w behind them
-module _ (m : Merged) (w : ℕ) (ws : List ℕ) (e : m ≡ merged ws) where
+-- ---- a list that holds merged words
+
+pub holds-none : Holds [] (replicate 64 0) 0
+unfolding merged mergeNumber mergedWords phases merge given withWords any if_then_else_
+holds-none = record { holds = refl }
+
+module _ (ws list : List ℕ) (count : ℕ) (h : Holds ws list count) where
+  fine : any tooLong (phases ws) ≡ false
+  fine = if-accepted ws (ap (λ (m : Merged). m .number) (h .holds))
+
+  answer : record { number = accepted; words = list; count = count } ≡ withWords accepted (mergedWords ws)
+  answer = sym (h .holds) ∙ merged-accepted ws fine
+
+  counted : count ≡ length (mergedWords ws)
+  counted = ap (λ (m : Merged). m .count) answer ∙ count-at accepted (mergedWords ws)
+
+  pub holds-few : count ≤ length ws
+  holds-few = rw counted (merged-words-length ws)
+
+-- one step of the pass: a list that holds the merged words of ws, and the word w behind them
+module _ (ws list : List ℕ) (count w : ℕ) (bound : w < 4294967296) (h : Holds ws list count) where
+  abbrev more : List ℕ
+  more = ws ++ (w ∷ [])
+
   abbrev last : ℕ
-  last = getD (m .words) (m .count - 1) 0
+  last = getD list (count - 1) 0
 
-  abbrev pushed : Merged
-  pushed = record { number = m .number; words = set (m .words) (m .count) w; count = m .count + 1 }
+  pushed : count < 64 → merged more ≡ withWords accepted (mergedWords ws ++ (w ∷ [])) → Stepped more (set list count w) (count + 1)
+  pushed room e =
+      let same =
+      (λ i. record { number = answer ws list count h i .number; words = set (answer ws list count h i .words) (answer ws list count h i .count) w; count = answer ws list count h i .count + 1 })
+      ∙ push accepted (mergedWords ws) w (rw (counted ws list count h) at room) in
+      record { fine = λ _. record { holds = e ∙ sym same }; tooLong = λ z. absurd (omega arith) }
 
-  pub stays-refused : m .number ≢ 0 → m ≡ merged (ws ++ (w ∷ []))
-  stays-refused n = e ∙ step-refused ws w (if-refused ws (λ z. n (ap (λ (l : Merged). l .number) e ∙ z)))
+  pub first-word : count < 64 → count ≡ 0 → Stepped more (set list count w) (count + 1)
+  first-word room z = pushed room (step-first ws w bound (fine ws list count h) (sym (counted ws list count h) ∙ z))
 
-  module _ (bound : w < 4294967296) (n : m .number ≡ 0) where
-    fine : any tooLong (phases ws) ≡ false
-    fine = if-accepted ws (sym (ap (λ (l : Merged). l .number) e) ∙ n)
+  module _ (some : count ≢ 0) where
+    words : 0 < length (mergedWords ws)
+    words = let l : length (mergedWords ws) ≢ 0 = rw (counted ws list count h) at some in omega (arith, l)
 
-    answer : m ≡ withWords accepted (mergedWords ws)
-    answer = e ∙ merged-accepted ws fine
+    last-word : last ≡ lastWord ws
+    last-word =
+        ap (λ (m : Merged). getD (m .words) (m .count - 1) 0) (answer ws list count h)
+        ∙ ap (λ (k : ℕ). getD (withWords accepted (mergedWords ws) .words) (k - 1) 0) (count-at accepted (mergedWords ws))
+        ∙ word-at accepted (mergedWords ws) (length (mergedWords ws) - 1) (omega (arith, words))
 
-    counted : m .count ≡ length (mergedWords ws)
-    counted = ap (λ (l : Merged). l .count) answer ∙ count-at accepted (mergedWords ws)
+    kinds : (k : Bool) → same (isAbsorb last) (isAbsorb w) ≡ k → same (isAbsorb (lastWord ws)) (isAbsorb w) ≡ k
+    kinds k s = sym (ap (λ (x : ℕ). same (isAbsorb x) (isAbsorb w)) last-word) ∙ s
 
-    pushed-answer : m .count < 64 → pushed ≡ withWords accepted (mergedWords ws ++ (w ∷ []))
-    pushed-answer room =
-        (λ i. record { number = answer i .number; words = set (answer i .words) (answer i .count) w; count = answer i .count + 1 })
-        ∙ push accepted (mergedWords ws) w (rw counted at room)
+    pub other-kind : count < 64 → same (isAbsorb last) (isAbsorb w) ≡ false → Stepped more (set list count w) (count + 1)
+    other-kind room s = pushed room (step-other-kind ws w bound (fine ws list count h) words (kinds false s))
 
-    pub first-word : m .count < 64 → m .count ≡ 0 → pushed ≡ merged (ws ++ (w ∷ []))
-    first-word room z = pushed-answer room ∙ sym (step-first ws w bound fine (sym counted ∙ z))
+    pub too-long : same (isAbsorb last) (isAbsorb w) ≡ true → 2147483647 < lengthOf last + lengthOf w → Stepped more list 0
+    too-long s l =
+        record {
+          fine = λ z. absurd (z refl);
+          tooLong = λ _. step-too-long ws w bound (fine ws list count h) words (kinds true s) (rw last-word at l);
+        }
 
-    module _ (some : m .count ≢ 0) where
-      words : 0 < length (mergedWords ws)
-      words = let l : length (mergedWords ws) ≢ 0 = rw counted at some in omega (arith, l)
-
-      last-word : last ≡ lastWord ws
-      last-word =
-          ap (λ (l : Merged). getD (l .words) (l .count - 1) 0) answer
-          ∙ ap (λ (k : ℕ). getD (withWords accepted (mergedWords ws) .words) (k - 1) 0) (count-at accepted (mergedWords ws))
-          ∙ word-at accepted (mergedWords ws) (length (mergedWords ws) - 1) (omega (arith, words))
-
-      kinds : (k : Bool) → same (isAbsorb last) (isAbsorb w) ≡ k → same (isAbsorb (lastWord ws)) (isAbsorb w) ≡ k
-      kinds k s = sym (ap (λ (x : ℕ). same (isAbsorb x) (isAbsorb w)) last-word) ∙ s
-
-      pub other-kind : m .count < 64 → same (isAbsorb last) (isAbsorb w) ≡ false → pushed ≡ merged (ws ++ (w ∷ []))
-      other-kind room s = pushed-answer room ∙ sym (step-other-kind ws w bound fine words (kinds false s))
-
-      pub too-long : same (isAbsorb last) (isAbsorb w) ≡ true → 2147483647 < lengthOf last + lengthOf w → withWords mergedLengthTooLong [] ≡ merged (ws ++ (w ∷ []))
-      too-long s h = sym (step-too-long ws w bound fine words (kinds true s) (rw last-word at h))
-
-      pub same-kind : same (isAbsorb last) (isAbsorb w) ≡ true → lengthOf last + lengthOf w ≤ 2147483647
-          → record { number = m .number; words = set (m .words) (m .count - 1) (last + lengthOf w); count = m .count } ≡ merged (ws ++ (w ∷ []))
-      same-kind s h =
-          (λ i. record { number = answer i .number; words = set (answer i .words) (counted i - 1) (last-word i + lengthOf w); count = answer i .count })
-          ∙ replace accepted (mergedWords ws) (length (mergedWords ws) - 1) (lastWord ws + lengthOf w) (omega (arith, words))
-          ∙ sym (step-same-kind ws w bound fine words (kinds true s) (rw last-word at h))
+    pub same-kind : same (isAbsorb last) (isAbsorb w) ≡ true → lengthOf last + lengthOf w ≤ 2147483647
+        → Stepped more (set list (count - 1) (last + lengthOf w)) count
+    same-kind s l =
+        let longer =
+        (λ i. record { number = answer ws list count h i .number; words = set (answer ws list count h i .words) (counted ws list count h i - 1) (last-word i + lengthOf w); count = answer ws list count h i .count })
+        ∙ replace accepted (mergedWords ws) (length (mergedWords ws) - 1) (lastWord ws + lengthOf w) (omega (arith, words)) in
+        record {
+          fine = λ _. record { holds = step-same-kind ws w bound (fine ws list count h) words (kinds true s) (rw last-word at l) ∙ sym longer };
+          tooLong = λ z. absurd (some z);
+        }

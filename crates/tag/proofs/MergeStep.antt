@@ -2,13 +2,13 @@
 -- Assumes nothing.
 use mathlib.Core.Path.{_≡_, refl, sym, ap, _∙_}
 use mathlib.Core.Bool.{Bool, true, false, true≢false}
-use mathlib.Core.List.{List, [], _∷_, _++_, map, map-append, append-assoc}
+use mathlib.Core.List.{List, [], _∷_, _++_, map, map-append, append-nil, append-assoc}
 use Prim.Native.Nat.{ℕ, suc, _+_, _-_, _≤_, _<_}
 use native.Mathlib.Nat.{add-assoc, not-suc-le-zero}
 use native.Mathlib.Omega.{arith}
 use borrow.Author.Tests.{ltb-true, ltb-false, lt-ltb, le-ltb}
 use lib.ListN.{length, getD, set, length-append, length-map}
-use lib.Seq.{getD-at, set-at}
+use lib.Seq.{append-snoc, getD-at, set-at}
 use Rattle.basics.specs.Logic.{if_then_else_, _or_, same, any}
 use Rattle.basics.specs.Numbers.{accepted, mergedLengthTooLong}
 use Rattle.basics.proofs.Cases.{by, if-true, if-false, or-false, or-end, or-either, any-append}
@@ -113,6 +113,12 @@ pub merged-words-length : (ws : List ℕ) → length (mergedWords ws) ≤ length
 unfolding mergedWords phases
 merged-words-length ws = rw (length-map (merge (map phaseOf ws)) wordOf) (rw (length-map ws phaseOf) at (merge-length (map phaseOf ws)))
 
+pub stays-too-long : (ws vs : List ℕ) → any tooLong (phases ws) ≡ true → any tooLong (phases (ws ++ vs)) ≡ true
+stays-too-long ws [] e = rw (append-nil ws) e
+stays-too-long ws (v ∷ vs) e =
+    let more = ap (any tooLong) (phases-snoc ws v) ∙ stays (phases ws) (phaseOf v) e in
+    sym (ap (λ (l : List ℕ). any tooLong (phases l)) (append-snoc ws v vs)) ∙ stays-too-long (ws ++ (v ∷ [])) vs more
+
 -- ---- the answers, one word more
 
 pub merged-refused : (ws : List ℕ) → any tooLong (phases ws) ≡ true → merged ws ≡ withWords mergedLengthTooLong []
@@ -138,11 +144,6 @@ lastWord ws = getD (mergedWords ws) (length (mergedWords ws) - 1) 0
 module _ (ws : List ℕ) (w : ℕ) where
   abbrev more : List ℕ
   more = ws ++ (w ∷ [])
-
-  pub step-refused : any tooLong (phases ws) ≡ true → merged ws ≡ merged more
-  step-refused e =
-      merged-refused ws e
-      ∙ sym (merged-refused more (ap (any tooLong) (phases-snoc ws w) ∙ stays (phases ws) (phaseOf w) e))
 
   -- the word stands behind the merged words
   appended : w < 4294967296 → any tooLong (phases ws) ≡ false → phases more ≡ phases ws ++ (phaseOf w ∷ []) → merged more ≡ withWords accepted (mergedWords ws ++ (w ∷ []))

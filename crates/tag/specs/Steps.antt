@@ -1,5 +1,7 @@
 -- What private functions of the crate give.
-use mathlib.Core.List.{List}
+use mathlib.Core.Path.{_≡_}
+use mathlib.Core.List.{List, []}
+use mathlib.Core.Logic.{_≢_}
 use Prim.Native.Nat.{ℕ}
 use Rattle.basics.specs.Logic.{if_then_else_, any}
 use Rattle.basics.specs.Numbers.{accepted, mergedLengthTooLong}
@@ -14,3 +16,12 @@ mergeNumber ws = if any tooLong (phases ws) then mergedLengthTooLong else accept
 -- number 5, or the merged words
 unfoldable pub merged : List ℕ → Merged
 merged ws = withWords (mergeNumber ws) (given (mergeNumber ws) (mergedWords ws))
+
+-- a list of 64 places holds the merged words of ws, which are so many
+pub record Holds (ws list : List ℕ) (count : ℕ) : Type 0 where
+  pub holds : merged ws ≡ record { number = accepted; words = list; count = count }
+
+-- a list holds the merged words of ws, or the count is 0 and a merged length too long
+pub record Stepped (ws list : List ℕ) (count : ℕ) : Type 0 where
+  pub fine : count ≢ 0 → Holds ws list count
+  pub tooLong : count ≡ 0 → merged ws ≡ withWords mergedLengthTooLong []

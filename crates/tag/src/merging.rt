@@ -5,21 +5,9 @@ use crate::words;
 ghost use mathlib.Core.Path.{_≡_};
 ghost use mathlib.Core.List.{List, [], _∷_, _++_};
 ghost use Prim.Native.Nat.{ℕ, _+_, _≤_, _<_};
-ghost use lib.ListN.{length, set};
+ghost use lib.ListN.{length};
 ghost use Rattle.tag.specs.Pattern.{lengthOf};
-ghost use Rattle.tag.specs.Steps.{merged};
-
-// The words and one more behind them.
-fn pushed(list: Merged, word: u32) -> Merged
-    requires { ⌜ list .count < 64 ⌝ }
-    ensures { λ r. ⌜ r ≡ record { number = list .number; words = set (list .words) (list .count) word; count = list .count + 1 } ⌝ }
-{
-    let count = list.count;
-    let mut next = list;
-    next.words[count] = word;
-    next.count = count + 1;
-    next
-}
+ghost use Rattle.tag.specs.Steps.{merged, Holds, Stepped};
 
 // A word with so many elements more.
 fn lengthened(word: u32, elements: u32) -> u32
@@ -29,30 +17,27 @@ fn lengthened(word: u32, elements: u32) -> u32
     word + elements
 }
 
-// The answer for some words and one more, from the answer for the words: one step of the pass.
-fn with_word(list: Merged, word: u32) -> Merged
-    requires { ⌜ list .count < 64 ⌝ }
-    ensures { λ r. ⌜ ((ws : List ℕ) → list ≡ merged ws → r ≡ merged (ws ++ (word ∷ []))) ⌝ }
+// One step of the pass: a word behind the words of a list. Answers how many words there are then, and 0 where a length is too long.
+fn add_word(list: &mut [u32; 64], count: usize, word: u32) -> usize
+    requires { ⌜ count < 64 ⌝ }
+    ensures { λ r. ⌜ ((ws : List ℕ) → Holds ws (now (list .entry)) count → Stepped (ws ++ (word ∷ [])) (now (list .exit)) r) ⌝ }
 {
-    let count = list.count;
-    if list.number != basics::ACCEPTED {
-        return list;
-    }
     if count == 0 {
-        return pushed(list, word);
+        list[count] = word;
+        return count + 1;
     }
-    let last = list.words[count - 1];
+    let last = list[count - 1];
     if !words::same_kind(last, word) {
-        return pushed(list, word);
+        list[count] = word;
+        return count + 1;
     }
     let elements = words::length_of(word);
     let sum = words::length_of(last) + elements;
     if sum > 2147483647 {
-        return refused(basics::MERGED_LENGTH_TOO_LONG);
+        return 0;
     }
-    let mut next = list;
-    next.words[count - 1] = lengthened(last, elements);
-    next
+    list[count - 1] = lengthened(last, elements);
+    count
 }
 
 // Merges at most 64 words in one pass.
@@ -60,10 +45,18 @@ pub(crate) fn merge(words: &[u32]) -> Merged
     requires { ⌜ length (now words) ≤ 64 ⌝ }
     ensures { λ r. ⌜ r ≡ merged (now (words .entry)) ⌝ }
 {
-    let mut list = refused(basics::ACCEPTED);
+    let mut list = [0u32; 64];
+    let mut count: usize = 0;
     for i in 0..words.len() {
-        let next = with_word(list, words[i]);
-        list = next;
+        let next = add_word(&mut list, count, words[i]);
+        if next == 0 {
+            return refused(basics::MERGED_LENGTH_TOO_LONG);
+        }
+        count = next;
     }
-    list
+    Merged {
+        number: basics::ACCEPTED,
+        words: list,
+        count,
+    }
 }
