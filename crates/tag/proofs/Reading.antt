@@ -93,9 +93,9 @@ module _ (s : List ℕ) (n : ℕ) where
     unfolding soundBytes _and_
     cut-word z = rw (length-words-part, ne-eqb (size % 4) 0 z)
 
-    pub too-long : size % 4 ≡ 0 → 256 < size → soundBytes (wordsPart s n) ≡ false
+    pub too-long : 64 < size / 4 → soundBytes (wordsPart s n) ≡ false
     unfolding soundBytes
-    too-long z l =
+    too-long l =
         let many : 64 < length (wordsOf (wordsPart s n)) = rw (length-words-of (wordsPart s n), length-words-part) (omega arith) in
         rw (too-many (wordsOf (wordsPart s n)) many) (and-false _)
 

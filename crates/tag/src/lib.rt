@@ -14,6 +14,12 @@ ghost use Rattle.tag.specs.Start.{withWords, checked};
 ghost use Rattle.tag.specs.TagString.{written, bufferAfter, readWords, readSeparator};
 ghost use Rattle.tag.specs.Elements.{tagElements};
 
+// The longest pattern, in words.
+pub const MAX_WORDS: usize = 64;
+
+// The longest separator, in bytes.
+pub const MAX_SEPARATOR: usize = 256;
+
 // Number 0 and merged words, with unused ones 0; or another number and no words.
 pub struct Merged {
     pub number: u32,
@@ -57,7 +63,7 @@ pub fn check(words: &[u32], separator: &[u8]) -> Merged
     if count == 0 {
         return refused(basics::WORD_COUNT_OUT_OF_RANGE);
     }
-    if count > 64 {
+    if count > MAX_WORDS {
         return refused(basics::WORD_COUNT_OUT_OF_RANGE);
     }
     let length_zero = has_length_zero(words);
@@ -76,7 +82,7 @@ pub fn check(words: &[u32], separator: &[u8]) -> Merged
     if merged.number != basics::ACCEPTED {
         return merged;
     }
-    if separator.len() > 256 {
+    if separator.len() > MAX_SEPARATOR {
         return refused(basics::SEPARATOR_TOO_LONG);
     }
     merged
@@ -90,7 +96,7 @@ pub fn is_sound(words: &[u32]) -> bool
     if n < 2 {
         return false;
     }
-    if n > 64 {
+    if n > MAX_WORDS {
         return false;
     }
     if n % 2 != 0 {
@@ -140,7 +146,7 @@ fn words_length(string: &[u8], separator_length: usize) -> usize
 pub fn read(string: &[u8], separator_length: usize) -> Merged
     ensures { λ r. ⌜ r ≡ readWords (now (string .entry)) «separator_length» ⌝ }
 {
-    if separator_length > 256 {
+    if separator_length > MAX_SEPARATOR {
         return refused(basics::SEPARATOR_TOO_LONG);
     }
     if string.len() < separator_length {
@@ -150,10 +156,10 @@ pub fn read(string: &[u8], separator_length: usize) -> Merged
     if length % 4 != 0 {
         return refused(basics::NOT_TAG_STRING);
     }
-    if length > 256 {
+    let count = length / 4;
+    if count > MAX_WORDS {
         return refused(basics::NOT_TAG_STRING);
     }
-    let count = length / 4;
     let list = words::words_of(&string[..length]);
     if is_sound(&list[..count]) {
         return Merged {
@@ -165,7 +171,8 @@ pub fn read(string: &[u8], separator_length: usize) -> Merged
     refused(basics::NOT_TAG_STRING)
 }
 
-// The separator of a tag string, as that part of the string itself; empty where `read` refuses.
+// The separator of a tag string, as that part of the string itself, empty where `read` refuses. It lies in the string's memory and ends
+// where the string ends.
 pub fn read_separator(string: &[u8], separator_length: usize) -> &[u8]
     ensures { λ r. ⌜ now r ≡ readSeparator (now (string .entry)) «separator_length» ⌝ }
     ensures { λ r. ⌜ ptr r ≡ (ptr (string .entry) .0, length (now (string .entry)) - length (now r) + ptr (string .entry) .1) ⌝ }

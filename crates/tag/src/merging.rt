@@ -33,7 +33,7 @@ fn add_word(list: &mut [u32; 64], count: usize, word: u32) -> usize
     }
     let elements = words::length_of(word);
     let sum = words::length_of(last) + elements;
-    if sum > 2147483647 {
+    if sum > words::MAX_LENGTH {
         return 0;
     }
     list[count - 1] = lengthened(last, elements);

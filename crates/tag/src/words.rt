@@ -2,7 +2,7 @@
 ghost use mathlib.Core.Path.{_≡_};
 ghost use mathlib.Core.Bool.{true};
 ghost use mathlib.Core.List.{[], _∷_, _++_};
-ghost use Prim.Native.Nat.{_+_, _-_, _*_, _≤_};
+ghost use Prim.Native.Nat.{_+_, _-_, _*_, _/_, _≤_};
 ghost use lib.Dec.{leb};
 ghost use lib.ListN.{length, take, drop, replicate};
 ghost use Rattle.basics.specs.Logic.{_and_, same, all};
@@ -10,25 +10,31 @@ ghost use Rattle.basics.specs.Digits.{digits, number};
 ghost use Rattle.tag.specs.Pattern.{isAbsorb, lengthOf, alternate};
 ghost use Rattle.tag.specs.TagString.{wordBytes, wordAt, wordsOf};
 
+// The top bit of a word, set for ABSORB.
+const ABSORB: u32 = 2147483648;
+
+// The longest call, in elements: what 31 bits hold.
+pub const MAX_LENGTH: u32 = 2147483647;
+
 // Whether a word is ABSORB; else it is SQUEEZE.
 pub fn is_absorb(word: u32) -> bool
     ensures { λ r. ⌜ r ≡ isAbsorb word ⌝ }
 {
-    word >= 2147483648
+    word >= ABSORB
 }
 
 // How many elements a word stands for.
 pub fn length_of(word: u32) -> u32
     ensures { λ r. ⌜ r ≡ lengthOf word ⌝ }
 {
-    word % 2147483648
+    word % ABSORB
 }
 
 // Whether both are ABSORB, or both SQUEEZE.
 pub(crate) fn same_kind(a: u32, b: u32) -> bool
     ensures { λ r. ⌜ r ≡ same (isAbsorb a) (isAbsorb b) ⌝ }
 {
-    a / 2147483648 == b / 2147483648
+    a / ABSORB == b / ABSORB
 }
 
 // Whether kinds alternate from ABSORB, and lengths are at least 1.
@@ -66,9 +72,9 @@ pub(crate) fn word_at(string: &[u8], k: usize) -> u32
     big_endian(string[at], string[at + 1], string[at + 2], string[at + 3])
 }
 
-// The words of a string of at most 256 bytes, and zeros behind them.
+// The words of a string of at most 64 words, and zeros behind them.
 pub(crate) fn words_of(string: &[u8]) -> [u32; 64]
-    requires { ⌜ length (now string) ≤ 256 ⌝ }
+    requires { ⌜ length (now string) / 4 ≤ 64 ⌝ }
     ensures { λ r. ⌜ r ≡ wordsOf (now (string .entry)) ++ replicate (64 - length (wordsOf (now (string .entry)))) 0 ⌝ }
 {
     let mut out = [0u32; 64];
@@ -89,6 +95,7 @@ fn put_word(buffer: &mut [u8], at: usize, word: u32)
     buffer[at + 3] = (word % 256) as u8;
 }
 
+// Writes words, four bytes each, from the buffer's start on.
 pub(crate) fn put_words(buffer: &mut [u8], words: &[u32])
     requires { ⌜ 4 * length (now words) ≤ length (now buffer) ⌝ }
     ensures { λ _. ⌜ now (buffer .exit) ≡ wordBytes (now (words .entry)) ++ drop (4 * length (now (words .entry))) (now (buffer .entry)) ⌝ }

@@ -32,7 +32,7 @@ returns-4 c =
     let string = c .before .before .before .before .before .before .before .args .string .now in
     let n = c .before .before .before .before .before .before .before .args .separator-length in
     let size = c .before .before .before .words-length in
-    c .refused4 .ensures ∙ sym (read-refused string n _ refl (number-13 string n (search needs) (search needs) (too-long string n (search needs) (size .result) (size .ensures) (search needs) (search needs))))
+    c .refused4 .ensures ∙ sym (read-refused string n _ refl (number-13 string n (search needs) (search needs) (too-long string n (search needs) (size .result) (size .ensures) (search needs))))
 
 slice-aggregate-words-of : tie.Need-slice-aggregate-words-of
 slice-aggregate-words-of c =
@@ -46,8 +46,7 @@ words-of-requires c κs =
     let string = c .before .before .before .before .before .before .before .args .string .now in
     let n = c .before .before .before .before .before .before .before .args .separator-length in
     let size = c .before .before .before .words-length in
-    let long = length-part string n (search needs) (size .result) (size .ensures) in
-    omega arith
+    rw (length-part string n (search needs) (size .result) (size .ensures)) (search needs)
 
 slice-aggregate-is-sound : tie.Need-slice-aggregate-is-sound
 slice-aggregate-is-sound c = sym (length-take-le _ _ (search needs))
