@@ -67,15 +67,9 @@ module _ (ws separator : List ℕ) where
 
 -- ---- from the answer r of the start check
 
-module _ (ws separator buffer : List ℕ) (r : Merged) (e : r ≡ checked ws separator) where
+module _ (ws separator : List ℕ) (r : Merged) (e : r ≡ checked ws separator) where
   number-checked : r .number ≡ startNumber ws separator
   number-checked = ap (λ (m : Merged). m .number) e ∙ checked-number ws separator
-
-  pub check-refuses : r .number ≢ 0 → (record { number = r .number; length = 0 } ≡ written ws separator buffer) × (buffer ≡ bufferAfter ws separator buffer)
-  check-refuses n =
-      let number = number-of-check ws separator buffer (rw number-checked at n) in
-      let refused : writeNumber ws separator buffer ≢ 0 = rw number (rw number-checked at n) in
-      ((λ i. record { number = (number-checked ∙ sym number) i; length = 0 }) ∙ sym (written-refused ws separator buffer refused), sym (buffer-refused ws separator buffer refused))
 
   module _ (n : r .number ≡ 0) where
     started : startNumber ws separator ≡ 0
@@ -84,7 +78,7 @@ module _ (ws separator buffer : List ℕ) (r : Merged) (e : r ≡ checked ws sep
     answer : r ≡ withWords accepted (mergedWords ws)
     answer = e ∙ checked-accepted ws separator started
 
-    pub counted : r .count ≡ length (mergedWords ws)
+    counted : r .count ≡ length (mergedWords ws)
     counted = ap (λ (m : Merged). m .count) answer ∙ count-at accepted (mergedWords ws)
 
     pub count-fits : r .count ≤ 64
@@ -93,46 +87,66 @@ module _ (ws separator buffer : List ℕ) (r : Merged) (e : r ≡ checked ws sep
     pub count-inside : r .count ≤ length (r .words)
     count-inside = rw answer (count-within accepted (mergedWords ws))
 
-    pub merged-words : take (r .count) (r .words) ≡ mergedWords ws
+    merged-words : take (r .count) (r .words) ≡ mergedWords ws
     merged-words = ap (λ (m : Merged). take (m .count) (m .words)) answer ∙ words-used accepted (mergedWords ws)
 
     string-length : length (tagString ws separator) ≡ 4 * r .count + length separator
     string-length = length-tag-string ws separator ∙ ap (λ (k : ℕ). 4 * k + length separator) (sym counted)
 
-    pub buffer-too-short : length buffer < 4 * r .count + length separator → (record { number = 12; length = 0 } ≡ written ws separator buffer) × (buffer ≡ bufferAfter ws separator buffer)
+    words-length : length (wordBytes (mergedWords ws)) ≡ 4 * r .count
+    words-length = length-word-bytes (mergedWords ws) ∙ ap (λ (k : ℕ). 4 * k) (sym counted)
+
+module _ (ws separator buffer : List ℕ) (r : Merged) (e : r ≡ checked ws separator) where
+  refused-answer : (number : ℕ) → number ≡ writeNumber ws separator buffer → number ≢ 0
+      → (record { number = number; length = 0 } ≡ written ws separator buffer) × (buffer ≡ bufferAfter ws separator buffer)
+  refused-answer number p z =
+      let refused : writeNumber ws separator buffer ≢ 0 = rw p at z in (
+        (λ i. record { number = p i; length = 0 }) ∙ sym (written-refused ws separator buffer refused),
+        sym (buffer-refused ws separator buffer refused),
+      )
+
+  pub check-refuses : r .number ≢ 0
+      → (record { number = r .number; length = 0 } ≡ written ws separator buffer) × (buffer ≡ bufferAfter ws separator buffer)
+  check-refuses z =
+      let same = number-checked ws separator r e in
+      refused-answer (r .number) (same ∙ sym (number-of-check ws separator buffer (rw same at z))) z
+
+  module _ (n : r .number ≡ 0) where
+    pub buffer-too-short : length buffer < 4 * r .count + length separator
+        → (record { number = 12; length = 0 } ≡ written ws separator buffer) × (buffer ≡ bufferAfter ws separator buffer)
     buffer-too-short h =
-        let number = number-12 ws separator buffer started (rw string-length h) in
-        let refused : writeNumber ws separator buffer ≢ 0 = λ z. omega (arith, z, number) in
-        ((λ i. record { number = sym number i; length = 0 }) ∙ sym (written-refused ws separator buffer refused), sym (buffer-refused ws separator buffer refused))
+        let short = number-12 ws separator buffer (started ws separator r e n) (rw (string-length ws separator r e n) h) in
+        refused-answer 12 (sym short) (λ z. omega arith)
 
     -- the buffer with the words in its front
     abbrev half : List ℕ
     half = wordBytes (take (r .count) (r .words)) ++ drop (4 * length (take (r .count) (r .words))) buffer
 
     half-words : half ≡ wordBytes (mergedWords ws) ++ drop (4 * r .count) buffer
-    half-words = rw merged-words (ap (λ (k : ℕ). wordBytes (mergedWords ws) ++ drop (4 * k) buffer) (sym counted))
+    half-words =
+        rw (merged-words ws separator r e n)
+        (ap (λ (k : ℕ). wordBytes (mergedWords ws) ++ drop (4 * k) buffer) (sym (counted ws separator r e n)))
 
-    words-length : length (wordBytes (mergedWords ws)) ≡ 4 * r .count
-    words-length = length-word-bytes (mergedWords ws) ∙ ap (λ (k : ℕ). 4 * k) (sym counted)
-
-    module _ (h : 4 * r .count + length separator ≤ length buffer) where
-      pub whole-string : (record { number = 0; length = 4 * r .count + length separator } ≡ written ws separator buffer)
-          × (take (4 * r .count) half ++ separator ++ drop (4 * r .count + length separator) half ≡ bufferAfter ws separator buffer)
-      unfolding tagString
-      whole-string =
-          let number = number-0 ws separator buffer started (rw string-length h) in
-          let front = wordBytes (mergedWords ws) in
-          let rest = drop (4 * r .count) buffer in
-          let behind : drop (4 * r .count + length separator) (front ++ rest) ≡ drop (4 * r .count + length separator) buffer =
-          ap (λ (k : ℕ). drop (k + length separator) (front ++ rest)) (sym words-length)
-          ∙ drop-append-add front rest (length separator)
-          ∙ drop-drop (length separator) (4 * r .count) buffer in (
-            (λ i. record { number = 0; length = sym string-length i }) ∙ sym (written-accepted ws separator buffer number),
-            ap (λ (l : List ℕ). take (4 * r .count) l ++ separator ++ drop (4 * r .count + length separator) l) half-words
-                ∙ ap₂ (λ (x y : List ℕ). x ++ separator ++ y) (take-at front rest (4 * r .count) words-length) behind
-                ∙ ap (λ (k : ℕ). front ++ separator ++ drop k buffer) (sym string-length)
-                ∙ sym (buffer-accepted ws separator buffer number),
-          )
+    pub whole-string : 4 * r .count + length separator ≤ length buffer
+        → (record { number = 0; length = 4 * r .count + length separator } ≡ written ws separator buffer)
+        × (take (4 * r .count) half ++ separator ++ drop (4 * r .count + length separator) half ≡ bufferAfter ws separator buffer)
+    unfolding tagString
+    whole-string h =
+        let long = string-length ws separator r e n in
+        let number = number-0 ws separator buffer (started ws separator r e n) (rw long h) in
+        let front = wordBytes (mergedWords ws) in
+        let front-length = words-length ws separator r e n in
+        let rest = drop (4 * r .count) buffer in
+        let behind : drop (4 * r .count + length separator) (front ++ rest) ≡ drop (4 * r .count + length separator) buffer =
+        ap (λ (k : ℕ). drop (k + length separator) (front ++ rest)) (sym front-length)
+        ∙ drop-append-add front rest (length separator)
+        ∙ drop-drop (length separator) (4 * r .count) buffer in (
+          (λ i. record { number = 0; length = sym long i }) ∙ sym (written-accepted ws separator buffer number),
+          ap (λ (l : List ℕ). take (4 * r .count) l ++ separator ++ drop (4 * r .count + length separator) l) half-words
+              ∙ ap₂ (λ (x y : List ℕ). x ++ separator ++ y) (take-at front rest (4 * r .count) front-length) behind
+              ∙ ap (λ (k : ℕ). front ++ separator ++ drop k buffer) (sym long)
+              ∙ sym (buffer-accepted ws separator buffer number),
+        )
 
 -- the tag string stands in the buffer's front
 pub front-of-buffer : (ws separator buffer : List ℕ) → writeNumber ws separator buffer ≡ accepted

@@ -1,7 +1,6 @@
 -- `tag::read` meets its contract.
 -- Assumes nothing.
 use mathlib.Core.Path.{refl, sym, _∙_}
-use native.Mathlib.Omega.{arith}
 use lib.Seq.{length-take-le}
 use Rattle.tag.proofs.Reading.{read-refused, read-accepted, number-6, number-13-short, number-13, number-0, length-part, cut-word, too-long, sound-test, answer}
 use borrow.Author.Needs.{needs}

@@ -6,81 +6,74 @@ use Prim.Native.Nat.{ℕ, _+_, _*_}
 use native.Mathlib.Omega.{arith}
 use lib.ListN.{length, take, drop}
 use lib.Seq.{length-take-le}
-use Rattle.tag.proofs.Writing.{check-refuses, counted, count-fits, count-inside, merged-words, buffer-too-short, whole-string}
+use Rattle.tag.proofs.Writing.{check-refuses, count-fits, count-inside, buffer-too-short, whole-string}
 use borrow.Author.Needs.{needs}
 use Rattle.tag.proofs.write.Statement.{statement}
 use Rattle.tag.proofs.write.Tie as tie
 
 returns : tie.Need-returns
 returns c =
-    let words = c .before .before .before .before .before .before .args .words .now in
-    let separator = c .before .before .before .before .before .before .args .separator .now in
-    let buffer = c .before .before .before .before .before .before .args .buffer .now in
-    let checked = c .before .before .check in
+    let at-check = c .before .before in
+    let at-entry = at-check .before .before .before .before in
+    let words = at-entry .args .words .now in
+    let separator = at-entry .args .separator .now in
+    let buffer = at-entry .args .buffer .now in
+    let checked = at-check .check in
     check-refuses words separator buffer (checked .result) (checked .ensures) (c .if1 .taken)
 
 mul-length : tie.Need-mul-length
-mul-length c =
-    let words = c .before .before .before .before .before .before .args .words .now in
-    let separator = c .before .before .before .before .before .before .args .separator .now in
-    let buffer = c .before .before .before .before .before .before .args .buffer .now in
-    let checked = c .before .before .check in
-    let few = count-fits words separator buffer (checked .result) (checked .ensures) (c .if1 .left) in
-    omega arith
+mul-length c = let few = count-fits _ _ _ (c .before .before .check .ensures) (c .if1 .left) in omega arith
 
 add-length : tie.Need-add-length
-add-length c =
-    let words = c .before .before .before .before .before .before .args .words .now in
-    let separator = c .before .before .before .before .before .before .args .separator .now in
-    let buffer = c .before .before .before .before .before .before .args .buffer .now in
-    let checked = c .before .before .check in
-    let few = count-fits words separator buffer (checked .result) (checked .ensures) (c .if1 .left) in
-    omega arith
+add-length c = let few = count-fits _ _ _ (c .before .before .check .ensures) (c .if1 .left) in omega arith
 
 returns-2 : tie.Need-returns-2
 returns-2 c =
-    let words = c .before .before .before .before .before .before .before .args .words .now in
-    let separator = c .before .before .before .before .before .before .before .args .separator .now in
-    let buffer = c .before .before .before .before .before .before .before .args .buffer .now in
-    let checked = c .before .before .before .check in
-    buffer-too-short words separator buffer (checked .result) (checked .ensures) (c .before .if1 .left) (c .if2 .taken)
+    let at-accepted = c .before in
+    let at-check = at-accepted .before .before in
+    let at-entry = at-check .before .before .before .before in
+    let words = at-entry .args .words .now in
+    let separator = at-entry .args .separator .now in
+    let buffer = at-entry .args .buffer .now in
+    let checked = at-check .check in
+    buffer-too-short words separator buffer (checked .result) (checked .ensures) (at-accepted .if1 .left) (c .if2 .taken)
 
 array-share-prefix-list : tie.Need-array-share-prefix-list
 array-share-prefix-list c =
-    let words = c .before .before .before .before .before .before .before .before .before .args .words .now in
-    let separator = c .before .before .before .before .before .before .before .before .before .args .separator .now in
-    let buffer = c .before .before .before .before .before .before .before .before .before .args .buffer .now in
-    let checked = c .before .before .before .before .before .check in
-    count-inside words separator buffer (checked .result) (checked .ensures) (c .before .before .before .if1 .left)
+    let at-accepted = c .before .before .before in
+    let at-check = at-accepted .before .before in
+    count-inside _ _ _ (at-check .check .ensures) (at-accepted .if1 .left)
 
 slice-aggregate-put-words : tie.Need-slice-aggregate-put-words
 slice-aggregate-put-words c =
-    let words = c .before .before .before .before .before .before .before .before .before .before .args .words .now in
-    let separator = c .before .before .before .before .before .before .before .before .before .before .args .separator .now in
-    let buffer = c .before .before .before .before .before .before .before .before .before .before .args .buffer .now in
-    let checked = c .before .before .before .before .before .before .check in
-    sym (length-take-le _ _ (count-inside words separator buffer (checked .result) (checked .ensures) (c .before .before .before .before .if1 .left)))
+    let at-accepted = c .before .before .before .before in
+    let at-check = at-accepted .before .before in
+    sym (length-take-le _ _ (count-inside _ _ _ (at-check .check .ensures) (at-accepted .if1 .left)))
 
 put-words-requires : tie.Need-put-words-requires
 put-words-requires c κs =
-    let words = c .before .before .before .before .before .before .before .before .before .before .args .words .now in
-    let separator = c .before .before .before .before .before .before .before .before .before .before .args .separator .now in
-    let buffer = c .before .before .before .before .before .before .before .before .before .before .args .buffer .now in
-    let checked = c .before .before .before .before .before .before .check in
-    let used = ap length (merged-words words separator buffer (checked .result) (checked .ensures) (c .before .before .before .before .if1 .left)) ∙ sym (counted words separator buffer (checked .result) (checked .ensures) (c .before .before .before .before .if1 .left)) in
+    let at-accepted = c .before .before .before .before in
+    let at-check = at-accepted .before .before in
+    let used = length-take-le (at-check .check .result .count) (at-check .check .result .words) (count-inside _ _ _ (at-check .check .ensures) (at-accepted .if1 .left)) in
     omega arith
 
 returns-3 : tie.Need-returns-3
 returns-3 c =
-    let words = c .before .before .before .before .before .before .before .before .before .before .before .before .before .before .before .before .before .args .words .now in
-    let separator = c .before .before .before .before .before .before .before .before .before .before .before .before .before .before .before .before .before .args .separator .now in
-    let buffer = c .before .before .before .before .before .before .before .before .before .before .before .before .before .before .before .before .before .args .buffer .now in
-    let checked = c .before .before .before .before .before .before .before .before .before .before .before .before .before .check in
-    let string = whole-string words separator buffer (checked .result) (checked .ensures) (c .before .before .before .before .before .before .before .before .before .before .before .if1 .left) (c .before .before .before .before .before .before .before .before .before .before .if2 .left) in (
+    let at-bytes = c .before .before in
+    let at-words = at-bytes .before .before .before .before in
+    let at-room = at-words .before .before .before .before in
+    let at-accepted = at-room .before in
+    let at-check = at-accepted .before .before in
+    let at-entry = at-check .before .before .before .before in
+    let words = at-entry .args .words .now in
+    let separator = at-entry .args .separator .now in
+    let buffer = at-entry .args .buffer .now in
+    let checked = at-check .check in
+    let count = checked .result .count in
+    let string = whole-string words separator buffer (checked .result) (checked .ensures) (at-accepted .if1 .left) (at-room .if2 .left) in (
       string .0,
-      c .before .before .put-bytes .ensures
-          ∙ ap (λ (l : List ℕ). take (4 * checked .result .count) l ++ separator ++ drop (4 * checked .result .count + length separator) l)
-          (c .before .before .before .before .before .before .put-words .ensures)
+      at-bytes .put-bytes .ensures
+          ∙ ap (λ (l : List ℕ). take (4 * count) l ++ separator ++ drop (4 * count + length separator) l) (at-words .put-words .ensures)
           ∙ string .1,
     )
 
