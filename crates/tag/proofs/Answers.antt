@@ -29,6 +29,10 @@ push-word ws w h =
     ∙ sym (append-snoc ws w (replicate (63 - length ws) 0))
     ∙ ap (λ (k : ℕ). ws ++ (w ∷ []) ++ replicate k 0) rest
 
+-- an answer with another word at a place, and another count
+abbrev changed : Merged → ℕ → ℕ → ℕ → Merged
+changed m i w count = record { number = m .number; words = set (m .words) i w; count = count }
+
 module _ (n : ℕ) (ws : List ℕ) where
   pub count-at : withWords n ws .count ≡ length ws
   unfolding withWords
@@ -47,24 +51,19 @@ module _ (n : ℕ) (ws : List ℕ) where
   words-used = take-append-seam ws (replicate (64 - length ws) 0)
 
   -- one word more, where there is room for it
-  pub push : (w : ℕ) → length ws < 64
-      → record { number = withWords n ws .number; words = set (withWords n ws .words) (withWords n ws .count) w; count = withWords n ws .count + 1 }
-      ≡ withWords n (ws ++ (w ∷ []))
+  pub push : (w : ℕ) → length ws < 64 → changed (withWords n ws) (length ws) w (length ws + 1) ≡ withWords n (ws ++ (w ∷ []))
   unfolding withWords
   push w h = λ i. record { number = n; words = push-word ws w h i; count = sym (length-append ws (w ∷ [])) i }
 
   -- another word at a place
-  pub replace : (i w : ℕ) → i < length ws
-      → record { number = withWords n ws .number; words = set (withWords n ws .words) i w; count = withWords n ws .count } ≡ withWords n (set ws i w)
+  pub replace : (i w : ℕ) → i < length ws → changed (withWords n ws) i w (length ws) ≡ withWords n (set ws i w)
   unfolding withWords
   replace i w h =
       let same-length = length-set ws i w in
-      λ j.
-      record {
-        number = n;
-        words = (set-append-left ws (replicate (64 - length ws) 0) i w h ∙ sym (ap (λ (k : ℕ). set ws i w ++ replicate (64 - k) 0) same-length)) j;
-        count = sym same-length j;
-      }
+      let words =
+      set-append-left ws (replicate (64 - length ws) 0) i w h
+      ∙ sym (ap (λ (k : ℕ). set ws i w ++ replicate (64 - k) 0) same-length) in
+      λ j. record { number = n; words = words j; count = sym same-length j }
 
 -- ---- the merged words, or number 5
 
@@ -114,9 +113,9 @@ module _ (ws list : List ℕ) (count w : ℕ) (bound : w < 4294967296) (h : Hold
 
   pushed : count < 64 → merged more ≡ withWords accepted (mergedWords ws ++ (w ∷ [])) → Stepped more (set list count w) (count + 1)
   pushed room e =
-      let same =
-      (λ i. record { number = answer ws list count h i .number; words = set (answer ws list count h i .words) (answer ws list count h i .count) w; count = answer ws list count h i .count + 1 })
-      ∙ push accepted (mergedWords ws) w (rw (counted ws list count h) at room) in
+      let a = answer ws list count h in
+      let c = counted ws list count h in
+      let same = (λ i. changed (a i) (c i) w (c i + 1)) ∙ push accepted (mergedWords ws) w (rw c at room) in
       record { fine = λ _. record { holds = e ∙ sym same }; tooLong = λ z. absurd (omega arith) }
 
   pub first-word : count < 64 → count ≡ 0 → Stepped more (set list count w) (count + 1)
@@ -148,8 +147,10 @@ module _ (ws list : List ℕ) (count w : ℕ) (bound : w < 4294967296) (h : Hold
     pub same-kind : same (isAbsorb last) (isAbsorb w) ≡ true → lengthOf last + lengthOf w ≤ 2147483647
         → Stepped more (set list (count - 1) (last + lengthOf w)) count
     same-kind s l =
+        let a = answer ws list count h in
+        let c = counted ws list count h in
         let longer =
-        (λ i. record { number = answer ws list count h i .number; words = set (answer ws list count h i .words) (counted ws list count h i - 1) (last-word i + lengthOf w); count = answer ws list count h i .count })
+        (λ i. changed (a i) (c i - 1) (last-word i + lengthOf w) (c i))
         ∙ replace accepted (mergedWords ws) (length (mergedWords ws) - 1) (lastWord ws + lengthOf w) (omega (arith, words)) in
         record {
           fine = λ _. record { holds = step-same-kind ws w bound (fine ws list count h) words (kinds true s) (rw last-word at l) ∙ sym longer };

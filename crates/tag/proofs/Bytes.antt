@@ -18,7 +18,11 @@ four-bytes s at h =
     let e1 : at + 1 ≡ suc at = omega arith in
     let e2 : at + 2 ≡ suc (suc at) = omega arith in
     let e3 : at + 3 ≡ suc (suc (suc at)) = omega arith in
-    rw (e1, e2, e3, drop-cons s at 0 (omega arith), drop-cons s (suc at) 0 (omega arith), drop-cons s (suc (suc at)) 0 (omega arith), drop-cons s (suc (suc (suc at))) 0 (omega arith))
+    let d0 = drop-cons s at 0 (omega arith) in
+    let d1 = drop-cons s (suc at) 0 (omega arith) in
+    let d2 = drop-cons s (suc (suc at)) 0 (omega arith) in
+    let d3 = drop-cons s (suc (suc (suc at))) 0 (omega arith) in
+    rw (e1, e2, e3, d0, d1, d2, d3)
 
 -- four stores of a word's bytes
 pub four-stores : (s : List ℕ) (at w : ℕ) → at + 4 ≤ length s
@@ -59,7 +63,9 @@ length-front-words buffer ws i h k =
 
 -- one word more at the front of a buffer
 pub next-word : (buffer ws : List ℕ) (i : ℕ) → i < length ws
-    → take (4 * i) (wordBytes (take i ws) ++ drop (4 * i) buffer) ++ digits 256 4 (getD ws i 0) ++ drop (4 * i + 4) (wordBytes (take i ws) ++ drop (4 * i) buffer)
+    → take (4 * i) (wordBytes (take i ws) ++ drop (4 * i) buffer)
+    ++ digits 256 4 (getD ws i 0)
+    ++ drop (4 * i + 4) (wordBytes (take i ws) ++ drop (4 * i) buffer)
     ≡ wordBytes (take (i + 1) ws) ++ drop (4 * (i + 1)) buffer
 unfolding wordBytes
 next-word buffer ws i h =

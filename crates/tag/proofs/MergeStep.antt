@@ -146,18 +146,23 @@ module _ (ws : List ℕ) (w : ℕ) where
   more = ws ++ (w ∷ [])
 
   -- the word stands behind the merged words
-  appended : w < 4294967296 → any tooLong (phases ws) ≡ false → phases more ≡ phases ws ++ (phaseOf w ∷ []) → merged more ≡ withWords accepted (mergedWords ws ++ (w ∷ []))
+  appended : w < 4294967296 → any tooLong (phases ws) ≡ false → phases more ≡ phases ws ++ (phaseOf w ∷ [])
+      → merged more ≡ withWords accepted (mergedWords ws ++ (w ∷ []))
   unfolding mergedWords phaseOf _or_
   appended bound fine e =
       merged-accepted more (ap (any tooLong) e ∙ any-append tooLong (phases ws) (phaseOf w ∷ []) ∙ rw fine (short (phaseOf w) (length-below w)))
       ∙ ap (withWords accepted) (ap (map wordOf) e ∙ map-append wordOf (phases ws) (phaseOf w ∷ []) ∙ rw (word-of-phase w bound))
 
   -- ABSORB or SQUEEZE behind no words
-  pub step-first : w < 4294967296 → any tooLong (phases ws) ≡ false → length (mergedWords ws) ≡ 0 → merged more ≡ withWords accepted (mergedWords ws ++ (w ∷ []))
+  pub step-first : w < 4294967296 → any tooLong (phases ws) ≡ false → length (mergedWords ws) ≡ 0
+      → merged more ≡ withWords accepted (mergedWords ws ++ (w ∷ []))
   unfolding mergedWords addLast
   step-first bound fine e =
       let none : phases ws ≡ [] = empty (phases ws) (sym (length-map (phases ws) wordOf) ∙ e) in
-      appended bound fine (phases-snoc ws w ∙ ap (λ (ps : List Phase). addLast ps (phaseOf w)) none ∙ sym (ap (λ (ps : List Phase). ps ++ (phaseOf w ∷ [])) none))
+      appended bound fine
+      (phases-snoc ws w
+      ∙ ap (λ (ps : List Phase). addLast ps (phaseOf w)) none
+      ∙ sym (ap (λ (ps : List Phase). ps ++ (phaseOf w ∷ [])) none))
 
   module _ (bound : w < 4294967296) (fine : any tooLong (phases ws) ≡ false) (some : 0 < length (mergedWords ws)) where
     last : Last (phases ws)
@@ -209,7 +214,8 @@ module _ (ws : List ℕ) (w : ℕ) where
     length-last : lengthOf (lastWord ws) ≡ b .elements
     length-last = ap lengthOf last-word ∙ word-length b fits
 
-    pub step-too-long : same (isAbsorb (lastWord ws)) (isAbsorb w) ≡ true → 2147483647 < lengthOf (lastWord ws) + lengthOf w → merged more ≡ withWords mergedLengthTooLong []
+    pub step-too-long : same (isAbsorb (lastWord ws)) (isAbsorb w) ≡ true → 2147483647 < lengthOf (lastWord ws) + lengthOf w
+        → merged more ≡ withWords mergedLengthTooLong []
     unfolding any tooLong phaseOf _or_
     step-too-long e h =
         merged-refused more

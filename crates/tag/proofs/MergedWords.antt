@@ -192,8 +192,10 @@ unfolding alternate shift
 last-alternate first [] e h p = absurd (omega arith)
 last-alternate true (w ∷ []) e h p = absurd (omega arith)
 last-alternate false (w ∷ []) e h p = sym (same-true false (isAbsorb w) (and-left _ _ e))
-last-alternate true (w ∷ v ∷ ws) e h p = ap isAbsorb (last-behind w v ws) ∙ last-alternate false (v ∷ ws) (and-right _ _ e) (omega arith) (omega arith)
-last-alternate false (w ∷ v ∷ ws) e h p = ap isAbsorb (last-behind w v ws) ∙ last-alternate true (v ∷ ws) (and-right _ _ e) (omega arith) (omega arith)
+last-alternate true (w ∷ v ∷ ws) e h p =
+    ap isAbsorb (last-behind w v ws) ∙ last-alternate false (v ∷ ws) (and-right _ _ e) (omega arith) (omega arith)
+last-alternate false (w ∷ v ∷ ws) e h p =
+    ap isAbsorb (last-behind w v ws) ∙ last-alternate true (v ∷ ws) (and-right _ _ e) (omega arith) (omega arith)
 
 first-alternate : (ws : List ℕ) → alternate true ws ≡ true → 0 < length ws → not (isAbsorb (getD ws 0 0)) ≡ false
 unfolding alternate

@@ -97,7 +97,8 @@ phases-of-words (a ∷ ps) e =
     let rest = phases-of-words ps (o .1) in
     (ap₂ (λ (b : Phase) (bs : List Phase). b ∷ bs) (phase-of-word a l) (rest .0), below a l (map wordOf ps) (rest .1))
   where
-    below : (a : Phase) → a .elements < 2147483648 → (ws : List ℕ) → ((k : ℕ) → getD ws k 0 < 4294967296) → (k : ℕ) → getD (wordOf a ∷ ws) k 0 < 4294967296
+    below : (a : Phase) → a .elements < 2147483648 → (ws : List ℕ) → ((k : ℕ) → getD ws k 0 < 4294967296)
+        → (k : ℕ) → getD (wordOf a ∷ ws) k 0 < 4294967296
     below a l ws h zero = word-below a l
     below a l ws h (suc k) = h k
 
@@ -192,16 +193,21 @@ phases-read : (ws separator : List ℕ) → startNumber ws separator ≡ accepte
 unfolding mergedWords
 phases-read ws separator e = phases-of-words (phases ws) (rows ws separator e .e5) .0
 
-module _ (ws separator vs other : List ℕ) (e : startNumber ws separator ≡ accepted) (f : startNumber vs other ≡ accepted) (l : length separator ≡ length other) where
-  tell : tagString ws separator ≡ tagString vs other → (phases ws ≡ phases vs) × (separator ≡ other)
-  tell q =
-      let answers = sym (reads-words ws separator e) ∙ ap₂ readWords q l ∙ reads-words vs other f in
-      let merged =
-      sym (words-used accepted (mergedWords ws)) ∙ ap (λ (m : Merged). take (m .count) (m .words)) answers ∙ words-used accepted (mergedWords vs) in (
-        sym (phases-read ws separator e) ∙ ap (map phaseOf) merged ∙ phases-read vs other f,
-        sym (reads-separator ws separator e) ∙ ap₂ readSeparator q l ∙ reads-separator vs other f,
-      )
+module _
+    (ws separator vs other : List ℕ)
+    (e : startNumber ws separator ≡ accepted)
+    (f : startNumber vs other ≡ accepted)
+    (l : length separator ≡ length other)
+  where
+    tell : tagString ws separator ≡ tagString vs other → (phases ws ≡ phases vs) × (separator ≡ other)
+    tell q =
+        let answers = sym (reads-words ws separator e) ∙ ap₂ readWords q l ∙ reads-words vs other f in
+        let merged =
+        sym (words-used accepted (mergedWords ws)) ∙ ap (λ (m : Merged). take (m .count) (m .words)) answers ∙ words-used accepted (mergedWords vs) in (
+          sym (phases-read ws separator e) ∙ ap (map phaseOf) merged ∙ phases-read vs other f,
+          sym (reads-separator ws separator e) ∙ ap₂ readSeparator q l ∙ reads-separator vs other f,
+        )
 
-  pub strings-tell : (tagString ws separator ≡ tagString vs other) ↔ ((phases ws ≡ phases vs) × (separator ≡ other))
-  unfolding tagString mergedWords
-  strings-tell = (tell, λ p. ap₂ (λ (ps : List Phase) (t : List ℕ). wordBytes (map wordOf ps) ++ t) (p .0) (p .1))
+    pub strings-tell : (tagString ws separator ≡ tagString vs other) ↔ ((phases ws ≡ phases vs) × (separator ≡ other))
+    unfolding tagString mergedWords
+    strings-tell = (tell, λ p. ap₂ (λ (ps : List Phase) (t : List ℕ). wordBytes (map wordOf ps) ++ t) (p .0) (p .1))

@@ -107,7 +107,8 @@ module _ (s : List ℕ) (n : ℕ) where
     count = length-words-of (take size s) ∙ ap (λ (k : ℕ). k / 4) length-part
 
     -- their test
-    pub sound-test : size % 4 ≡ 0 → (list : List ℕ) (b : Bool) → list ≡ places → b ≡ soundWords (take (size / 4) list) → soundBytes (wordsPart s n) ≡ b
+    pub sound-test : size % 4 ≡ 0 → (list : List ℕ) (b : Bool) → list ≡ places
+        → b ≡ soundWords (take (size / 4) list) → soundBytes (wordsPart s n) ≡ b
     unfolding soundBytes _and_
     sound-test z list b p t =
         rw (length-words-part, eq-eqb (size % 4) 0 z)
@@ -116,7 +117,8 @@ module _ (s : List ℕ) (n : ℕ) where
         ∙ ap (λ (l : List ℕ). soundWords (take (size / 4) l)) p
         ∙ ap soundWords (take-at (wordsOf (take size s)) _ (size / 4) count ∙ ap wordsOf part)))
 
-    pub answer : (list : List ℕ) → list ≡ places → record { number = accepted; words = list; count = size / 4 } ≡ withWords accepted (wordsOf (wordsPart s n))
+    pub answer : (list : List ℕ) → list ≡ places
+        → record { number = accepted; words = list; count = size / 4 } ≡ withWords accepted (wordsOf (wordsPart s n))
     unfolding withWords
     answer list p =
         (λ i. record { number = accepted; words = p i; count = sym count i })
@@ -129,7 +131,7 @@ module _ (s : List ℕ) (n : ℕ) where
 
     pub last-start : size ≡ length s - length (take (length s - size) (drop size s))
     last-start =
-        let same : length (take (length s - size) (drop size s)) ≡ length s - size = length-take-le (length s - size) (drop size s) (omega (arith, length-drop size s)) in
+        let same = length-take-le (length s - size) (drop size s) (omega (arith, length-drop size s)) in
         omega arith
 
   -- the empty part at the string's end

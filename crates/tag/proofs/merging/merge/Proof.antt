@@ -36,7 +36,8 @@ returns c =
     let words = c .before .before .before .before .before .before .before .before .args .words .now in
     let i = c .before .before .before .before .before .before .loop .i in
     let stepped = c .before .before .add-word .ensures (take i words) (c .before .before .before .before .before .before .loop .inv .1) in
-    let front : merged (take (suc i) words) ≡ withWords mergedLengthTooLong [] = ap merged (take-suc words i 0 (omega arith)) ∙ stepped .tooLong (search needs) in
+    let front : merged (take (suc i) words) ≡ withWords mergedLengthTooLong [] =
+    ap merged (take-suc words i 0 (omega arith)) ∙ stepped .tooLong (search needs) in
     c .refused .ensures
     ∙ sym (ap merged (sym (take-append-drop (suc i) words)) ∙ merged-stays (take (suc i) words) (drop (suc i) words) front)
 

@@ -48,7 +48,10 @@ returns-2 c =
     let rest : tests (not (isAbsorb last)) (drop i words) ≡ tests (not (isAbsorb last)) (getD words i 0 ∷ drop (suc i) words) =
     ap (tests (not (isAbsorb last))) (drop-cons words i 0 (omega arith)) in
     let zero : lengthOf (getD words i 0) ≡ 0 = omega (arith, c .before .length-of .ensures) in
-    sym (c .before .before .before .before .before .before .loop .inv .1 ∙ rest ∙ tests-length _ _ _ (lt-leb 1 (lengthOf (getD words i 0)) (omega arith)))
+    sym
+    (c .before .before .before .before .before .before .loop .inv .1
+    ∙ rest
+    ∙ tests-length _ _ _ (lt-leb 1 (lengthOf (getD words i 0)) (omega arith)))
 
 loop-again : tie.Need-loop-again Inv-loop μ-loop
 loop-again c =

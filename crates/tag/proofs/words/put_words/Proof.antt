@@ -25,37 +25,45 @@ loop-holds c = (search needs, refl)
 
 put-word-requires : tie.Need-put-word-requires Inv-loop μ-loop
 put-word-requires c κs =
-    let buffer = c .before .before .before .before .before .before .args .buffer .now in
-    let words = c .before .before .before .before .before .before .args .words .now in
-    let i = c .before .before .before .loop .i in
-    let long = ap length (c .before .before .before .loop .inv .1) ∙ length-front-words buffer words i (omega arith) (c .before .before .before .before .before .before .pre) in
+    let at-loop = c .before .before .before .loop in
+    let at-entry = c .before .before .before .before .before .before in
+    let buffer = at-entry .args .buffer .now in
+    let words = at-entry .args .words .now in
+    let i = at-loop .i in
+    let long = ap length (at-loop .inv .1) ∙ length-front-words buffer words i (omega arith) (at-entry .pre) in
     omega arith
 
 loop-again : tie.Need-loop-again Inv-loop μ-loop
 loop-again c =
-    let buffer = c .before .before .before .before .before .before .before .before .before .args .buffer .now in
-    let words = c .before .before .before .before .before .before .before .before .before .args .words .now in
-    let i = c .before .before .before .before .before .before .loop .i in (
+    let at-loop = c .before .before .before .before .before .before .loop in
+    let at-entry = c .before .before .before .before .before .before .before .before .before in
+    let buffer = at-entry .args .buffer .now in
+    let words = at-entry .args .words .now in
+    let i = at-loop .i in (
       search needs,
       c .before .before .put-word .ensures
-          ∙ ap (λ (l : List ℕ). take (4 * i) l ++ digits 256 4 (getD words i 0) ++ drop (4 * i + 4) l) (c .before .before .before .before .before .before .loop .inv .1)
+          ∙ ap (λ (l : List ℕ). take (4 * i) l ++ digits 256 4 (getD words i 0) ++ drop (4 * i + 4) l) (at-loop .inv .1)
           ∙ next-word buffer words i (omega arith),
     )
 
 same-length : tie.Need-same-length Inv-loop μ-loop
 same-length c =
-    let buffer = c .before .before .before .before .args .buffer .now in
-    let words = c .before .before .before .before .args .words .now in
-    let i = c .before .loop .i in
-    ap length (c .before .loop .inv .1) ∙ length-front-words buffer words i (omega arith) (c .before .before .before .before .pre)
+    let at-loop = c .before .loop in
+    let at-entry = c .before .before .before .before in
+    let buffer = at-entry .args .buffer .now in
+    let words = at-entry .args .words .now in
+    let i = at-loop .i in
+    ap length (at-loop .inv .1) ∙ length-front-words buffer words i (omega arith) (at-entry .pre)
 
 returns : tie.Need-returns Inv-loop μ-loop
 returns c =
-    let buffer = c .before .before .before .before .args .buffer .now in
-    let words = c .before .before .before .before .args .words .now in
-    let i = c .before .loop .i in
+    let at-loop = c .before .loop in
+    let at-entry = c .before .before .before .before in
+    let buffer = at-entry .args .buffer .now in
+    let words = at-entry .args .words .now in
+    let i = at-loop .i in
     let e : i ≡ length words = omega arith in
-    c .before .loop .inv .1
+    at-loop .inv .1
     ∙ ap (λ (k : ℕ). wordBytes (take k words) ++ drop (4 * k) buffer) e
     ∙ ap (λ (l : List ℕ). wordBytes l ++ drop (4 * length words) buffer) (take-length words)
 
