@@ -116,7 +116,7 @@ module _ (ws list : List ℕ) (count w : ℕ) (bound : w < 4294967296) (h : Hold
       let a = answer ws list count h in
       let c = counted ws list count h in
       let same = (λ i. changed (a i) (c i) w (c i + 1)) ∙ push accepted (mergedWords ws) w (rw c at room) in
-      record { fine = λ _. record { holds = e ∙ sym same }; tooLong = λ z. absurd (omega arith) }
+      record { merges = λ _. record { holds = e ∙ sym same }; refuses = λ z. absurd (omega arith) }
 
   pub first-word : count < 64 → count ≡ 0 → Stepped more (set list count w) (count + 1)
   first-word room z = pushed room (step-first ws w bound (fine ws list count h) (sym (counted ws list count h) ∙ z))
@@ -140,8 +140,8 @@ module _ (ws list : List ℕ) (count w : ℕ) (bound : w < 4294967296) (h : Hold
     pub too-long : same (isAbsorb last) (isAbsorb w) ≡ true → 2147483647 < lengthOf last + lengthOf w → Stepped more list 0
     too-long s l =
         record {
-          fine = λ z. absurd (z refl);
-          tooLong = λ _. step-too-long ws w bound (fine ws list count h) words (kinds true s) (rw last-word at l);
+          merges = λ z. absurd (z refl);
+          refuses = λ _. step-too-long ws w bound (fine ws list count h) words (kinds true s) (rw last-word at l);
         }
 
     pub same-kind : same (isAbsorb last) (isAbsorb w) ≡ true → lengthOf last + lengthOf w ≤ 2147483647
@@ -153,6 +153,6 @@ module _ (ws list : List ℕ) (count w : ℕ) (bound : w < 4294967296) (h : Hold
         (λ i. changed (a i) (c i - 1) (last-word i + lengthOf w) (c i))
         ∙ replace accepted (mergedWords ws) (length (mergedWords ws) - 1) (lastWord ws + lengthOf w) (omega (arith, words)) in
         record {
-          fine = λ _. record { holds = step-same-kind ws w bound (fine ws list count h) words (kinds true s) (rw last-word at l) ∙ sym longer };
-          tooLong = λ z. absurd (some z);
+          merges = λ _. record { holds = step-same-kind ws w bound (fine ws list count h) words (kinds true s) (rw last-word at l) ∙ sym longer };
+          refuses = λ z. absurd (some z);
         }

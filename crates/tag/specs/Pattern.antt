@@ -1,4 +1,5 @@
--- Patterns: the words that declare one, merging, and sound lists of words. A word is a number of 32 bits.
+-- Patterns (SAFE's IO patterns): the words that declare one, merging, and sound lists of words. From document 01, "Tags" and "Session
+-- steps". A word is a number of 32 bits.
 use mathlib.Core.Bool.{Bool, true, not}
 use mathlib.Core.List.{List, [], _∷_, map}
 use Prim.Native.Nat.{ℕ, _+_, _%_}
@@ -14,7 +15,7 @@ isAbsorb w = leb 2147483648 w
 unfoldable pub lengthOf : ℕ → ℕ
 lengthOf w = w % 2147483648
 
--- One call of a pattern: its kind, and how many elements. SAFE calls it an IO call; 01 calls it a phase if the pattern is merged.
+-- One call of a pattern: its kind, and how many elements. In a merged pattern it is what SAFE calls an absorb phase or a squeeze phase.
 pub record Phase : Type 0 where
   pub absorbs : Bool
   pub elements : ℕ

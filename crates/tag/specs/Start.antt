@@ -1,4 +1,5 @@
--- The start check of document 01, "Calls turned away": "START checks 1 to 6 in number order, whichever word is at fault".
+-- The start check of document 01, "Calls turned away": "START checks 1 to 6 in number order, whichever word is at fault". The separator is
+-- SAFE's domain separator, a string of bytes.
 use mathlib.Core.Bool.{Bool, not}
 use mathlib.Core.List.{List, [], _++_}
 use Prim.Native.Nat.{ℕ, _-_}

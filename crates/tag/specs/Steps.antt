@@ -23,5 +23,5 @@ pub record Holds (ws list : List ℕ) (count : ℕ) : Type 0 where
 
 -- a list holds the merged words of ws, or the count is 0 and a merged length too long
 pub record Stepped (ws list : List ℕ) (count : ℕ) : Type 0 where
-  pub fine : count ≢ 0 → Holds ws list count
-  pub tooLong : count ≡ 0 → merged ws ≡ withWords mergedLengthTooLong []
+  pub merges : count ≢ 0 → Holds ws list count
+  pub refuses : count ≡ 0 → merged ws ≡ withWords mergedLengthTooLong []

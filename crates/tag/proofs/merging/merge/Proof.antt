@@ -37,7 +37,7 @@ returns c =
     let i = c .before .before .before .before .before .before .loop .i in
     let stepped = c .before .before .add-word .ensures (take i words) (c .before .before .before .before .before .before .loop .inv .1) in
     let front : merged (take (suc i) words) ≡ withWords mergedLengthTooLong [] =
-    ap merged (take-suc words i 0 (omega arith)) ∙ stepped .tooLong (search needs) in
+    ap merged (take-suc words i 0 (omega arith)) ∙ stepped .refuses (search needs) in
     c .refused .ensures
     ∙ sym (ap merged (sym (take-append-drop (suc i) words)) ∙ merged-stays (take (suc i) words) (drop (suc i) words) front)
 
@@ -46,7 +46,7 @@ loop-again c =
     let words = c .before .before .before .before .before .before .before .args .words .now in
     let i = c .before .before .before .before .before .loop .i in
     let stepped = c .before .add-word .ensures (take i words) (c .before .before .before .before .before .loop .inv .1) in
-    (search needs, rw (add-one, take-suc words i 0 (omega arith)) (stepped .fine (search needs)))
+    (search needs, rw (add-one, take-suc words i 0 (omega arith)) (stepped .merges (search needs)))
 
 returns-2 : tie.Need-returns-2 Inv-loop μ-loop
 returns-2 c =
