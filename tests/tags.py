@@ -144,18 +144,18 @@ def element_cases():
         yield separator(32)
 
 
+def hexadecimal(words):
+    return "".join("%08x" % w for w in words)
+
+
 def cases():
     for words, behind, room in write_cases():
         length = max(0, 4 * merged(words) + len(behind) + room)
-        print("w", "".join("%08x" % w for w in words), behind.hex(), "%04x" % length)
+        print("w", hexadecimal(words), behind.hex(), "%04x" % length)
     for string, length in read_cases():
         print("r", string.hex(), "%016x" % length)
     for digest in element_cases():
         print("e", digest.hex())
-
-
-def hexadecimal(words):
-    return "".join("%08x" % w for w in words)
 
 
 def elements(oracle, digest):

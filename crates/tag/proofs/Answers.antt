@@ -12,7 +12,7 @@ use Rattle.basics.specs.Logic.{if_then_else_, same, any}
 use Rattle.basics.specs.Numbers.{accepted, mergedLengthTooLong}
 use Rattle.basics.proofs.Cases.{cases}
 use Rattle.tag.specs.Pattern.{isAbsorb, lengthOf, merge, phases, mergedWords}
-use Rattle.tag.specs.Start.{tooLong, given, withWords}
+use Rattle.tag.specs.Start.{tooLong, given, withWords, answerWith}
 use Rattle.tag.specs.Steps.{mergeNumber, merged, Holds, Stepped}
 use Rattle.tag.specs.declared.Merged.{Merged}
 use Rattle.tag.proofs.MergeStep.{stays-too-long, merged-refused, merged-accepted, merged-words-length, lastWord, step-first, step-other-kind, step-too-long, step-same-kind}
@@ -87,7 +87,7 @@ merged-stays ws vs e =
 -- ---- a list that holds merged words
 
 pub holds-none : Holds [] (replicate 64 0) 0
-unfolding merged mergeNumber mergedWords phases merge given withWords any if_then_else_
+unfolding merged mergeNumber mergedWords phases merge answerWith given withWords any if_then_else_
 holds-none = record { holds = refl }
 
 module _ (ws list : List ℕ) (count : ℕ) (h : Holds ws list count) where

@@ -1,4 +1,5 @@
 pub mod WordKinds
+pub mod Given
 pub mod MergeStep
 pub mod Answers
 pub mod Bytes

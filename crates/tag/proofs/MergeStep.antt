@@ -13,8 +13,9 @@ use Rattle.basics.specs.Logic.{if_then_else_, _or_, same, any}
 use Rattle.basics.specs.Numbers.{accepted, mergedLengthTooLong}
 use Rattle.basics.proofs.Cases.{by, if-true, if-false, or-false, or-end, or-either, any-append}
 use Rattle.tag.specs.Pattern.{isAbsorb, lengthOf, Phase, phaseOf, wordOf, join, merge, phases, mergedWords}
-use Rattle.tag.specs.Start.{tooLong, given, withWords}
+use Rattle.tag.specs.Start.{tooLong, withWords}
 use Rattle.tag.specs.Steps.{mergeNumber, merged}
+use Rattle.tag.proofs.Given.{answer-accepted, answer-refused}
 use Rattle.tag.proofs.WordKinds.{word-kind, word-length, word-longer, word-of-phase, length-below}
 
 -- two calls of one kind, added
@@ -122,12 +123,12 @@ stays-too-long ws (v ∷ vs) e =
 -- ---- the answers, one word more
 
 pub merged-refused : (ws : List ℕ) → any tooLong (phases ws) ≡ true → merged ws ≡ withWords mergedLengthTooLong []
-unfolding merged mergeNumber given if_then_else_
-merged-refused ws e = rw e
+unfolding merged mergeNumber
+merged-refused ws e = answer-refused _ _ _ (if-true _ _ _ e) refl
 
 pub merged-accepted : (ws : List ℕ) → any tooLong (phases ws) ≡ false → merged ws ≡ withWords accepted (mergedWords ws)
-unfolding merged mergeNumber given if_then_else_
-merged-accepted ws e = rw e
+unfolding merged mergeNumber
+merged-accepted ws e = answer-accepted _ _ (if-false _ _ _ e)
 
 short : (a : Phase) → a .elements < 2147483648 → any tooLong (a ∷ []) ≡ false
 unfolding any tooLong _or_

@@ -147,8 +147,8 @@ module _ (s : List ℕ) (n : ℕ) (bytes : (k : ℕ) → getD s k 0 < 256) (e : 
   abbrev head : List ℕ
   head = wordsPart s n
 
-  given : wordsRead s n ≡ wordsOf head
-  given = ap (λ (m : Merged). take (m .count) (m .words)) (read-accepted s n e) ∙ words-used accepted (wordsOf head)
+  words-read : wordsRead s n ≡ wordsOf head
+  words-read = ap (λ (m : Merged). take (m .count) (m .words)) (read-accepted s n e) ∙ words-used accepted (wordsOf head)
 
   whole : length head % 4 ≡ 0
   unfolding soundBytes
@@ -168,13 +168,13 @@ module _ (s : List ℕ) (n : ℕ) (bytes : (k : ℕ) → getD s k 0 < 256) (e : 
 
   pub writes : startNumber (wordsRead s n) (readSeparator s n) ≡ accepted
   writes =
-      ap₂ startNumber given (separator-accepted s n e)
+      ap₂ startNumber words-read (separator-accepted s n e)
       ∙ sound-accepted (wordsOf head) (separatorPart s n) sound-words (rw separator-length (passed s n e .short))
 
   pub writes-string : tagString (wordsRead s n) (readSeparator s n) ≡ s
   unfolding tagString wordsPart separatorPart
   writes-string =
-      ap₂ tagString given (separator-accepted s n e)
+      ap₂ tagString words-read (separator-accepted s n e)
       ∙ ap (λ (ws : List ℕ). wordBytes ws ++ separatorPart s n) (sound-merged (wordsOf head) sound-words (words-below head whole head-bytes))
       ∙ ap (λ (l : List ℕ). l ++ separatorPart s n) (bytes-of-words head whole head-bytes)
       ∙ take-append-drop (length s - n) s

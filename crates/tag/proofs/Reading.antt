@@ -10,14 +10,15 @@ use borrow.Author.Tests.{ltb-false, lt-ltb, le-ltb, eq-eqb, ne-eqb, not-false}
 use lib.Dec.{eqb}
 use lib.ListN.{length, take, drop, replicate, length-drop}
 use lib.Seq.{length-take-le, take-at, take-all, take-nil, drop-length}
-use Rattle.basics.specs.Logic.{if_then_else_, _and_}
+use Rattle.basics.specs.Logic.{_and_}
 use Rattle.basics.specs.Numbers.{accepted, separatorTooLong, notTagString}
 use Rattle.basics.proofs.Cases.{by, if-true, if-false, and-false}
 use Rattle.basics.proofs.Fill.{length-tabulate}
 use Rattle.tag.specs.Pattern.{soundWords}
-use Rattle.tag.specs.Start.{given, withWords}
+use Rattle.tag.specs.Start.{withWords, answerWith}
 use Rattle.tag.specs.TagString.{wordAt, wordsOf, wordsPart, separatorPart, soundBytes, readNumber, readWords, readSeparator}
 use Rattle.tag.specs.declared.Merged.{Merged}
+use Rattle.tag.proofs.Given.{given-accepted, given-refused, answer-accepted, answer-refused}
 use Rattle.tag.proofs.Soundness.{too-many}
 
 pub length-words-of : (s : List ℕ) → length (wordsOf s) ≡ length s / 4
@@ -26,24 +27,24 @@ length-words-of s = length-tabulate (length s / 4) (wordAt s)
 
 module _ (s : List ℕ) (n : ℕ) where
   pub read-refused : (k : ℕ) → eqb k 0 ≡ false → readNumber s n ≡ k → readWords s n ≡ withWords k []
-  unfolding readWords given if_then_else_
-  read-refused k z e = rw (e, z)
+  unfolding readWords
+  read-refused k z e = answer-refused _ k _ e z
 
   pub read-accepted : readNumber s n ≡ accepted → readWords s n ≡ withWords accepted (wordsOf (wordsPart s n))
-  unfolding readWords given if_then_else_
-  read-accepted e = rw e
+  unfolding readWords
+  read-accepted e = answer-accepted _ _ e
 
   pub number-read : (r : Merged) → r ≡ readWords s n → readNumber s n ≡ r .number
-  unfolding readWords withWords
+  unfolding readWords answerWith withWords
   number-read r e = sym (ap (λ (m : Merged). m .number) e)
 
   pub separator-refused : readNumber s n ≢ 0 → readSeparator s n ≡ []
-  unfolding readSeparator given if_then_else_
-  separator-refused z = rw (ne-eqb (readNumber s n) 0 z)
+  unfolding readSeparator
+  separator-refused z = given-refused _ _ (ne-eqb (readNumber s n) 0 z)
 
   pub separator-accepted : readNumber s n ≡ 0 → readSeparator s n ≡ separatorPart s n
-  unfolding readSeparator given if_then_else_
-  separator-accepted e = rw e
+  unfolding readSeparator
+  separator-accepted e = given-accepted _ _ e
 
   -- what an accepted string passed
   pub record Passed : Type 0 where

@@ -9,11 +9,12 @@ use native.Mathlib.Omega.{arith}
 use borrow.Author.Tests.{ltb-false, eq-eqb, ne-eqb, lt-ltb, le-ltb}
 use lib.Dec.{ltb, eqb}
 use lib.ListN.{length, getD}
-use Rattle.basics.specs.Logic.{if_then_else_, _or_, any}
+use Rattle.basics.specs.Logic.{_or_, any}
 use Rattle.basics.specs.Numbers.{accepted, wordCountOutOfRange, wordLengthZero, firstWordSqueeze, lastWordAbsorb, mergedLengthTooLong, separatorTooLong}
 use Rattle.basics.proofs.Cases.{by, if-true, if-false, or-false}
 use Rattle.tag.specs.Pattern.{isAbsorb, lengthOf, phases, mergedWords}
-use Rattle.tag.specs.Start.{tooLong, startNumber, given, withWords, checked}
+use Rattle.tag.specs.Start.{tooLong, startNumber, withWords, answerWith, checked}
+use Rattle.tag.proofs.Given.{answer-accepted, answer-refused}
 use Rattle.tag.proofs.MergeStep.{merged-words-length}
 
 module _ (ws separator : List ℕ) where
@@ -104,15 +105,15 @@ module _ (ws separator : List ℕ) where
       record { e1 = e1; e2 = e2; e3 = e3; e4 = e4; e5 = e5; e6 = e6 }
 
   pub checked-refused : (n : ℕ) → eqb n 0 ≡ false → startNumber ws separator ≡ n → checked ws separator ≡ withWords n []
-  unfolding checked given if_then_else_
-  checked-refused n z e = rw (e, z)
+  unfolding checked
+  checked-refused n z e = answer-refused _ n _ e z
 
   pub checked-accepted : startNumber ws separator ≡ accepted → checked ws separator ≡ withWords accepted (mergedWords ws)
-  unfolding checked given if_then_else_
-  checked-accepted e = rw e
+  unfolding checked
+  checked-accepted e = answer-accepted _ _ e
 
   pub checked-number : checked ws separator .number ≡ startNumber ws separator
-  unfolding checked withWords
+  unfolding checked answerWith withWords
   checked-number = refl
 
   pub few-words : startNumber ws separator ≡ accepted → length (mergedWords ws) ≤ 64

@@ -10,38 +10,39 @@ use Rattle.basics.specs.Logic.{if_then_else_, same}
 use Rattle.basics.proofs.Cases.{by, cases}
 use Rattle.tag.specs.Pattern.{isAbsorb, lengthOf, Phase, phaseOf, wordOf}
 
-kind : (k : Bool) (n : ℕ) → n < 2147483648 → isAbsorb (if k then 2147483648 + n else n) ≡ k
+-- the two kinds apart
+if-kind : (k : Bool) (n : ℕ) → n < 2147483648 → isAbsorb (if k then 2147483648 + n else n) ≡ k
 unfolding isAbsorb if_then_else_
-kind true n h = le-leb 2147483648 (2147483648 + n) (omega arith)
-kind false n h = lt-leb 2147483648 n h
+if-kind true n h = le-leb 2147483648 (2147483648 + n) (omega arith)
+if-kind false n h = lt-leb 2147483648 n h
 
-length : (k : Bool) (n : ℕ) → n < 2147483648 → lengthOf (if k then 2147483648 + n else n) ≡ n
+if-length : (k : Bool) (n : ℕ) → n < 2147483648 → lengthOf (if k then 2147483648 + n else n) ≡ n
 unfolding lengthOf if_then_else_
-length true n h = omega arith
-length false n h = omega arith
+if-length true n h = omega arith
+if-length false n h = omega arith
 
-below : (k : Bool) (n : ℕ) → n < 2147483648 → (if k then 2147483648 + n else n) < 4294967296
+if-below : (k : Bool) (n : ℕ) → n < 2147483648 → (if k then 2147483648 + n else n) < 4294967296
 unfolding if_then_else_
-below true n h = omega arith
-below false n h = omega arith
+if-below true n h = omega arith
+if-below false n h = omega arith
 
-longer : (k : Bool) (n m : ℕ) → (if k then 2147483648 + n else n) + m ≡ (if k then 2147483648 + (n + m) else n + m)
+if-longer : (k : Bool) (n m : ℕ) → (if k then 2147483648 + n else n) + m ≡ (if k then 2147483648 + (n + m) else n + m)
 unfolding if_then_else_
-longer true n m = omega arith
-longer false n m = refl
+if-longer true n m = omega arith
+if-longer false n m = refl
 
 module _ (a : Phase) (h : a .elements < 2147483648) where
   pub word-kind : isAbsorb (wordOf a) ≡ a .absorbs
   unfolding wordOf
-  word-kind = kind (a .absorbs) (a .elements) h
+  word-kind = if-kind (a .absorbs) (a .elements) h
 
   pub word-length : lengthOf (wordOf a) ≡ a .elements
   unfolding wordOf
-  word-length = length (a .absorbs) (a .elements) h
+  word-length = if-length (a .absorbs) (a .elements) h
 
   pub word-below : wordOf a < 4294967296
   unfolding wordOf
-  word-below = below (a .absorbs) (a .elements) h
+  word-below = if-below (a .absorbs) (a .elements) h
 
   pub phase-of-word : phaseOf (wordOf a) ≡ a
   unfolding phaseOf
@@ -49,7 +50,7 @@ module _ (a : Phase) (h : a .elements < 2147483648) where
 
 pub word-longer : (a : Phase) (m : ℕ) → wordOf a + m ≡ wordOf (record { absorbs = a .absorbs; elements = a .elements + m })
 unfolding wordOf
-word-longer a m = longer (a .absorbs) (a .elements) m
+word-longer a m = if-longer (a .absorbs) (a .elements) m
 
 pub word-of-phase : (w : ℕ) → w < 4294967296 → wordOf (phaseOf w) ≡ w
 unfolding wordOf phaseOf isAbsorb lengthOf

@@ -11,10 +11,11 @@ use lib.Seq.{take-at, take-append-seam, drop-append-add, drop-drop}
 use Rattle.basics.specs.Logic.{if_then_else_}
 use Rattle.basics.specs.Numbers.{accepted, bufferTooShort}
 use Rattle.tag.specs.Pattern.{mergedWords}
-use Rattle.tag.specs.Start.{startNumber, given, withWords, checked}
+use Rattle.tag.specs.Start.{startNumber, withWords, checked}
 use Rattle.tag.specs.TagString.{wordBytes, tagString, writeNumber, writtenBytes, written, bufferAfter}
 use Rattle.tag.specs.declared.Merged.{Merged}
 use Rattle.tag.specs.declared.Written.{Written}
+use Rattle.tag.proofs.Given.{given-accepted, given-refused}
 use Rattle.tag.proofs.Bytes.{length-word-bytes}
 use Rattle.tag.proofs.Answers.{count-at, count-within, words-used}
 use Rattle.tag.proofs.StartCheck.{checked-number, checked-accepted, few-words}
@@ -41,8 +42,8 @@ module _ (ws separator : List ℕ) where
 
     module _ (number : writeNumber ws separator buffer ≢ 0) where
       none : writtenBytes ws separator buffer ≡ []
-      unfolding writtenBytes given if_then_else_
-      none = rw (ne-eqb (writeNumber ws separator buffer) 0 number)
+      unfolding writtenBytes
+      none = given-refused _ _ (ne-eqb (writeNumber ws separator buffer) 0 number)
 
       pub written-refused : written ws separator buffer ≡ record { number = writeNumber ws separator buffer; length = 0 }
       unfolding written
@@ -54,8 +55,8 @@ module _ (ws separator : List ℕ) where
 
     module _ (number : writeNumber ws separator buffer ≡ 0) where
       whole : writtenBytes ws separator buffer ≡ tagString ws separator
-      unfolding writtenBytes given if_then_else_
-      whole = rw number
+      unfolding writtenBytes
+      whole = given-accepted _ _ number
 
       pub written-accepted : written ws separator buffer ≡ record { number = 0; length = length (tagString ws separator) }
       unfolding written

@@ -7,7 +7,7 @@ use lib.Dec.{leb, eqb}
 use lib.ListN.{length}
 use Rattle.basics.specs.Logic.{if_then_else_, _and_, same, all}
 
--- "A word has its top bit set for ABSORB and clear for SQUEEZE"
+-- "A word has its top bit set for ABSORB and clear for SQUEEZE": it is 2^31 or more, or less
 unfoldable pub isAbsorb : ℕ → Bool
 isAbsorb w = leb 2147483648 w
 

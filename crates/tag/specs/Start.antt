@@ -33,6 +33,10 @@ given number xs = if eqb number accepted then xs else []
 unfoldable pub withWords : ℕ → List ℕ → Merged
 withWords number ws = record { number = number; words = ws ++ replicate (64 - length ws) 0; count = length ws }
 
--- the start check's answer: its number, and the merged words if that is 0
+-- an answer that holds words: its number, and the words if that is 0
+unfoldable pub answerWith : ℕ → List ℕ → Merged
+answerWith number ws = withWords number (given number ws)
+
+-- the start check's answer: its number and the merged words
 unfoldable pub checked : List ℕ → List ℕ → Merged
-checked ws separator = withWords (startNumber ws separator) (given (startNumber ws separator) (mergedWords ws))
+checked ws separator = answerWith (startNumber ws separator) (mergedWords ws)

@@ -6,7 +6,7 @@ use Prim.Native.Nat.{ℕ}
 use Rattle.basics.specs.Logic.{if_then_else_, any}
 use Rattle.basics.specs.Numbers.{accepted, mergedLengthTooLong}
 use Rattle.tag.specs.Pattern.{phases, mergedWords}
-use Rattle.tag.specs.Start.{tooLong, given, withWords}
+use Rattle.tag.specs.Start.{tooLong, withWords, answerWith}
 use Rattle.tag.specs.declared.Merged.{Merged}
 
 -- the row 5 of the start check alone
@@ -15,7 +15,7 @@ mergeNumber ws = if any tooLong (phases ws) then mergedLengthTooLong else accept
 
 -- number 5, or the merged words
 unfoldable pub merged : List ℕ → Merged
-merged ws = withWords (mergeNumber ws) (given (mergeNumber ws) (mergedWords ws))
+merged ws = answerWith (mergeNumber ws) (mergedWords ws)
 
 -- a list of 64 places holds the merged words of ws, which are so many
 pub record Holds (ws list : List ℕ) (count : ℕ) : Type 0 where

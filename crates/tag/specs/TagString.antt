@@ -9,7 +9,7 @@ use Rattle.basics.specs.Lists.{tabulate}
 use Rattle.basics.specs.Digits.{digits, number}
 use Rattle.basics.specs.Numbers.{accepted, separatorTooLong, bufferTooShort, notTagString}
 use Rattle.tag.specs.Pattern.{mergedWords, soundWords}
-use Rattle.tag.specs.Start.{startNumber, given, withWords}
+use Rattle.tag.specs.Start.{startNumber, given, answerWith}
 use Rattle.tag.specs.declared.Merged.{Merged}
 use Rattle.tag.specs.declared.Written.{Written}
 
@@ -74,7 +74,7 @@ readNumber s n =
 
 -- "The merged words come back by value"; "Refused, it gives 64 zero words and count 0."
 unfoldable pub readWords : List ℕ → ℕ → Merged
-readWords s n = withWords (readNumber s n) (given (readNumber s n) (wordsOf (wordsPart s n)))
+readWords s n = answerWith (readNumber s n) (wordsOf (wordsPart s n))
 
 -- the words that reading gives, without the places that are not used
 abbrev pub wordsRead : List ℕ → ℕ → List ℕ

@@ -33,6 +33,7 @@ pub struct Written {
     pub length: usize,
 }
 
+// A number and no words.
 pub(crate) fn refused(number: u32) -> Merged
     ensures { λ r. ⌜ r ≡ withWords number [] ⌝ }
 {
