@@ -47,6 +47,15 @@ unfolding _and_
 and-false true = refl
 and-false false = refl
 
+-- a chain of tests: one that passes leaves the others, one that fails is the outcome
+pub and-step : (a b : Bool) → a ≡ true → a and b ≡ b
+unfolding _and_
+and-step a b e = rw e
+
+pub and-stop : (a b : Bool) → a ≡ false → a and b ≡ false
+unfolding _and_
+and-stop a b e = rw e
+
 pub or-false : (a b : Bool) → a or b ≡ false → (a ≡ false) × (b ≡ false)
 unfolding _or_
 or-false true b e = absurd (true≢false e)

@@ -1,6 +1,8 @@
 // Arithmetic modulo p on any numbers of 32 bits, reduced or not.
 ghost use mathlib.Core.Path.{_≡_};
 ghost use Prim.Native.Nat.{_+_, _*_, _%_, _^_};
+ghost use lib.Dec.{ltb};
+ghost use Rattle.basics.specs.Logic.{all};
 ghost use Rattle.field.specs.Field.{p};
 
 // The modulus p.
@@ -37,4 +39,16 @@ pub fn seventh_power(a: u32) -> u32
     let square = mul(a, a);
     let cube = mul(square, a);
     mul(mul(square, square), cube)
+}
+
+// Whether every number is below p.
+pub fn is_reduced(elements: &[u32]) -> bool
+    ensures { λ r. ⌜ r ≡ all (λ x. ltb x p) (now (elements .entry)) ⌝ }
+{
+    for i in 0..elements.len() {
+        if P <= elements[i] {
+            return false;
+        }
+    }
+    true
 }

@@ -1,16 +1,17 @@
 -- Reduced lists, and that every step of the permutation gives 24 reduced elements, over any modulus.
 -- Assumes nothing.
-use mathlib.Core.Path.{_≡_, _∙_}
+use mathlib.Core.Path.{_≡_, refl, subst, _∙_}
 use mathlib.Core.Bool.{true}
 use mathlib.Core.List.{List, [], _∷_, _++_}
 use Prim.Native.Nat.{ℕ, zero, suc, _+_, _<_}
 use native.Mathlib.Nat.{mod-lt}
-use borrow.Author.Tests.{ltb-true}
+use native.Mathlib.Omega.{arith}
+use borrow.Author.Tests.{ltb-true, lt-ltb}
 use lib.Dec.{ltb}
 use lib.ListN.{length, getD, set, length-set}
 use Rattle.basics.specs.Logic.{all}
 use Rattle.basics.specs.Lists.{tabulate}
-use Rattle.basics.proofs.Cases.{by, and-left, and-right}
+use Rattle.basics.proofs.Cases.{by, and-left, and-right, and-both}
 use Rattle.basics.proofs.Fill.{length-tabulate}
 use Rattle.poseidon.specs.Permutation.{Parameters, addConstants, raiseAll, raiseFirst, raise, multiply, rounds, permutation}
 use Rattle.poseidon.specs.Steps.{Reduced}
@@ -42,6 +43,14 @@ module _ (m : ℕ) (pos : 0 < m) where
 
   pub reduced-all : (s : List ℕ) → all (λ x. ltb x m) s ≡ true → Reduced m s
   reduced-all s e = record { below = below-all s e }
+
+all-below : (m : ℕ) (s : List ℕ) → ((k : ℕ) → getD s k 0 < m) → all (λ x. ltb x m) s ≡ true
+unfolding all
+all-below m [] h = refl
+all-below m (x ∷ s) h = and-both _ _ (lt-ltb x m (h 0)) (all-below m s (λ k. h (suc k)))
+
+pub all-reduced : (m : ℕ) (s : List ℕ) → Reduced m s → all (λ x. ltb x m) s ≡ true
+all-reduced m s h = all-below m s (h .below)
 
 -- 24 elements below m
 pub record State (m : ℕ) (s : List ℕ) : Type 0 where
@@ -87,3 +96,10 @@ module _ (F : Parameters) (pos : 0 < F .modulus) where
   pub permutation-state : (s : List ℕ) → State (F .modulus) s → State (F .modulus) (permutation F s)
   unfolding permutation
   permutation-state s h = after-rounds _ s h
+
+  -- whatever goes in, reduced elements come out
+  pub permutation-reduced : (s : List ℕ) → Reduced (F .modulus) (permutation F s)
+  unfolding permutation rounds
+  permutation-reduced s =
+      let last : suc (F .partialRounds + 7) ≡ 4 + F .partialRounds + 4 = omega arith in
+      subst (λ (n : ℕ). Reduced (F .modulus) (rounds F n s)) last (multiplied _ .reduced)

@@ -19,21 +19,6 @@ pub struct Permuted {
     pub state: [u32; 24],
 }
 
-// Whether every element is below p.
-fn is_reduced(state: &[u32; 24]) -> bool
-    requires { ⌜ length (now state) ≡ 24 ⌝ }
-    ensures { λ r. ⌜ r ≡ all (λ x. ltb x p) (now (state .entry)) ⌝ }
-{
-    let mut i: usize = 0;
-    while i < 24 {
-        if field::P <= state[i] {
-            return false;
-        }
-        i += 1;
-    }
-    true
-}
-
 // The sum of two reduced elements, for which one subtraction does what a division would.
 fn add_reduced(a: u32, b: u32) -> u32
     requires { ⌜ (a < p) × (b < p) ⌝ }
@@ -153,7 +138,7 @@ fn permute_reduced(state: [u32; 24]) -> [u32; 24]
 pub fn permute(state: [u32; 24]) -> Permuted
     ensures { λ r. ⌜ r ≡ permuted state ⌝ }
 {
-    if is_reduced(&state) {
+    if field::is_reduced(&state) {
         Permuted {
             number: basics::ACCEPTED,
             state: permute_reduced(state),

@@ -27,6 +27,7 @@ pub permute-spec : {M : Type 1} → statement M
 permute-spec =
     tie.close
     (tie.spec
+    (λ c. search needs)
     (λ c κs. search needs)
     permute-reduced-requires
     returns

@@ -1,0 +1,9 @@
+pub mod Elements
+pub mod Pattern
+pub mod Folds
+pub mod Counts
+pub mod SoundRecord
+pub mod SoundPattern
+pub mod Places
+pub mod Opening
+pub mod Buffers

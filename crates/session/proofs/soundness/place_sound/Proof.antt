@@ -1,0 +1,31 @@
+-- `session::soundness::place_sound` meets its contract.
+-- Assumes nothing.
+use mathlib.Core.Path.{sym, ap, _∙_}
+use native.Mathlib.Omega.{arith}
+use borrow.Author.Tests.{lt-ltb, le-ltb, le-leb, lt-leb}
+use lib.Dec.{ltb}
+use Rattle.basics.proofs.Cases.{if-true, if-false, and-step, and-stop}
+use Rattle.tag.specs.Pattern.{lengthOf}
+use borrow.Author.Needs.{needs}
+use Rattle.session.proofs.soundness.place_sound.Statement.{statement}
+use Rattle.session.proofs.soundness.place_sound.Tie as tie
+
+returns : tie.Need-returns
+returns c = sym (and-stop _ _ (lt-leb _ _ (c .if1 .taken)))
+
+returns-2 : tie.Need-returns-2
+returns-2 c =
+    let phase = c .before .before .before .args .phase in
+    let count = c .before .before .before .args .count in
+    sym (and-step _ _ (le-leb phase count (omega arith)) ∙ if-false _ _ _ (le-ltb phase count (omega arith)))
+
+returns-3 : tie.Need-returns-3
+returns-3 c =
+    let at-entry = c .before .before .before .before .before in
+    let phase = at-entry .args .phase in
+    let count = at-entry .args .count in
+    let length = c .length-of .ensures ∙ ap lengthOf (c .before .word-at .ensures) in
+    ap (ltb (at-entry .args .done)) length ∙ sym (and-step _ _ (le-leb phase count (omega arith)) ∙ if-true _ _ _ (lt-ltb phase count (search needs)))
+
+pub place-sound-spec : {M : Type 1} → statement M
+place-sound-spec = tie.close (tie.spec returns returns-2 (λ c κs. search needs) (λ c κs. search needs) returns-3)

@@ -1,0 +1,47 @@
+-- `session::soundness::positions_at` meets its contract.
+-- Assumes nothing.
+use mathlib.Core.Path.{sym, ap, _∙_}
+use Prim.Native.Nat.{ℕ}
+use Rattle.tag.specs.Pattern.{lengthOf}
+use Rattle.session.specs.Soundness.{positionsAfter}
+use Rattle.session.proofs.Pattern.{inside-phase, at-start, between-phases}
+use borrow.Author.Needs.{needs}
+use Rattle.session.proofs.soundness.positions_at.Statement.{statement}
+use Rattle.session.proofs.soundness.positions_at.Tie as tie
+
+returns : tie.Need-returns
+returns c =
+    let at-entry = c .before .before .before .before in
+    c .positions-after .ensures
+    ∙ ap (λ (w : ℕ). positionsAfter w (at-entry .args .done)) (c .before .word-at .ensures)
+    ∙ sym (inside-phase _ _ _ (search needs))
+
+returns-2 : tie.Need-returns-2
+returns-2 c = sym (at-start _ _ _ (search needs) (search needs))
+
+positions-after-requires-2 : tie.Need-positions-after-requires-2
+positions-after-requires-2 c κs =
+    let long = c .before .before .before .before .before .pre .1 (search needs) in
+    rw (c .length-of .ensures, c .before .word-at2 .ensures) long
+
+returns-3 : tie.Need-returns-3
+returns-3 c =
+    let word = c .before .before .word-at2 .ensures in
+    c .positions-after2 .ensures
+    ∙ ap (positionsAfter _) (c .before .length-of .ensures)
+    ∙ ap (λ (w : ℕ). positionsAfter w (lengthOf w)) word
+    ∙ sym (between-phases _ _ _ (search needs) (search needs))
+
+pub positions-at-spec : {M : Type 1} → statement M
+positions-at-spec =
+    tie.close
+    (tie.spec
+    (λ c κs. search needs)
+    (λ c κs. search needs)
+    returns
+    returns-2
+    (λ c. search needs)
+    (λ c κs. search needs)
+    (λ c κs. search needs)
+    positions-after-requires-2
+    returns-3)

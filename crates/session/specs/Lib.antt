@@ -1,0 +1,5 @@
+pub mod Sponge
+pub mod Record
+pub mod Soundness
+pub mod Calls
+pub mod Steps

@@ -1,0 +1,51 @@
+-- What private functions of the crate give.
+use mathlib.Core.Path.{_≡_}
+use mathlib.Core.Bool.{true}
+use mathlib.Core.List.{List}
+use Prim.Native.Nat.{ℕ, suc, _+_, _*_, _≤_, _<_}
+use lib.Dec.{ltb, eqb}
+use lib.ListN.{length}
+use Rattle.basics.specs.Logic.{if_then_else_, all}
+use Rattle.field.specs.Field.{p}
+use Rattle.tag.specs.Pattern.{lengthOf}
+use Rattle.session.specs.Sponge.{Sponge, rate, permute}
+use Rattle.session.specs.Record.{phaseWord}
+use Rattle.session.specs.declared.Session.{Session}
+
+-- a sponge of its parts
+abbrev pub sponge : List ℕ → ℕ → ℕ → ℕ → Sponge
+sponge state absorb squeeze permutations =
+    record { state = state; absorbPosition = absorb; squeezePosition = squeeze; permutations = permutations }
+
+-- the state where an element goes in or comes out at a position: permuted where that is 8
+unfoldable pub stateFor : ℕ → List ℕ → List ℕ
+stateFor position state = if eqb position rate then permute state else state
+
+-- how many permutations that is
+unfoldable pub permutationsFor : ℕ → ℕ
+permutationsFor position = if eqb position rate then 1 else 0
+
+-- the place in the state: 0 where the position is 8
+unfoldable pub placeFor : ℕ → ℕ
+placeFor position = if eqb position rate then 0 else position
+
+-- the absorb position, where an element comes out at a squeeze position
+unfoldable pub absorbFor : ℕ → ℕ → ℕ
+absorbFor squeeze absorb = if eqb squeeze rate then 0 else absorb
+
+-- the place in the pattern after n elements more of the phase
+unfoldable pub phaseAfter : Session → ℕ → ℕ
+phaseAfter r n = if eqb (r .done + n) (lengthOf (phaseWord r)) then suc (r .phase) else r .phase
+
+unfoldable pub doneAfter : Session → ℕ → ℕ
+doneAfter r n = if eqb (r .done + n) (lengthOf (phaseWord r)) then 0 else r .done + n
+
+-- n elements of the phase can be done
+pub record Within (r : Session) (n : ℕ) : Type 0 where
+  pub some : 1 ≤ n
+  pub fits : r .done + n ≤ lengthOf (phaseWord r)
+  pub early : r .phase < 64
+  pub reduced : all (λ x. ltb x p) (r .state) ≡ true
+  pub absorbs : r .«absorb_position» ≤ rate
+  pub squeezes : r .«squeeze_position» ≤ rate
+  pub counted : r .permutations ≤ 268435456 * 65

@@ -1,0 +1,137 @@
+// The parts of a record's soundness: its words, its place in the pattern, and the positions and the count that the steps give there.
+ghost use mathlib.Core.Path.{_≡_};
+ghost use mathlib.Core.Logic.{_≢_};
+ghost use Prim.Native.Nat.{_-_, _≤_};
+ghost use lib.Dec.{leb, ltb, eqb};
+ghost use lib.ListN.{length, getD, take, drop};
+ghost use Rattle.basics.specs.Logic.{if_then_else_, _and_, all};
+ghost use Rattle.basics.specs.Lists.{sum};
+ghost use Rattle.tag.specs.Pattern.{lengthOf, soundWords};
+ghost use Rattle.session.specs.Soundness.{phasePermutations, permutationsAt, inLastBlock, positionsAfter, positionsAt};
+
+// An absorb and a squeeze position.
+pub(crate) struct Positions {
+    pub absorb: u32,
+    pub squeeze: u32,
+}
+
+// The word of a phase, and 0 behind the last place.
+pub(crate) fn word_at(words: &[u32], phase: u32) -> u32
+    requires { ⌜ length (now words) ≡ 64 ⌝ }
+    ensures { λ r. ⌜ r ≡ getD (now (words .entry)) phase 0 ⌝ }
+{
+    if phase < 64 { words[phase as usize] } else { 0 }
+}
+
+fn all_zero(words: &[u32]) -> bool
+    ensures { λ r. ⌜ r ≡ all (λ w. eqb w 0) (now (words .entry)) ⌝ }
+{
+    for i in 0..words.len() {
+        if words[i] != 0 {
+            return false;
+        }
+    }
+    true
+}
+
+// Whether the words are sound, and unused ones 0.
+pub(crate) fn words_sound(words: &[u32], count: u32) -> bool
+    requires { ⌜ length (now words) ≡ 64 ⌝ }
+    ensures { λ r. ⌜ r ≡ leb count (length (now (words .entry))) and soundWords (take count (now (words .entry))) and all (λ w. eqb w 0) (drop count (now (words .entry))) ⌝ }
+{
+    let n = count as usize;
+    if n > tag::MAX_WORDS {
+        return false;
+    }
+    if !tag::is_sound(&words[..n]) {
+        return false;
+    }
+    all_zero(&words[n..])
+}
+
+// Whether the place is one in the pattern.
+pub(crate) fn place_sound(words: &[u32], count: u32, phase: u32, done: u32) -> bool
+    requires { ⌜ length (now words) ≡ 64 ⌝ }
+    ensures { λ r. ⌜ r ≡ leb phase count and (if ltb phase count then ltb done (lengthOf (getD (now (words .entry)) phase 0)) else eqb done 0) ⌝ }
+{
+    if phase > count {
+        return false;
+    }
+    if phase == count {
+        return done == 0;
+    }
+    done < tag::words::length_of(word_at(words, phase))
+}
+
+// The permutations for so many elements of a phase.
+fn phase_permutations(word: u32, done: u32) -> u64
+    ensures { λ r. ⌜ r ≡ phasePermutations word done ⌝ }
+{
+    let blocks = (done as u64 + 7) / 8;
+    if !tag::words::is_absorb(word) {
+        return blocks;
+    }
+    if done == 0 {
+        return 0;
+    }
+    blocks - 1
+}
+
+// The permutations at a place: those of the phases before, and of the elements done in this one.
+pub(crate) fn permutations_at(words: &[u32], phase: u32, done: u32) -> u64
+    requires { ⌜ (length (now words) ≡ 64) × (phase ≤ 64) ⌝ }
+    ensures { λ r. ⌜ r ≡ permutationsAt (now (words .entry)) phase done ⌝ }
+{
+    let mut permutations: u64 = 0;
+    for k in 0..phase {
+        let word = word_at(words, k);
+        permutations += phase_permutations(word, tag::words::length_of(word));
+    }
+    permutations + phase_permutations(word_at(words, phase), done)
+}
+
+// How many elements the last block of so many elements has.
+fn in_last_block(elements: u32) -> u32
+    requires { ⌜ 1 ≤ elements ⌝ }
+    ensures { λ r. ⌜ r ≡ inLastBlock elements ⌝ }
+{
+    (elements - 1) % 8 + 1
+}
+
+// The positions that an element of a phase leaves, counted from 1.
+fn positions_after(word: u32, element: u32) -> Positions
+    requires { ⌜ 1 ≤ element ⌝ }
+    ensures { λ r. ⌜ r ≡ positionsAfter word element ⌝ }
+{
+    let filled = in_last_block(element);
+    if tag::words::is_absorb(word) {
+        Positions {
+            absorb: filled,
+            squeeze: 8,
+        }
+    } else {
+        Positions {
+            absorb: 0,
+            squeeze: filled,
+        }
+    }
+}
+
+// The positions at a place.
+pub(crate) fn positions_at(words: &[u32], phase: u32, done: u32) -> Positions
+    requires { ⌜ length (now words) ≡ 64 ⌝ }
+    requires { ⌜ (phase ≢ 0 → 1 ≤ lengthOf (getD (now words) (phase - 1) 0)) ⌝ }
+    ensures { λ r. ⌜ r ≡ positionsAt (now (words .entry)) phase done ⌝ }
+{
+    if done > 0 {
+        return positions_after(word_at(words, phase), done);
+    }
+    if phase == 0 {
+        return Positions {
+            absorb: 0,
+            squeeze: 0,
+        };
+    }
+    let word = word_at(words, phase - 1);
+    positions_after(word, tag::words::length_of(word))
+}
