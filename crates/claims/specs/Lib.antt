@@ -1,2 +1,4 @@
 pub mod TagStrings
+pub mod Sessions
+pub mod ThirdDemand
 pub mod Samples

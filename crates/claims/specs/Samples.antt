@@ -4,18 +4,27 @@ use mathlib.Core.Bool.{Bool, true, false}
 use mathlib.Core.List.{List, [], _∷_, _++_}
 use Prim.Native.Nat.{ℕ, _-_}
 use lib.Dec.{eqb}
-use lib.ListN.{getD, replicate}
+use lib.ListN.{length, getD, replicate}
 use Rattle.basics.specs.Logic.{if_then_else_, _and_, _or_, same, all, any}
-use Rattle.basics.specs.Lists.{tabulate}
+use Rattle.basics.specs.Lists.{tabulate, sum}
 use Rattle.basics.specs.Digits.{digits, number, numberAfter}
 use Rattle.basics.specs.Numbers.{accepted}
 use Rattle.field.specs.Field.{p}
-use Rattle.poseidon.specs.Tables.{inverses}
-use Rattle.poseidon.specs.Permutation.{matrix, raiseFirst, babyBear}
-use Rattle.tag.specs.Pattern.{isAbsorb, lengthOf, phaseOf, wordOf, join, merge, phases, mergedWords}
+use Rattle.keccak.specs.Sponge as hash
+use Rattle.keccak.specs.Permutation as keccak
+use Rattle.keccak.specs.Tables.{offsets, roundConstants}
+use Rattle.poseidon.specs.Tables.{constants, inverses}
+use Rattle.poseidon.specs.Permutation.{addConstants, raiseAll, raiseFirst, raise, matrix, multiply, rounds, permutation, babyBear}
+use Rattle.tag.specs.Pattern.{isAbsorb, lengthOf, phaseOf, wordOf, join, merge, phases, mergedWords, alternate, soundWords}
 use Rattle.tag.specs.Start.{tooLong, startNumber}
 use Rattle.tag.specs.TagString.{wordBytes, tagString, wordAt}
 use Rattle.tag.specs.Elements.{tagElements}
+use Rattle.session.specs.Sponge.{permute, tagState, readyToAbsorb, absorbElement, readyToSqueeze, squeezedElement, squeezeElement}
+use Rattle.session.specs.Record.{wiped, openRecord, spongeOf, moved, phaseWord, lastElement, nextPhase, nextDone}
+use Rattle.session.specs.Record.{absorbOne, squeezeOne, squeezedOne, absorbAll, squeezeAll}
+use Rattle.session.specs.Soundness.{blockCount, phasePermutations, permutationsAt, inLastBlock, positionsAfter, positionsAt, sound}
+use Rattle.session.specs.Calls.{giving, startRecord, start, inPattern, absorb, squeeze, finish}
+use Rattle.runs.specs.Calls.{Call, ABSORB, SQUEEZE, answered, left, leftBy}
 
 -- two lists are equal
 sameList : List ℕ → List ℕ → Bool
@@ -46,6 +55,46 @@ b3 =
     ∷ sameList (mergedWords (0xfffffffe ∷ 0x80000001 ∷ 1 ∷ [])) (0xffffffff ∷ 1 ∷ [])
     ∷ []
 
+-- the permutations of a whole session, by the formula
+byFormula : List ℕ → ℕ
+byFormula ws = permutationsAt (mergedWords ws) (length (mergedWords ws)) 0
+
+-- the permutations counted by START and calls, and that FINISH then accepts
+byCalls : List ℕ → List Call → List ℕ
+byCalls ws cs =
+    let r = leftBy (start ws [] .session) cs in
+    r .permutations ∷ finish r .number ∷ []
+
+-- "B4 ABSORB 8, SQUEEZE 1: 1 permutation."
+b4 : List Bool
+b4 =
+    eqb (byFormula (0x80000008 ∷ 1 ∷ [])) 1
+    ∷ sameList (byCalls (0x80000008 ∷ 1 ∷ []) (ABSORB (replicate 8 5) ∷ SQUEEZE 1 ∷ [])) (1 ∷ accepted ∷ [])
+    ∷ []
+
+-- "B5 9 and 1: 2."
+b5 : List Bool
+b5 =
+    eqb (byFormula (0x80000009 ∷ 1 ∷ [])) 2
+    ∷ sameList (byCalls (0x80000009 ∷ 1 ∷ []) (ABSORB (replicate 9 5) ∷ SQUEEZE 1 ∷ [])) (2 ∷ accepted ∷ [])
+    ∷ []
+
+-- "B6 1 and 9: 2."
+b6 : List Bool
+b6 =
+    eqb (byFormula (0x80000001 ∷ 9 ∷ [])) 2
+    ∷ sameList (byCalls (0x80000001 ∷ 9 ∷ []) (ABSORB (5 ∷ []) ∷ SQUEEZE 9 ∷ [])) (2 ∷ accepted ∷ [])
+    ∷ []
+
+-- "B7 8, 8, 1, 1, kinds alternating: 2."
+b7 : List Bool
+b7 =
+    eqb (byFormula (0x80000008 ∷ 8 ∷ 0x80000001 ∷ 1 ∷ [])) 2
+    ∷ sameList
+    (byCalls (0x80000008 ∷ 8 ∷ 0x80000001 ∷ 1 ∷ []) (ABSORB (replicate 8 5) ∷ SQUEEZE 8 ∷ ABSORB (5 ∷ []) ∷ SQUEEZE 1 ∷ []))
+    (2 ∷ accepted ∷ [])
+    ∷ []
+
 -- "B8 inverse of 24: 1929379841; of 32: 1950351361." They stand in row 0 of the matrix, in columns 0 and 8.
 b8 : List Bool
 b8 = eqb (matrix babyBear 0 0) 1929379841 ∷ eqb (matrix babyBear 0 8) 1950351361 ∷ []
@@ -63,11 +112,19 @@ b10 : List Bool
 b10 = sameList (tagElements (replicate 32 0xff)) (replicate 8 1073741823) ∷ []
 
 pub samples : List Bool
-samples = b1 ++ b2 ++ b3 ++ b8 ++ b9 ++ b10
+samples = b1 ++ b2 ++ b3 ++ b4 ++ b5 ++ b6 ++ b7 ++ b8 ++ b9 ++ b10
 
 pub samples-hold : all (λ sample. sample) samples ≡ true
-unfolding samples b1 b2 b3 b8 b9 b10 sameList raised
-    all any _and_ _or_ if_then_else_ same tabulate digits number numberAfter
-    isAbsorb lengthOf phaseOf wordOf join merge phases mergedWords tooLong startNumber wordBytes tagString wordAt tagElements
-    matrix raiseFirst babyBear inverses
+unfolding samples b1 b2 b3 b4 b5 b6 b7 b8 b9 b10 sameList byFormula byCalls raised
+    all any _and_ _or_ if_then_else_ same tabulate sum digits number numberAfter
+    isAbsorb lengthOf phaseOf wordOf join merge phases mergedWords alternate soundWords
+    tooLong startNumber wordBytes tagString wordAt tagElements
+    constants inverses addConstants raiseAll raiseFirst raise matrix multiply rounds permutation babyBear
+    hash.bytes hash.pad10*1 hash.padded hash.laneAt hash.addBlock hash.absorb hash.byteOf hash.squeeze hash.sha3
+    keccak.state keccak.rotate keccak.parity keccak.effect keccak.theta keccak.rho keccak.pi keccak.chi keccak.iota
+    keccak.round keccak.rounds keccak.permutation offsets roundConstants
+    permute tagState readyToAbsorb absorbElement readyToSqueeze squeezedElement squeezeElement
+    wiped openRecord spongeOf moved phaseWord lastElement nextPhase nextDone absorbOne squeezeOne squeezedOne absorbAll squeezeAll
+    blockCount phasePermutations permutationsAt inLastBlock positionsAfter positionsAt sound
+    giving startRecord start inPattern absorb squeeze finish answered left leftBy
 samples-hold = refl

@@ -4,9 +4,7 @@ mod tables;
 
 ghost use mathlib.Core.Path.{_≡_};
 ghost use Prim.Native.Nat.{_+_, _*_, _%_, _≤_, _<_};
-ghost use lib.Dec.{ltb};
 ghost use lib.ListN.{length, getD};
-ghost use Rattle.basics.specs.Logic.{all};
 ghost use Rattle.basics.specs.Lists.{sum};
 ghost use Rattle.field.specs.Field.{p};
 ghost use Rattle.poseidon.specs.Tables.{constants, inverses};

@@ -9,7 +9,6 @@ use borrow.Author.Tests.{ltb-false, eq-eqb, ne-eqb}
 use lib.ListN.{length, drop, replicate, length-append}
 use Rattle.basics.specs.Numbers.{accepted}
 use Rattle.basics.proofs.Cases.{if-true, if-false}
-use Rattle.tag.specs.Pattern.{mergedWords}
 use Rattle.tag.specs.Start.{startNumber}
 use Rattle.tag.specs.TagString.{tagString, writeNumber, writtenBytes, written, bufferAfter}
 use Rattle.tag.proofs.StartCheck.{rows, few-words}

@@ -15,7 +15,7 @@ use Rattle.session.specs.Steps.{Within}
 use Rattle.session.specs.declared.Session.{Session}
 use Rattle.session.proofs.Pattern.{in-phase}
 use Rattle.session.proofs.Counts.{count-bound, positions-bound}
-use Rattle.session.proofs.SoundRecord.{Sound, parts}
+use Rattle.session.proofs.SoundRecord.{parts}
 
 module _ (r : Session) (e : sound r ≡ true) where
   pub few-words : r .count ≤ 64

@@ -4,7 +4,6 @@ use mathlib.Core.Bool.{true}
 use mathlib.Core.List.{List}
 use Prim.Native.Nat.{ℕ, suc, _+_, _*_, _≤_, _<_}
 use lib.Dec.{ltb, eqb}
-use lib.ListN.{length}
 use Rattle.basics.specs.Logic.{if_then_else_, all}
 use Rattle.field.specs.Field.{p}
 use Rattle.tag.specs.Pattern.{lengthOf}

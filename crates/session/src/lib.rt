@@ -4,11 +4,8 @@ mod sponge;
 
 ghost use mathlib.Core.Path.{_≡_};
 ghost use mathlib.Core.Bool.{true, false};
-ghost use Prim.Native.Nat.{_≤_};
-ghost use lib.Dec.{ltb};
 ghost use lib.ListN.{length};
-ghost use Rattle.basics.specs.Logic.{if_then_else_, all};
-ghost use Rattle.field.specs.Field.{p};
+ghost use Rattle.basics.specs.Logic.{if_then_else_};
 ghost use Rattle.session.specs.Calls.{giving, start, inPattern, absorb, squeeze, squeezeBuffer, finish};
 ghost use Rattle.session.specs.Record.{wiped, moved, absorbAll, squeezeAll, squeezedAll};
 ghost use Rattle.session.specs.Soundness.{sound};

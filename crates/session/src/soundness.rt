@@ -5,7 +5,6 @@ ghost use Prim.Native.Nat.{_-_, _≤_};
 ghost use lib.Dec.{leb, ltb, eqb};
 ghost use lib.ListN.{length, getD, take, drop};
 ghost use Rattle.basics.specs.Logic.{if_then_else_, _and_, all};
-ghost use Rattle.basics.specs.Lists.{sum};
 ghost use Rattle.tag.specs.Pattern.{lengthOf, soundWords};
 ghost use Rattle.session.specs.Soundness.{phasePermutations, permutationsAt, inLastBlock, positionsAfter, positionsAt};
 

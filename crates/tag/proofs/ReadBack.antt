@@ -189,7 +189,7 @@ refused-string s n r ws separator e l q =
     absurd (omega arith)
 
 -- an accepted pattern's kinds and lengths are those of its merged words
-phases-read : (ws separator : List ℕ) → startNumber ws separator ≡ accepted → map phaseOf (mergedWords ws) ≡ phases ws
+pub phases-read : (ws separator : List ℕ) → startNumber ws separator ≡ accepted → map phaseOf (mergedWords ws) ≡ phases ws
 unfolding mergedWords
 phases-read ws separator e = phases-of-words (phases ws) (rows ws separator e .e5) .0
 

@@ -4,7 +4,6 @@ use mathlib.Core.Path.{sym}
 use borrow.Author.Tests.{eq-eqb, ne-eqb}
 use Rattle.basics.proofs.Cases.{if-true, if-false}
 use Rattle.session.specs.Steps.{absorbFor}
-use borrow.Author.Needs.{needs}
 use Rattle.session.proofs.sponge.absorb_position_after.Statement.{statement}
 use Rattle.session.proofs.sponge.absorb_position_after.Tie as tie
 

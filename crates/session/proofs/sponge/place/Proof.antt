@@ -2,7 +2,6 @@
 -- Assumes nothing.
 use native.Mathlib.Omega.{arith}
 use Rattle.session.proofs.Elements.{place-remainder}
-use borrow.Author.Needs.{needs}
 use Rattle.session.proofs.sponge.place.Statement.{statement}
 use Rattle.session.proofs.sponge.place.Tie as tie
 

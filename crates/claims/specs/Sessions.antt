@@ -1,0 +1,76 @@
+-- Sessions: records stay sound, counts are those of document 01, calls may be cut, and every session can be finished. `start`, `absorb`,
+-- `squeeze` and `finish` are those that the contracts of `session` cite.
+use mathlib.Core.Path.{_≡_}
+use mathlib.Core.Bool.{true}
+use mathlib.Core.List.{List, _++_}
+use Prim.Native.Nat.{ℕ, _+_}
+use borrow.Author.Tests.{eqb-true, eq-eqb}
+use lib.Dec.{ltb}
+use lib.ListN.{length}
+use Rattle.basics.specs.Logic.{all}
+use Rattle.basics.specs.Numbers.{accepted}
+use Rattle.field.specs.Field.{p}
+use Rattle.tag.specs.Pattern.{phases, mergedWords}
+use Rattle.session.specs.Record.{opened, squeezeAll, squeezedAll}
+use Rattle.session.specs.Soundness.{permutationsAt, sound}
+use Rattle.session.specs.Calls.{start, absorb, squeeze}
+use Rattle.session.specs.declared.Session.{Session}
+use Rattle.runs.specs.Calls.{Call, left, leftBy, absorbed, squeezed}
+use Rattle.runs.specs.Lengths.{absorbLength}
+use Rattle.runs.specs.Runs.{Run, absorbedOf, permutationsOf}
+use Rattle.runs.proofs.SoundCalls.{sound-left}
+use Rattle.runs.proofs.Opened.{start-open, start-sound, sound-run}
+use Rattle.runs.proofs.Counted.{count-run, count-whole}
+use Rattle.runs.proofs.Finishing.{finishable}
+use Rattle.runs.proofs.Forks.{left-by-append, absorbed-append, squeezed-append}
+use Rattle.runs.proofs.Cuts.{absorb-part, absorb-cut, squeeze-part, squeeze-cut, squeezed-all-add}
+
+-- START's record is open and sound.
+pub start-gives-sound : (words separator : List ℕ) → start words separator .number ≡ accepted
+    → (start words separator .session .status ≡ opened) × (sound (start words separator .session) ≡ true)
+start-gives-sound words separator e = (start-open words separator e, start-sound words separator e)
+
+-- Every call, refused or not, leaves an open record sound. (A record that is open and not sound is left as it was.)
+pub calls-leave-sound : (r : Session) (c : Call) → (r .status ≡ opened → sound r ≡ true)
+    → left r c .status ≡ opened → sound (left r c) ≡ true
+calls-leave-sound r c s o = sound-left r c (λ e. s (eqb-true _ _ e)) (eq-eqb _ _ o)
+
+-- So whatever calls are made on START's record, it is sound as long as it is open.
+pub sessions-stay-sound : (words separator : List ℕ) → start words separator .number ≡ accepted → (cs : List Call)
+    → leftBy (start words separator .session) cs .status ≡ opened → sound (leftBy (start words separator .session) cs) ≡ true
+sessions-stay-sound words separator e cs o = sound-run words separator e cs (eq-eqb _ _ o)
+
+-- "Permutations for d elements done in a phase .. Their sum over phases is the count.": at every place that calls lead to.
+pub count-at-every-place : (words separator : List ℕ) → start words separator .number ≡ accepted → (cs : List Call)
+    → let r = leftBy (start words separator .session) cs in
+    r .status ≡ opened → r .permutations ≡ permutationsAt (mergedWords words) (r .phase) (r .done)
+count-at-every-place words separator e cs o = count-run words separator e cs (eq-eqb _ _ o)
+
+-- and of a finished session, whichever calls its list holds
+pub count-of-session : (a : Run) → permutationsOf a ≡ permutationsAt (mergedWords (a .words)) (length (mergedWords (a .words))) 0
+count-of-session = count-whole
+
+-- Every opened session can be finished by some list of calls, whatever elements below p it is to absorb.
+pub every-session-finishes : (words separator xs : List ℕ) → start words separator .number ≡ accepted
+    → length xs ≡ absorbLength (phases words) → all (λ x. ltb x p) xs ≡ true
+    → (a : Run) × (a .words ≡ words) × (a .separator ≡ separator) × (absorbedOf a ≡ xs)
+every-session-finishes = finishable
+
+-- "A copied record is a fork. Each copy goes on by itself." "A fork's list is that of its original up to the copying, then its own calls.":
+-- what the later calls ds do, absorb and squeeze depends on the copied record alone.
+pub copies-are-forks : (r : Session) (cs ds : List Call)
+    → (leftBy r (cs ++ ds) ≡ leftBy (leftBy r cs) ds)
+    × (absorbed r (cs ++ ds) ≡ absorbed r cs ++ absorbed (leftBy r cs) ds)
+    × (squeezed r (cs ++ ds) ≡ squeezed r cs ++ squeezed (leftBy r cs) ds)
+copies-are-forks r cs ds = (left-by-append r cs ds, absorbed-append r cs ds, squeezed-append r cs ds)
+
+-- "they may be cut freely inside it": an accepted ABSORB is its two parts one after the other
+pub absorb-cut-freely : (r : Session) (xs ys : List ℕ) → absorb r (xs ++ ys) .number ≡ accepted
+    → (absorb r xs .number ≡ accepted) × (absorb (absorb r xs .session) ys ≡ absorb r (xs ++ ys))
+absorb-cut-freely r xs ys e = (absorb-part r xs ys e, absorb-cut r xs ys e)
+
+-- and so is an accepted SQUEEZE, with the elements that it writes
+pub squeeze-cut-freely : (r : Session) (n m : ℕ) → squeeze r (n + m) .number ≡ accepted
+    → (squeeze r n .number ≡ accepted) × (squeeze (squeeze r n .session) m ≡ squeeze r (n + m))
+    × (squeezedAll r (n + m) ≡ squeezedAll r n ++ squeezedAll (squeezeAll r n) m)
+squeeze-cut-freely r n m e = (squeeze-part r n m e, squeeze-cut r n m e, squeezed-all-add r n m)

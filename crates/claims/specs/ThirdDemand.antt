@@ -1,0 +1,18 @@
+-- The third demand, as one theorem of every two finished sessions. A `Run` is a session that START opened, with its whole list of calls,
+-- refused ones included, that ends in an accepted FINISH (`runs/specs/Runs.antt`).
+use mathlib.Core.Path.{_≡_}
+use mathlib.Core.Logic.{_↔_}
+use lib.ListN.{length}
+use Rattle.runs.specs.Runs.{Run, tagOf, patternOf, absorbedOf, squeezedOf, blocksOf, permutationsOf}
+use Rattle.runs.proofs.Compared.{demand-3}
+
+-- "Let START open two sessions, with separators of equal length in bytes .. Then for every two such lists the two tag strings are equal
+-- exactly when merged patterns and separators are both equal. Where they are, the two lists of blocks are equal exactly when the same
+-- elements were absorbed in the same order; and where the lists of blocks are equal too, the two sessions squeeze the same elements in the
+-- same order with the same number of permutations, whichever calls their lists hold."
+pub third-demand : (a b : Run) → length (a .separator) ≡ length (b .separator)
+    → ((tagOf a ≡ tagOf b) ↔ ((patternOf a ≡ patternOf b) × (a .separator ≡ b .separator)))
+    × (tagOf a ≡ tagOf b
+    → ((blocksOf a ≡ blocksOf b) ↔ (absorbedOf a ≡ absorbedOf b))
+    × (blocksOf a ≡ blocksOf b → (squeezedOf a ≡ squeezedOf b) × (permutationsOf a ≡ permutationsOf b)))
+third-demand = demand-3

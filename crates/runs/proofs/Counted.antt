@@ -1,0 +1,62 @@
+-- A session counts the permutations that document 01 fixes for its place in the pattern, whatever its calls were.
+-- Assumes nothing.
+use mathlib.Core.Path.{_≡_, refl, ap, ap₂, _∙_}
+use mathlib.Core.Bool.{true}
+use mathlib.Core.List.{List, [], _∷_, _++_}
+use Prim.Native.Nat.{ℕ, zero, suc, _+_, _-_}
+use lib.Dec.{eqb}
+use lib.ListN.{length, getD, replicate}
+use Rattle.basics.specs.Numbers.{accepted}
+use Rattle.basics.proofs.Sums.{sum-same}
+use Rattle.tag.specs.Pattern.{lengthOf, mergedWords}
+use Rattle.session.specs.Record.{opened, openRecord}
+use Rattle.session.specs.Soundness.{phasePermutations, permutationsAt}
+use Rattle.session.specs.Calls.{startRecord, start}
+use Rattle.session.specs.declared.Session.{Session}
+use Rattle.runs.specs.Calls.{Call, leftBy}
+use Rattle.runs.specs.Runs.{Run, opening, permutationsOf}
+use Rattle.session.proofs.SoundRecord.{parts, none-done}
+use Rattle.runs.proofs.Outcomes.{finish-ended}
+use Rattle.runs.proofs.Opened.{start-record, sound-run}
+use Rattle.runs.proofs.SamePattern.{same-left-by}
+
+-- unused words read as words past the end do
+padded-at : (ws : List ℕ) (n k : ℕ) → getD (ws ++ replicate n 0) k 0 ≡ getD ws k 0
+padded-at [] zero k = refl
+padded-at [] (suc n) zero = refl
+padded-at [] (suc n) (suc k) = padded-at [] n k
+padded-at (w ∷ ws) n zero = refl
+padded-at (w ∷ ws) n (suc k) = padded-at ws n k
+
+permutations-padded : (ws : List ℕ) (n phase done : ℕ) → permutationsAt (ws ++ replicate n 0) phase done ≡ permutationsAt ws phase done
+unfolding permutationsAt
+permutations-padded ws n phase done =
+    ap₂ (λ (a b : ℕ). a + b)
+    (sum-same phase _ _ (λ k _. ap (λ (w : ℕ). phasePermutations w (lengthOf w)) (padded-at ws n k)))
+    (ap (λ (w : ℕ). phasePermutations w done) (padded-at ws n phase))
+
+module _ (ws separator : List ℕ) (e : start ws separator .number ≡ accepted) where
+  start-words : start ws separator .session .words ≡ mergedWords ws ++ replicate (64 - length (mergedWords ws)) 0
+  unfolding startRecord openRecord
+  start-words = ap (λ (r : Session). r .words) (start-record ws separator e)
+
+  start-count : start ws separator .session .count ≡ length (mergedWords ws)
+  unfolding startRecord openRecord
+  start-count = ap (λ (r : Session). r .count) (start-record ws separator e)
+
+  pub count-run : (cs : List Call)
+      → let r = leftBy (start ws separator .session) cs in
+      eqb (r .status) opened ≡ true → r .permutations ≡ permutationsAt (mergedWords ws) (r .phase) (r .done)
+  count-run cs o =
+      let r = leftBy (start ws separator .session) cs in
+      parts r (sound-run ws separator e cs o) .counted
+      ∙ ap (λ (vs : List ℕ). permutationsAt vs (r .phase) (r .done)) (same-left-by _ cs o .words ∙ start-words)
+      ∙ permutations-padded (mergedWords ws) (64 - length (mergedWords ws)) (r .phase) (r .done)
+
+pub count-whole : (a : Run) → permutationsOf a ≡ permutationsAt (mergedWords (a .words)) (length (mergedWords (a .words))) 0
+count-whole a =
+    let r = leftBy (opening a) (a .before) in
+    let ends = finish-ended r (a .ends) in
+    let place = ends .ended ∙ same-left-by _ (a .before) (ends .opens) .count ∙ start-count (a .words) (a .separator) (a .opens) in
+    count-run (a .words) (a .separator) (a .opens) (a .before) (ends .opens)
+    ∙ ap₂ (permutationsAt (mergedWords (a .words))) place (none-done r (parts r (ends .sounds)) (ends .ended))

@@ -1,0 +1,17 @@
+pub mod Positions
+pub mod ReadySponge
+pub mod Places
+pub mod Kept
+pub mod Outcomes
+pub mod SoundCalls
+pub mod Opened
+pub mod SamePattern
+pub mod Counted
+pub mod Forks
+pub mod ElementKinds
+pub mod Trace
+pub mod WholePattern
+pub mod BlockLists
+pub mod Compared
+pub mod Finishing
+pub mod Cuts

@@ -1,0 +1,10 @@
+-- How many elements a pattern absorbs.
+use mathlib.Core.List.{List, [], _∷_}
+use Prim.Native.Nat.{ℕ, _+_}
+use Rattle.basics.specs.Logic.{if_then_else_}
+use Rattle.tag.specs.Pattern.{Phase}
+
+-- the sum of the lengths of the ABSORB phases
+unfoldable pub absorbLength : List Phase → ℕ
+absorbLength [] = 0
+absorbLength (a ∷ ps) = (if a .absorbs then a .elements else 0) + absorbLength ps

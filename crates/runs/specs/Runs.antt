@@ -1,0 +1,51 @@
+-- A session with its list of calls, and what the third demand compares of it.
+use mathlib.Core.Path.{_≡_}
+use mathlib.Core.List.{List, [], _∷_, _++_}
+use Prim.Native.Nat.{ℕ}
+use Rattle.basics.specs.Numbers.{accepted}
+use Rattle.tag.specs.Pattern.{Phase, phases}
+use Rattle.tag.specs.TagString.{tagString}
+use Rattle.session.specs.Calls.{start, finish}
+use Rattle.session.specs.declared.Session.{Session}
+use Rattle.runs.specs.Calls.{Call, FINISH, leftBy, absorbed, squeezed}
+use Rattle.runs.specs.Blocks.{blocks}
+
+-- "Let START open two sessions .. and let each have a list of ABSORB, SQUEEZE and FINISH calls, refused ones included, that ends in an
+-- accepted FINISH. A list's first call gets the record that START gave"
+pub record Run : Type 0 where
+  -- what START got
+  pub words : List ℕ
+  pub separator : List ℕ
+  -- the calls before the last, which is FINISH
+  pub before : List Call
+  pub opens : start words separator .number ≡ accepted
+  pub ends : finish (leftBy (start words separator .session) before) .number ≡ accepted
+
+-- the record that START gave
+abbrev pub opening : Run → Session
+opening a = start (a .words) (a .separator) .session
+
+-- the whole list of calls
+abbrev pub callsOf : Run → List Call
+callsOf a = a .before ++ (FINISH ∷ [])
+
+-- "The tag string is made by the rule under Tags from the words and separator that START got."
+abbrev pub tagOf : Run → List ℕ
+tagOf a = tagString (a .words) (a .separator)
+
+-- the merged pattern, as kinds and lengths
+abbrev pub patternOf : Run → List Phase
+patternOf a = phases (a .words)
+
+abbrev pub absorbedOf : Run → List ℕ
+absorbedOf a = absorbed (opening a) (callsOf a)
+
+abbrev pub squeezedOf : Run → List ℕ
+squeezedOf a = squeezed (opening a) (callsOf a)
+
+abbrev pub blocksOf : Run → List (List ℕ)
+blocksOf a = blocks (patternOf a) (absorbedOf a)
+
+-- "The number of permutations is the count in the record that the accepted FINISH gets."
+abbrev pub permutationsOf : Run → ℕ
+permutationsOf a = leftBy (opening a) (a .before) .permutations

@@ -1,0 +1,355 @@
+// Runs the calls of standard input through the library, carries the record from call to call, and prints what each call answers.
+// tests/sessions.py says how lines are laid out; stdin is what it makes, and stdout what another implementation answers to it:
+// `safe_oracle.py`, in Python, written from document 01 by other hands.
+
+ghost use mathlib.Core.Path.{_≡_};
+ghost use Prim.Native.Nat.{_+_, _≤_, _<_};
+ghost use lib.ListN.{length};
+
+// The bytes that a field of hexadecimal digits writes, how many, and the place behind the field.
+struct Field {
+    bytes: [u8; 1024],
+    count: usize,
+    next: usize,
+}
+
+// The record that a line leaves, and the place behind the line.
+struct Step {
+    record: session::Session,
+    next: usize,
+}
+
+fn digit(byte: u8) -> u8
+    ensures { λ r. ⌜ r < 16 ⌝ }
+{
+    if byte < 58 {
+        return byte % 16;
+    }
+    (byte % 16 + 9) % 16
+}
+
+// The byte that two digits at a place write, and 0 behind the text.
+fn byte_at(text: &[u8], at: usize) -> u8
+    requires { ⌜ at ≤ 1070000 ⌝ }
+{
+    if text.len() < at + 2 {
+        return 0;
+    }
+    digit(text[at]) * 16 + digit(text[at + 1])
+}
+
+// How many pairs of digits stand at a place, at most 1024. A byte below the digits, as a space or a newline, ends them.
+fn pairs(text: &[u8], at: usize) -> usize
+    requires { ⌜ at ≤ 1060000 ⌝ }
+    ensures { λ r. ⌜ r ≤ 1024 ⌝ }
+{
+    let mut count: usize = 0;
+    while count < 1024 {
+        let from = at + 2 * count;
+        if text.len() < from + 2 {
+            return count;
+        }
+        if text[from] < 48 {
+            return count;
+        }
+        count += 1;
+    }
+    count
+}
+
+fn field_at(text: &[u8], at: usize) -> Field
+    requires { ⌜ at ≤ 1060000 ⌝ }
+    ensures { λ r. ⌜ (r .count ≤ length (r .bytes)) × (length (r .bytes) ≡ 1024) × (at < r .next) × (r .next ≤ at + 2049) ⌝ }
+{
+    let count = pairs(text, at);
+    let mut bytes = [0u8; 1024];
+    for i in 0..count {
+        bytes[i] = byte_at(text, at + 2 * i);
+    }
+    Field {
+        bytes,
+        count,
+        next: at + 2 * count + 1,
+    }
+}
+
+fn word(b0: u8, b1: u8, b2: u8, b3: u8) -> u32 {
+    b0 as u32 * 0x100_0000 + b1 as u32 * 0x1_0000 + b2 as u32 * 0x100 + b3 as u32
+}
+
+fn words_of(bytes: &[u8; 1024]) -> [u32; 256] {
+    let mut words = [0u32; 256];
+    for i in 0..256 {
+        words[i] = word(
+            bytes[4 * i],
+            bytes[4 * i + 1],
+            bytes[4 * i + 2],
+            bytes[4 * i + 3],
+        );
+    }
+    words
+}
+
+fn joined(high: u32, low: u32) -> u64 {
+    high as u64 * 0x1_0000_0000 + low as u64
+}
+
+fn state_in(list: &[u32; 256]) -> [u32; 24] {
+    let mut state = [0u32; 24];
+    for i in 0..24 {
+        state[i] = list[i];
+    }
+    state
+}
+
+fn pattern_in(list: &[u32; 256]) -> [u32; 64] {
+    let mut words = [0u32; 64];
+    for i in 0..64 {
+        words[i] = list[i];
+    }
+    words
+}
+
+// The record that three lists write: its numbers, its state and its words.
+fn record_in(numbers: &[u32; 256], state: &[u32; 256], words: &[u32; 256]) -> session::Session {
+    session::Session {
+        status: numbers[0],
+        state: state_in(state),
+        words: pattern_in(words),
+        count: numbers[1],
+        phase: numbers[2],
+        done: numbers[3],
+        absorb_position: numbers[4],
+        squeeze_position: numbers[5],
+        permutations: joined(numbers[6], numbers[7]),
+    }
+}
+
+// The lists that write a record.
+fn numbers_of(record: session::Session) -> [u32; 256] {
+    let mut list = [0u32; 256];
+    list[0] = record.status;
+    list[1] = record.count;
+    list[2] = record.phase;
+    list[3] = record.done;
+    list[4] = record.absorb_position;
+    list[5] = record.squeeze_position;
+    list[6] = (record.permutations / 0x1_0000_0000) as u32;
+    list[7] = (record.permutations % 0x1_0000_0000) as u32;
+    list
+}
+
+fn state_of(record: session::Session) -> [u32; 256] {
+    let state = record.state;
+    let mut list = [0u32; 256];
+    for i in 0..24 {
+        list[i] = state[i];
+    }
+    list
+}
+
+fn pattern_of(record: session::Session) -> [u32; 256] {
+    let words = record.words;
+    let mut list = [0u32; 256];
+    for i in 0..64 {
+        list[i] = words[i];
+    }
+    list
+}
+
+fn same(a: &[u32; 256], b: &[u32; 256]) -> bool {
+    for i in 0..256 {
+        if a[i] != b[i] {
+            return false;
+        }
+    }
+    true
+}
+
+// How many words a list has up to its last one that is not 0.
+fn used(list: &[u32; 256]) -> usize {
+    let mut count: usize = 0;
+    for i in 0..256 {
+        if list[i] != 0 {
+            count = i + 1;
+        }
+    }
+    count
+}
+
+fn print_word(word: u32) {
+    io::print_hex(1, word as u64, 8);
+}
+
+// The first words of a list.
+fn print_first(list: &[u32; 256], count: usize) {
+    for i in 0..256 {
+        if i < count {
+            print_word(list[i]);
+        }
+    }
+}
+
+// A list without the zeros at its end. One that is as it was is a sign only, which keeps the output short.
+fn print_part(old: &[u32; 256], new: &[u32; 256]) {
+    if same(old, new) {
+        io::write_all(1, b" =");
+        return;
+    }
+    io::write_all(1, b" ");
+    print_first(new, used(new));
+}
+
+fn print_record(old: session::Session, new: session::Session) {
+    print_part(&numbers_of(old), &numbers_of(new));
+    print_part(&state_of(old), &state_of(new));
+    print_part(&pattern_of(old), &pattern_of(new));
+}
+
+fn print_answer(old: session::Session, answer: session::Answer) {
+    io::write_all(1, b" ");
+    io::print_decimal(1, answer.number as u64);
+    print_record(old, answer.session);
+}
+
+fn start_line(text: &[u8], at: usize, record: session::Session) -> Step
+    requires { ⌜ at ≤ 1048578 ⌝ }
+    ensures { λ r. ⌜ at < r .next ⌝ }
+{
+    let first = field_at(text, at);
+    let second = field_at(text, first.next);
+    let words = words_of(&first.bytes);
+    let count = first.count / 4;
+    let separator = second.bytes;
+    let length = second.count;
+    let answer = session::Session::start(&words[..count], &separator[..length]);
+    print_answer(record, answer);
+    let left = answer.session;
+    Step {
+        record: left,
+        next: second.next,
+    }
+}
+
+fn absorb_line(text: &[u8], at: usize, record: session::Session) -> Step
+    requires { ⌜ at ≤ 1048578 ⌝ }
+    ensures { λ r. ⌜ at < r .next ⌝ }
+{
+    let field = field_at(text, at);
+    let elements = words_of(&field.bytes);
+    let count = field.count / 4;
+    let answer = record.absorb_step(&elements[..count]);
+    print_answer(record, answer);
+    let left = answer.session;
+    Step {
+        record: left,
+        next: field.next,
+    }
+}
+
+fn squeeze_line(text: &[u8], at: usize, record: session::Session) -> Step
+    requires { ⌜ at ≤ 1048578 ⌝ }
+    ensures { λ r. ⌜ at < r .next ⌝ }
+{
+    let field = field_at(text, at);
+    let mut buffer = words_of(&field.bytes);
+    let count = field.count / 4;
+    let answer = record.squeeze_step(&mut buffer[..count]);
+    print_answer(record, answer);
+    io::write_all(1, b" ");
+    print_first(&buffer, count);
+    let left = answer.session;
+    Step {
+        record: left,
+        next: field.next,
+    }
+}
+
+fn finish_line(at: usize, record: session::Session) -> Step
+    requires { ⌜ at ≤ 1048578 ⌝ }
+    ensures { λ r. ⌜ at < r .next ⌝ }
+{
+    let answer = record.finish_step();
+    print_answer(record, answer);
+    let left = answer.session;
+    Step {
+        record: left,
+        next: at + 1,
+    }
+}
+
+// The record that a line writes.
+fn record_at(text: &[u8], at: usize) -> Step
+    requires { ⌜ at ≤ 1048578 ⌝ }
+    ensures { λ r. ⌜ at < r .next ⌝ }
+{
+    let first = field_at(text, at);
+    let second = field_at(text, first.next);
+    let third = field_at(text, second.next);
+    let numbers = words_of(&first.bytes);
+    let state = words_of(&second.bytes);
+    let words = words_of(&third.bytes);
+    Step {
+        record: record_in(&numbers, &state, &words),
+        next: third.next,
+    }
+}
+
+fn record_line(text: &[u8], at: usize, record: session::Session) -> Step
+    requires { ⌜ at ≤ 1048578 ⌝ }
+    ensures { λ r. ⌜ at < r .next ⌝ }
+{
+    let step = record_at(text, at);
+    print_record(record, step.record);
+    step
+}
+
+fn run_line(text: &[u8], at: usize, record: session::Session) -> Step
+    requires { ⌜ at < length (now text) ⌝ }
+    requires { ⌜ length (now text) ≤ 1048576 ⌝ }
+    ensures { λ r. ⌜ at < r .next ⌝ }
+{
+    let kind = text[at];
+    io::write_all(1, &text[at..at + 1]);
+    if kind == b's' {
+        return start_line(text, at + 2, record);
+    }
+    if kind == b'a' {
+        return absorb_line(text, at + 2, record);
+    }
+    if kind == b'q' {
+        return squeeze_line(text, at + 2, record);
+    }
+    if kind == b'f' {
+        return finish_line(at + 1, record);
+    }
+    record_line(text, at + 2, record)
+}
+
+fn run_lines(text: &[u8])
+    requires { ⌜ length (now text) ≤ 1048576 ⌝ }
+{
+    let nothing = [0u32; 256];
+    let mut record = record_in(&nothing, &nothing, &nothing);
+    let mut at: usize = 0;
+    while at < text.len() {
+        let step = run_line(text, at, record);
+        let left = step.record;
+        record = left;
+        at = step.next;
+        io::write_all(1, b"\n");
+    }
+}
+
+// Zeros, for all of standard input. The contract gives only the length, which lending the array needs.
+fn input_buffer() -> [u8; 1048576]
+    ensures { λ r. ⌜ 1048576 ≡ length r ⌝ }
+{
+    [0; 1048576]
+}
+
+fn main() {
+    let mut text = input_buffer();
+    let size = io::read_full(0, &mut text);
+    run_lines(&text[..size]);
+}

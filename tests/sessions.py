@@ -1,0 +1,408 @@
+#!/usr/bin/env python3
+"""What the program session_vectors is run on, and what it must print.
+
+  tests/sessions.py cases safe_oracle.py > crates/session_vectors/stdin
+  tests/sessions.py answers safe_oracle.py < crates/session_vectors/stdin > crates/session_vectors/stdout
+
+The answers are those of another implementation: safe_oracle.py, in Python, written from document 01 by other hands. The first
+sessions are those of its own generator, `safe_oracle.py sessions 1 200`; the others are made here.
+A line of input is a call on the record that the line before left; lists are hexadecimal:
+
+  s WORDS SEPARATOR    START
+  a ELEMENTS           ABSORB
+  q BUFFER             SQUEEZE into a buffer with these contents
+  f                    FINISH
+  t RECORD             the record is replaced by this one, and nothing is called
+
+A line of output is what the call answers:
+
+  s NUMBER RECORD
+  a NUMBER RECORD
+  q NUMBER RECORD BUFFER
+  f NUMBER RECORD
+  t RECORD
+
+A record is three lists: its numbers, the 24 state elements and the 64 pattern words. The numbers are status, word count, phase
+number, elements done, absorb and squeeze position, and permutations (two words, the high one first). Zeros at the end of each of the
+three are left out. In the output, `=` stands for a list that is in every word as the line before left it.
+"""
+import importlib.util
+import random
+import sys
+
+SEED, COUNT = 1, 200
+P = 2013265921
+ABSORB = 1 << 31
+LONGEST = ABSORB - 1
+LARGEST = (1 << 32) - 1
+NUMBERS = ("status", "count", "phase", "done", "absorb_at", "squeeze_at")
+# merged: ABSORB 12, SQUEEZE 10, ABSORB 8, SQUEEZE 3
+PATTERN = [ABSORB + 9, ABSORB + 3, 10, ABSORB + 8, 1, 2]
+random = random.Random(31)
+
+
+def hexadecimal(words):
+    return "".join("%08x" % w for w in words)
+
+
+def numbers(digits):
+    return [int(digits[k:k + 8], 16) for k in range(0, len(digits), 8)]
+
+
+def parts(record):
+    """The three lists that write a record."""
+    def without_zeros(words):
+        return hexadecimal(words[:max((k + 1 for k, w in enumerate(words) if w), default=0)])
+    high, low = divmod(record["permutations"], 1 << 32)
+    return [without_zeros(words) for words in ([record[k] for k in NUMBERS] + [high, low], record["state"], record["words"])]
+
+
+def record_of(fields):
+    lists, state, words = ((numbers(field) + [0] * 64)[:size] for field, size in zip(fields, (8, 24, 64)))
+    return dict(zip(NUMBERS, lists), permutations=(lists[6] << 32) + lists[7], state=state, words=words)
+
+
+def answer(oracle, record, kind, *fields):
+    """The number, the record and, of a SQUEEZE, the buffer that a line's call leaves."""
+    if kind == "s":
+        return oracle.start(numbers(fields[0]), bytes.fromhex(fields[1]))
+    if kind == "a":
+        return oracle.absorb(record, numbers(fields[0]))
+    if kind == "q":
+        return oracle.squeeze(record, numbers(fields[0]))
+    return oracle.finish(record)
+
+
+class Calls:
+    """Prints calls, and keeps the record that they leave, which later ones are made from."""
+
+    def __init__(self, oracle):
+        self.oracle = oracle
+        self.record = oracle.wiped()
+
+    def call(self, kind, *fields):
+        print(kind, *fields)
+        self.record = answer(self.oracle, self.record, kind, *fields)[1]
+
+    def start(self, words, separator=b""):
+        self.call("s", hexadecimal(words), separator.hex())
+
+    def absorb(self, elements):
+        self.call("a", hexadecimal(elements))
+
+    def squeeze(self, buffer):
+        self.call("q", hexadecimal(buffer))
+
+    def finish(self):
+        self.call("f")
+
+    def put(self, record):
+        print("t", *parts(record))
+        self.record = record
+
+    def step(self, kind, size):
+        """A good call of so many elements, of the kind of a word."""
+        if kind >= ABSORB:
+            self.absorb(elements(size))
+        else:
+            self.squeeze(buffer(size))
+
+    def follow(self, cut=lambda length: [length]):
+        """The rest of the pattern, with each phase cut into calls, and FINISH."""
+        while self.record["phase"] < self.record["count"]:
+            word = self.record["words"][self.record["phase"]]
+            for size in cut(word % ABSORB - self.record["done"]):
+                self.step(word, size)
+        self.finish()
+
+    def reach(self, words, phase, done):
+        """A session up to a place."""
+        self.start(words)
+        for word in self.record["words"][:phase]:
+            self.step(word, word % ABSORB)
+        if done:
+            self.step(self.record["words"][phase], done)
+
+    def placed(self, record, phase, done):
+        """The record at another place, with the count and the positions that the rule gives there."""
+        count, absorb_at, squeeze_at = self.oracle.place(record["words"] + [0], phase, done)
+        return dict(record, phase=phase, done=done, permutations=count, absorb_at=absorb_at, squeeze_at=squeeze_at)
+
+    def each(self, record):
+        """Each of the three calls on a record. It is put again only where a call changed it."""
+        for call in (lambda: self.absorb([1]), lambda: self.squeeze(buffer(1)), self.finish):
+            if self.record != record:
+                self.put(record)
+            call()
+
+
+def elements(size):
+    return [random.choice([0, 1, P - 1, random.randrange(P)]) for _ in range(size)]
+
+
+def buffer(size):
+    """Contents that no SQUEEZE is likely to leave there, some of p or more."""
+    return [random.randrange(1, 1 << 32) for _ in range(size)]
+
+
+def separator(length):
+    return bytes(random.randrange(256) for _ in range(length))
+
+
+def generated(calls):
+    """The sessions of the other implementation's generator."""
+    letters = dict(absorb="a", squeeze="q")
+    for trace in calls.oracle.sessions(SEED, COUNT):
+        print("s", hexadecimal(trace["words"]), trace["separator"])
+        for call in trace["calls"]:
+            if call["call"] == "tamper":
+                print("t", *parts(call["record"]))
+            elif call["call"] == "finish":
+                print("f")
+            else:
+                print(letters[call["call"]], hexadecimal(call["lent"]))
+
+
+def document_examples(calls):
+    """Document 01's examples of numbers 1 to 11, each with a call behind it that tells a wiped record from one that is left."""
+    for words, length in (([], 0), ([ABSORB + 3, 0], 0), ([1], 0), ([ABSORB + 1], 0), ([LARGEST, ABSORB + 1, 1], 0),
+                          ([ABSORB + 1, 1], 257)):
+        calls.start(words, separator(length))
+        calls.absorb([1])
+    # 7: after FINISH
+    calls.start([ABSORB + 1, 1])
+    calls.follow()
+    calls.each(calls.record)
+    # 8: absorb position 9
+    calls.start([ABSORB + 1, 1])
+    good = calls.record
+    calls.each(dict(good, absorb_at=9))
+    # 9: SQUEEZE 1 straight after START
+    calls.put(good)
+    calls.squeeze(buffer(1))
+    calls.absorb([1])
+    # 10: ABSORB 2013265921
+    calls.put(good)
+    calls.absorb([P])
+    calls.follow()
+    # 11: START, FINISH
+    calls.put(good)
+    calls.finish()
+    calls.absorb([1])
+
+
+def large_elements(calls):
+    """Elements around p at each end of a list and inside it, each followed by the good call."""
+    for large in (P - 1, P, P + 1, ABSORB, LARGEST):
+        for place in (0, 4, 8):
+            calls.start([ABSORB + 12, 2])
+            calls.absorb(elements(3))
+            list_ = elements(9)
+            list_[place] = large
+            calls.absorb(list_)
+            calls.follow()
+    calls.start([ABSORB + 12, 2])
+    calls.absorb([P - 1] * 12)
+    calls.follow()
+
+
+def samples(calls):
+    """B1 and B3 to B7, in one call to a phase, and cut."""
+    def by(size):
+        return lambda length: [size] * (length // size) + [length % size]
+    cuts = [lambda length: [length], lambda length: [1, length - 1], lambda length: [length - 1, 1], by(1), by(3), by(8)]
+    calls.start([ABSORB + 3, ABSORB + 3, 3], b"AB")
+    calls.follow()
+    calls.start([0xfffffffe, ABSORB + 1, 1])
+    for lengths in ((8, 1), (9, 1), (1, 9), (8, 8, 1, 1)):
+        for cut in cuts:
+            calls.start([length + (0 if k % 2 else ABSORB) for k, length in enumerate(lengths)])
+            calls.follow(cut)
+
+
+def shapes(calls):
+    """Many words, merged words, long calls, and separators."""
+    calls.start([ABSORB + 1, 2] * 32, separator(256))
+    calls.follow()
+    calls.start([ABSORB + 9] * 32 + [9] * 32)
+    calls.absorb(elements(200))
+    calls.absorb(elements(88))
+    calls.squeeze(buffer(256))
+    calls.follow()
+    for length in (0, 1, 255, 256, 257):
+        calls.start([ABSORB + 2, 2], separator(length))
+        calls.absorb(elements(2))
+        calls.squeeze(buffer(2))
+        calls.finish()
+
+
+def long_phases(calls):
+    """Records near the end of a phase of 2147483647 elements: a call up to its end, one past it, and a wrong count."""
+    for words in ([ABSORB + LONGEST, LONGEST, ABSORB + LONGEST - 1, 1, LONGEST - 1], [ABSORB + LONGEST, LONGEST] * 32):
+        calls.start(words)
+        opened = calls.record
+        for phase in sorted({0, 1, 2, opened["count"] - 1}):
+            for left in (1, 9):
+                done = opened["words"][phase] % ABSORB - left
+                record = dict(calls.placed(opened, phase, done), state=[random.randrange(P) for _ in range(24)])
+                calls.put(record)
+                calls.step(opened["words"][phase], left + 1)
+                calls.put(dict(record, permutations=record["permutations"] ^ 1 << 31))
+                calls.step(opened["words"][phase], left)
+                calls.put(record)
+                calls.step(opened["words"][phase], left)
+                calls.finish()
+
+
+def changes(record):
+    """What is changed of a good record: one thing at a time, but for a closed record that is not sound either."""
+    count, phase, words, state, permutations = (record[k] for k in ("count", "phase", "words", "state", "permutations"))
+    for field in NUMBERS + ("permutations",):
+        for value in (record[field] + 1, record[field] - 1, 0, LARGEST):
+            yield {field: value % (1 << (64 if field == "permutations" else 32))}
+    yield dict(status=2, absorb_at=9)
+    for number in (1, 3, 65, 66):
+        yield dict(count=number)
+    for number in (0, 1, 2, 3):
+        yield dict(count=number, words=words[:number] + [0] * (64 - number))
+    yield dict(phase=count + 1)
+    yield dict(phase=64)
+    for done in (words[phase] % ABSORB, words[phase] % ABSORB + 1, 8):
+        yield dict(done=done)
+    yield dict(permutations=permutations ^ 1 << 31)
+    yield dict(permutations=permutations + (1 << 32))
+    yield dict(permutations=permutations ^ 1 << 63)
+
+    def at(list_, k, value):
+        return list_[:k] + [value] + list_[k + 1:]
+    for k, value in ((count, 1), (count, ABSORB + 1), (63, 1), (0, words[0] - ABSORB), (1, words[1] + ABSORB), (0, ABSORB), (3, 0),
+                     (0, words[0] + 1), (0, words[0] + 8), (1, words[1] - 1), (3, words[3] + 1), (3, LONGEST)):
+        yield dict(words=at(words, k, value))
+    for k, value in ((0, P - 1), (0, P), (7, LARGEST), (8, P), (23, P - 1), (23, P), (23, LARGEST)):
+        yield dict(state=at(state, k, value))
+
+
+def changed_records(calls):
+    """Each of the three calls on each changed record."""
+    for phase, done in ((0, 0), (0, 5), (1, 0), (1, 8), (2, 3), (4, 0)):
+        calls.reach(PATTERN, phase, done)
+        good = calls.record
+        for fields in changes(good):
+            record = dict(good, **fields)
+            if record != good:
+                calls.each(record)
+
+
+def other_places(calls):
+    """Every place of a pattern, and places that it has not, in records that are right but for that."""
+    calls.start(PATTERN)
+    opened = dict(calls.record, state=[random.randrange(P) for _ in range(24)])
+    count = opened["count"]
+    for phase, word in enumerate(opened["words"][:count]):
+        length = word % ABSORB
+        for done in range(length):
+            calls.put(calls.placed(opened, phase, done))
+            calls.step(word, length - done)
+        for done in (length, length + 1, length + 8):
+            calls.each(calls.placed(opened, phase, done))
+    for phase, done in ((count, 1), (count, 8), (count + 1, 0), (count + 1, 1)):
+        calls.each(calls.placed(opened, phase, done))
+        calls.each(dict(calls.placed(opened, phase, done), squeeze_at=8))
+
+
+def changed_counts(calls):
+    """A pattern of 64 words, which leaves none unused, with other counts."""
+    calls.reach([ABSORB + 1, 1] * 32, 1, 0)
+    good = calls.record
+    for count in (0, 2, 62, 63, 65, 66, 128, LARGEST):
+        calls.put(dict(good, count=count))
+        calls.squeeze(buffer(1))
+        calls.put(dict(good, count=count, phase=count))
+        calls.finish()
+    calls.put(good)
+    calls.follow()
+
+
+def empty_calls(calls):
+    """Calls of length 0 on open, closed and unsound records, at the start, inside a phase, between two and after the last."""
+    for phase, done in ((0, 0), (0, 8), (1, 0), (1, 3), (2, 0), (2, 7), (3, 2), (4, 0)):
+        calls.reach(PATTERN, phase, done)
+        good = calls.record
+        for fields in (dict(), dict(status=2), dict(absorb_at=9)):
+            if fields:
+                calls.put(dict(good, **fields))
+            calls.absorb([])
+            calls.squeeze([])
+        calls.put(good)
+        calls.follow()
+        calls.absorb([])
+        calls.squeeze([])
+
+
+def out_of_pattern(calls):
+    """Calls of the wrong kind, past a phase's end and after the last phase, then one that tells what is left."""
+    merged = [ABSORB + 3, ABSORB + 3, 3, 3]
+    for phase, done in ((0, 0), (0, 4), (0, 5), (1, 0), (1, 4), (1, 5), (2, 0)):
+        calls.reach(merged, phase, done)
+        good = calls.record
+        # sizes that fit a declared word, the merged word, what is left of it, and none
+        for size in (1, 2, 3, 4, 6, 7):
+            for call, lent in ((calls.absorb, elements(size)), (calls.squeeze, buffer(size))):
+                calls.put(good)
+                call(lent)
+                calls.finish()
+        # an element of p or more in a call that is out of pattern too, or on a closed or an unsound record
+        calls.put(good)
+        calls.absorb([P] * 7)
+        calls.absorb([P])
+        calls.put(dict(good, permutations=9))
+        calls.absorb([P])
+    # a call that reaches over the phase between
+    calls.start([ABSORB + 2, 1, ABSORB + 2, 1])
+    calls.absorb(elements(4))
+    # FINISH between phases, inside one and with one element missing
+    for phase, done in ((0, 11), (1, 0), (1, 9), (2, 0), (3, 0), (3, 2)):
+        calls.reach(PATTERN, phase, done)
+        calls.finish()
+        calls.squeeze(buffer(1))
+
+
+def forks(calls):
+    """A copied record goes on by itself."""
+    calls.reach(PATTERN, 2, 3)
+    copy = calls.record
+    calls.absorb([1] * 5)
+    calls.follow()
+    for last in (1, 2):
+        calls.put(copy)
+        calls.absorb([1] * 4 + [last])
+        calls.follow()
+
+
+def cases(oracle):
+    calls = Calls(oracle)
+    for part in (generated, document_examples, large_elements, samples, shapes, long_phases, changed_records, other_places,
+                 changed_counts, empty_calls, out_of_pattern, forks):
+        part(calls)
+
+
+def answers(oracle):
+    record = oracle.wiped()
+    for line in sys.stdin:
+        kind, *fields = line.rstrip("\n").split(" ")
+        before = parts(record)
+        if kind == "t":
+            head, record, left = [], record_of(fields), []
+        else:
+            number, record, *left = answer(oracle, record, kind, *fields)
+            head = [number]
+        print(kind, *head, *("=" if new == old else new for old, new in zip(before, parts(record))), *map(hexadecimal, left))
+
+
+if len(sys.argv) == 3 and sys.argv[1] in ("cases", "answers"):
+    spec = importlib.util.spec_from_file_location("oracle", sys.argv[2])
+    oracle = importlib.util.module_from_spec(spec)
+    spec.loader.exec_module(oracle)
+    (cases if sys.argv[1] == "cases" else answers)(oracle)
+else:
+    sys.exit(__doc__)
