@@ -1,5 +1,5 @@
 -- Document 01's proved samples, as a single list that one computed test covers.
-use mathlib.Core.Path.{_≡_, refl}
+use mathlib.Core.Path.{_≡_, refl, _∙_}
 use mathlib.Core.Bool.{Bool, true, false}
 use mathlib.Core.List.{List, [], _∷_, _++_}
 use Prim.Native.Nat.{ℕ, _-_}
@@ -10,9 +10,6 @@ use Rattle.basics.specs.Lists.{tabulate, sum}
 use Rattle.basics.specs.Digits.{digits, number, numberAfter}
 use Rattle.basics.specs.Numbers.{accepted}
 use Rattle.field.specs.Field.{p}
-use Rattle.keccak.specs.Sponge as hash
-use Rattle.keccak.specs.Permutation as keccak
-use Rattle.keccak.specs.Tables.{offsets, roundConstants}
 use Rattle.poseidon.specs.Tables.{constants, inverses}
 use Rattle.poseidon.specs.Permutation.{addConstants, raiseAll, raiseFirst, raise, matrix, multiply, rounds, permutation, babyBear}
 use Rattle.tag.specs.Pattern.{isAbsorb, lengthOf, phaseOf, wordOf, join, merge, phases, mergedWords, alternate, soundWords}
@@ -23,8 +20,11 @@ use Rattle.session.specs.Sponge.{permute, tagState, readyToAbsorb, absorbElemen
 use Rattle.session.specs.Record.{wiped, openRecord, spongeOf, moved, phaseWord, lastElement, nextPhase, nextDone}
 use Rattle.session.specs.Record.{absorbOne, squeezeOne, squeezedOne, absorbAll, squeezeAll}
 use Rattle.session.specs.Soundness.{blockCount, phasePermutations, permutationsAt, inLastBlock, positionsAfter, positionsAt, sound}
-use Rattle.session.specs.Calls.{giving, startRecord, start, inPattern, absorb, squeeze, finish}
+use Rattle.session.specs.Calls.{giving, inPattern, absorb, squeeze, finish}
+use Rattle.session.specs.declared.Session.{Session}
 use Rattle.runs.specs.Calls.{Call, ABSORB, SQUEEZE, answered, left, leftBy}
+use Rattle.sample_records.specs.SampleRecords.{words4, words5, words6, words7, opening, record4, record5, record6, record7}
+use Rattle.sample_records.specs.SampleRecords.{opening4, opening5, opening6, opening7}
 
 -- two lists are equal
 sameList : List ℕ → List ℕ → Bool
@@ -59,40 +59,27 @@ b3 =
 byFormula : List ℕ → ℕ
 byFormula ws = permutationsAt (mergedWords ws) (length (mergedWords ws)) 0
 
--- the permutations counted by START and calls, and that FINISH then accepts
-byCalls : List ℕ → List Call → List ℕ
-byCalls ws cs =
-    let r = leftBy (start ws [] .session) cs in
-    r .permutations ∷ finish r .number ∷ []
+-- the permutations that calls on a record count, and what FINISH answers then
+byCalls : Session → List Call → List ℕ
+byCalls r cs = let t = leftBy r cs in t .permutations ∷ finish t .number ∷ []
 
--- "B4 ABSORB 8, SQUEEZE 1: 1 permutation."
-b4 : List Bool
-b4 =
-    eqb (byFormula (0x80000008 ∷ 1 ∷ [])) 1
-    ∷ sameList (byCalls (0x80000008 ∷ 1 ∷ []) (ABSORB (replicate 8 5) ∷ SQUEEZE 1 ∷ [])) (1 ∷ accepted ∷ [])
-    ∷ []
+-- "B4 ABSORB 8, SQUEEZE 1: 1 permutation.", by the formula, and by running the calls on the record that START gives
+b4 : Session → List Bool
+b4 r = eqb (byFormula words4) 1 ∷ sameList (byCalls r (ABSORB (replicate 8 5) ∷ SQUEEZE 1 ∷ [])) (1 ∷ accepted ∷ []) ∷ []
 
 -- "B5 9 and 1: 2."
-b5 : List Bool
-b5 =
-    eqb (byFormula (0x80000009 ∷ 1 ∷ [])) 2
-    ∷ sameList (byCalls (0x80000009 ∷ 1 ∷ []) (ABSORB (replicate 9 5) ∷ SQUEEZE 1 ∷ [])) (2 ∷ accepted ∷ [])
-    ∷ []
+b5 : Session → List Bool
+b5 r = eqb (byFormula words5) 2 ∷ sameList (byCalls r (ABSORB (replicate 9 5) ∷ SQUEEZE 1 ∷ [])) (2 ∷ accepted ∷ []) ∷ []
 
 -- "B6 1 and 9: 2."
-b6 : List Bool
-b6 =
-    eqb (byFormula (0x80000001 ∷ 9 ∷ [])) 2
-    ∷ sameList (byCalls (0x80000001 ∷ 9 ∷ []) (ABSORB (5 ∷ []) ∷ SQUEEZE 9 ∷ [])) (2 ∷ accepted ∷ [])
-    ∷ []
+b6 : Session → List Bool
+b6 r = eqb (byFormula words6) 2 ∷ sameList (byCalls r (ABSORB (5 ∷ []) ∷ SQUEEZE 9 ∷ [])) (2 ∷ accepted ∷ []) ∷ []
 
 -- "B7 8, 8, 1, 1, kinds alternating: 2."
-b7 : List Bool
-b7 =
-    eqb (byFormula (0x80000008 ∷ 8 ∷ 0x80000001 ∷ 1 ∷ [])) 2
-    ∷ sameList
-    (byCalls (0x80000008 ∷ 8 ∷ 0x80000001 ∷ 1 ∷ []) (ABSORB (replicate 8 5) ∷ SQUEEZE 8 ∷ ABSORB (5 ∷ []) ∷ SQUEEZE 1 ∷ []))
-    (2 ∷ accepted ∷ [])
+b7 : Session → List Bool
+b7 r =
+    eqb (byFormula words7) 2
+    ∷ sameList (byCalls r (ABSORB (replicate 8 5) ∷ SQUEEZE 8 ∷ ABSORB (5 ∷ []) ∷ SQUEEZE 1 ∷ [])) (2 ∷ accepted ∷ [])
     ∷ []
 
 -- "B8 inverse of 24: 1929379841; of 32: 1950351361." They stand in row 0 of the matrix, in columns 0 and 8.
@@ -111,20 +98,25 @@ b9 = eqb (raised 2) 128 ∷ eqb (raised (p - 1)) (p - 1) ∷ []
 b10 : List Bool
 b10 = sameList (tagElements (replicate 32 0xff)) (replicate 8 1073741823) ∷ []
 
-pub samples : List Bool
-samples = b1 ++ b2 ++ b3 ++ b4 ++ b5 ++ b6 ++ b7 ++ b8 ++ b9 ++ b10
+-- the samples, with the records of B4 to B7
+samplesWith : Session → Session → Session → Session → List Bool
+samplesWith r4 r5 r6 r7 = b1 ++ b2 ++ b3 ++ b4 r4 ++ b5 r5 ++ b6 r6 ++ b7 r7 ++ b8 ++ b9 ++ b10
 
-pub samples-hold : all (λ sample. sample) samples ≡ true
-unfolding samples b1 b2 b3 b4 b5 b6 b7 b8 b9 b10 sameList byFormula byCalls raised
+pub samples : List Bool
+samples = samplesWith (opening words4) (opening words5) (opening words6) (opening words7)
+
+computed : all (λ sample. sample) (samplesWith record4 record5 record6 record7) ≡ true
+unfolding samplesWith b1 b2 b3 b4 b5 b6 b7 b8 b9 b10 sameList byFormula byCalls raised
+    record4 record5 record6 record7 words4 words5 words6 words7 alternate soundWords
     all any _and_ _or_ if_then_else_ same tabulate sum digits number numberAfter
-    isAbsorb lengthOf phaseOf wordOf join merge phases mergedWords alternate soundWords
-    tooLong startNumber wordBytes tagString wordAt tagElements
+    isAbsorb lengthOf phaseOf wordOf join merge phases mergedWords tooLong startNumber wordBytes tagString wordAt tagElements
     constants inverses addConstants raiseAll raiseFirst raise matrix multiply rounds permutation babyBear
-    hash.bytes hash.pad10*1 hash.padded hash.laneAt hash.addBlock hash.absorb hash.byteOf hash.squeeze hash.sha3
-    keccak.state keccak.rotate keccak.parity keccak.effect keccak.theta keccak.rho keccak.pi keccak.chi keccak.iota
-    keccak.round keccak.rounds keccak.permutation offsets roundConstants
     permute tagState readyToAbsorb absorbElement readyToSqueeze squeezedElement squeezeElement
     wiped openRecord spongeOf moved phaseWord lastElement nextPhase nextDone absorbOne squeezeOne squeezedOne absorbAll squeezeAll
     blockCount phasePermutations permutationsAt inLastBlock positionsAfter positionsAt sound
-    giving startRecord start inPattern absorb squeeze finish answered left leftBy
-samples-hold = refl
+    giving inPattern absorb squeeze finish answered left leftBy
+computed = refl
+
+pub samples-hold : all (λ sample. sample) samples ≡ true
+unfolding samples
+samples-hold = (λ i. all (λ sample. sample) (samplesWith (opening4 i) (opening5 i) (opening6 i) (opening7 i))) ∙ computed
