@@ -44,7 +44,7 @@ positionsAt ws zero zero = record { absorb = 0; squeeze = 0 }
 
 -- "An open record is sound if its words are 2 to 64, even in number, alternate from ABSORB, have lengths of at least 1, and unused words are
 -- 0; the phase number is at most the word count; elements done are below the phase's length, or 0 after the last phase; all state elements
--- are below p; and count and positions are those the steps give at that place."
+-- are below p; and count and positions are those the steps give at that place." The first test is that so many words are there.
 unfoldable pub sound : Session → Bool
 sound r =
     leb (r .count) (length (r .words))

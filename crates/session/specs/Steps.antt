@@ -47,4 +47,5 @@ pub record Within (r : Session) (n : ℕ) : Type 0 where
   pub reduced : all (λ x. ltb x p) (r .state) ≡ true
   pub absorbs : r .«absorb_position» ≤ rate
   pub squeezes : r .«squeeze_position» ≤ rate
+  -- 2^28 for each of 64 phases and for the one being done
   pub counted : r .permutations ≤ 268435456 * 65

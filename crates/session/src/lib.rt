@@ -16,7 +16,7 @@ ghost use Rattle.session.specs.Steps.{sponge, phaseAfter, doneAfter, Wit
 pub struct Session {
     // OPEN, otherwise closed
     pub status: u32,
-    pub state: [u32; 24],
+    pub state: [u32; Session::WIDTH],
     // the merged words of the pattern, with unused ones 0
     pub words: [u32; 64],
     // how many words are used
@@ -47,7 +47,7 @@ fn wipe(number: u32) -> Answer
         number,
         session: Session {
             status: 0,
-            state: [0; 24],
+            state: [0; Session::WIDTH],
             words: [0; 64],
             count: 0,
             phase: 0,
@@ -66,6 +66,7 @@ fn leave(number: u32, session: Session) -> Answer
     Answer { number, session }
 }
 
+// One of two numbers, by a test.
 fn pick(test: bool, a: u32, b: u32) -> u32
     ensures { λ r. ⌜ r ≡ (if test then a else b) ⌝ }
 {
@@ -73,8 +74,10 @@ fn pick(test: bool, a: u32, b: u32) -> u32
 }
 
 impl Session {
+    // The outer elements of the state: those that are absorbed into and squeezed from.
     pub const RATE: usize = 8;
 
+    // The inner elements.
     pub const CAPACITY: usize = 16;
 
     pub const WIDTH: usize = 24;
@@ -214,7 +217,7 @@ impl Session {
     // The record with another sponge, so many elements further on in its phase.
     fn move_on(
         self,
-        state: [u32; 24],
+        state: [u32; Session::WIDTH],
         absorb_position: u32,
         squeeze_position: u32,
         permutations: u64,

@@ -14,10 +14,10 @@ ghost use Rattle.session.specs.Steps.{stateFor, permutationsFor, placeFo
 const RATE: u32 = Session::RATE as u32;
 
 // The state that the eight elements of a tag open: they stand behind the outer elements.
-pub(crate) fn tag_state(elements: [u32; 8]) -> [u32; 24]
+pub(crate) fn tag_state(elements: [u32; 8]) -> [u32; Session::WIDTH]
     ensures { λ r. ⌜ r ≡ tagState elements ⌝ }
 {
-    let mut state = [0u32; 24];
+    let mut state = [0u32; Session::WIDTH];
     for k in 0..8 {
         state[Session::RATE + k] = elements[k];
     }
@@ -25,7 +25,7 @@ pub(crate) fn tag_state(elements: [u32; 8]) -> [u32; 24]
 }
 
 // Permutes the state where a position is RATE. Answers how many permutations that is.
-pub(crate) fn permute_if_full(state: &mut [u32; 24], position: u32) -> u64
+pub(crate) fn permute_if_full(state: &mut [u32; Session::WIDTH], position: u32) -> u64
     requires { ⌜ all (λ x. ltb x p) (now state) ≡ true ⌝ }
     ensures { λ r. ⌜ r ≡ permutationsFor position ⌝ }
     ensures { λ _. ⌜ now (state .exit) ≡ stateFor position (now (state .entry)) ⌝ }
@@ -56,7 +56,7 @@ pub(crate) fn next_position(position: u32) -> u32
 }
 
 // Adds an element at a position, and permutes first where that is RATE. Answers how many permutations that is.
-pub(crate) fn absorb_element(state: &mut [u32; 24], position: u32, element: u32) -> u64
+pub(crate) fn absorb_element(state: &mut [u32; Session::WIDTH], position: u32, element: u32) -> u64
     requires { ⌜ (position ≤ 8) × (all (λ x. ltb x p) (now state) ≡ true) ⌝ }
     ensures { λ r. ⌜ r ≡ permutationsFor position ⌝ }
     ensures { λ _. ⌜ now (state .exit) ≡ set (stateFor position (now (state .entry))) (placeFor position) ((getD (stateFor position (now (state .entry))) (placeFor position) 0 + element) % p) ⌝ }
@@ -68,7 +68,7 @@ pub(crate) fn absorb_element(state: &mut [u32; 24], position: u32, element: u32)
 }
 
 // The element at a position.
-pub(crate) fn element_at(state: &[u32; 24], position: u32) -> u32
+pub(crate) fn element_at(state: &[u32; Session::WIDTH], position: u32) -> u32
     requires { ⌜ position ≤ 8 ⌝ }
     ensures { λ r. ⌜ r ≡ getD (now (state .entry)) (placeFor position) 0 ⌝ }
 {
