@@ -1,6 +1,6 @@
 -- Sessions: records stay sound, counts are those of document 01, calls may be cut, and every session can be finished. `start`, `absorb`,
 -- `squeeze` and `finish` are those that the contracts of `session` cite.
-use mathlib.Core.Path.{_≡_}
+use mathlib.Core.Path.{_≡_, sym, _∙_}
 use mathlib.Core.Bool.{true}
 use mathlib.Core.List.{List, _++_}
 use Prim.Native.Nat.{ℕ, _+_}
@@ -9,13 +9,15 @@ use lib.Dec.{ltb}
 use lib.ListN.{length}
 use Rattle.basics.specs.Logic.{all}
 use Rattle.basics.specs.Numbers.{accepted}
+use Rattle.basics.proofs.Cases.{if-true}
 use Rattle.field.specs.Field.{p}
 use Rattle.tag.specs.Pattern.{phases, mergedWords}
 use Rattle.session.specs.Record.{opened, squeezeAll, squeezedAll}
 use Rattle.session.specs.Soundness.{permutationsAt, sound}
-use Rattle.session.specs.Calls.{start, absorb, squeeze}
+use Rattle.session.specs.Calls.{start, absorb, squeeze, squeezeBuffer}
 use Rattle.session.specs.declared.Session.{Session}
-use Rattle.runs.specs.Calls.{Call, left, leftBy, absorbed, squeezed}
+use Rattle.session.proofs.SoundRecord.{parts}
+use Rattle.runs.specs.Calls.{Call, SQUEEZE, answered, accepts, left, leftBy, absorbed, squeezedIn, squeezed}
 use Rattle.runs.specs.Lengths.{absorbLength}
 use Rattle.runs.specs.Runs.{Run, absorbedOf, permutationsOf}
 use Rattle.runs.proofs.SoundCalls.{sound-left}
@@ -23,6 +25,7 @@ use Rattle.runs.proofs.Opened.{start-open, start-sound, sound-run}
 use Rattle.runs.proofs.Counted.{count-run, count-whole}
 use Rattle.runs.proofs.Finishing.{finishable}
 use Rattle.runs.proofs.Forks.{left-by-append, absorbed-append, squeezed-append}
+use Rattle.runs.proofs.SqueezedElements.{squeezed-reduced}
 use Rattle.runs.proofs.Cuts.{absorb-part, absorb-cut, squeeze-part, squeeze-cut, squeezed-all-add}
 
 -- START's record is open and sound.
@@ -74,3 +77,13 @@ pub squeeze-cut-freely : (r : Session) (n m : ℕ) → squeeze r (n + m) .number
     → (squeeze r n .number ≡ accepted) × (squeeze (squeeze r n .session) m ≡ squeeze r (n + m))
     × (squeezedAll r (n + m) ≡ squeezedAll r n ++ squeezedAll (squeezeAll r n) m)
 squeeze-cut-freely r n m e = (squeeze-part r n m e, squeeze-cut r n m e, squeezed-all-add r n m)
+
+-- "Squeezed are the elements that the accepted SQUEEZE calls wrote": they are what the buffer then holds,
+pub squeezed-are-written : (r : Session) (buffer : List ℕ) → squeeze r (length buffer) .number ≡ accepted
+    → squeezeBuffer r buffer ≡ squeezedIn r (SQUEEZE (length buffer))
+unfolding squeezeBuffer squeezedIn accepts answered
+squeezed-are-written r buffer e = if-true _ _ _ (eq-eqb _ _ e) ∙ sym (if-true _ _ _ (eq-eqb _ _ e))
+
+-- and, of a sound record, numbers below p.
+pub squeezed-are-elements : (r : Session) (n : ℕ) → sound r ≡ true → all (λ x. ltb x p) (squeezedAll r n) ≡ true
+squeezed-are-elements r n e = squeezed-reduced n r (parts r e .reduced)

@@ -15,3 +15,4 @@ pub mod BlockLists
 pub mod Compared
 pub mod Finishing
 pub mod Cuts
+pub mod SqueezedElements
