@@ -1,12 +1,13 @@
--- `session_vectors::pairs` is safe and ends.
+-- `vector_fields::pairs` meets its contract.
 -- Assumes nothing.
-use Prim.Native.Nat.{_-_, _≤_}
+use Prim.Native.Nat.{_+_, _*_, _-_, _≤_}
+use lib.ListN.{length}
 use borrow.Author.Needs.{needs}
-use Rattle.session_vectors.proofs.pairs.Statement.{statement}
-use Rattle.session_vectors.proofs.pairs.Tie as tie
+use Rattle.vector_fields.proofs.pairs.Statement.{statement}
+use Rattle.vector_fields.proofs.pairs.Tie as tie
 
 abbrev Inv-loop : tie.InvT-loop
-Inv-loop text at count₀ count = count ≤ 1024
+Inv-loop text at count₀ count = (count ≤ 1024) × (at + 2 * count ≤ length text)
 
 abbrev μ-loop : tie.MeasureT-loop
 μ-loop text at count₀ count = 1024 - count
