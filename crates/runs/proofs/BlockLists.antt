@@ -38,7 +38,7 @@ unfilled (suc n) (x ∷ xs) (y ∷ ys) zs h e =
 length-eights : (n : ℕ) (xs : List ℕ) → length (eights n xs) ≡ n
 unfolding eights
 length-eights zero xs = refl
-length-eights (suc n) xs = ap suc (length-eights n (drop 8 xs))
+length-eights (suc n) xs = ap suc (length-eights n _)
 
 eights-tell : (n : ℕ) (xs ys : List ℕ) → length xs ≡ length ys → length xs ≤ 8 * n → eights n xs ≡ eights n ys → xs ≡ ys
 unfolding eights

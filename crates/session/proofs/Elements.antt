@@ -16,7 +16,7 @@ use Rattle.poseidon.specs.Permutation.{babyBear, permuted}
 use Rattle.poseidon.specs.declared.Permuted.{Permuted}
 use Rattle.poseidon.proofs.Bounds.{all-reduced, permutation-reduced}
 use Rattle.session.specs.Sponge.{rate, permute, readyToAbsorb, absorbElement, readyToSqueeze, squeezedElement, squeezeElement}
-use Rattle.session.specs.Steps.{sponge, stateFor, permutationsFor, placeFor, absorbFor}
+use Rattle.session.specs.Steps.{sponge, stateFor, permutationsFor, placeFor, stateWith, absorbFor}
 
 abbrev pub below : ℕ → Bool
 below x = ltb x p
@@ -53,13 +53,17 @@ state-reduced n s e = by (λ (l : List ℕ). all below l ≡ true) _ _ _ (λ _. 
 pub sum-reduced : (s : List ℕ) (i n : ℕ) → all below s ≡ true → all below (set s i (n % p)) ≡ true
 sum-reduced s i n e = all-set below s i (n % p) e (lt-ltb (n % p) p (mod-lt n (lit< tt)))
 
+pub added-reduced : (n : ℕ) (s : List ℕ) (x : ℕ) → all below s ≡ true → all below (stateWith n s x) ≡ true
+unfolding stateWith
+added-reduced n s x e = sum-reduced _ _ _ (state-reduced n s e)
+
 -- ---- the definitions, by parts
 
 module _ (s : List ℕ) (a q n : ℕ) where
   pub absorb-parts : (x : ℕ)
       → absorbElement (sponge s a q n) x
-      ≡ sponge (set (stateFor a s) (placeFor a) ((getD (stateFor a s) (placeFor a) 0 + x) % p)) (placeFor a + 1) rate (n + permutationsFor a)
-  unfolding absorbElement readyToAbsorb stateFor placeFor permutationsFor if_then_else_
+      ≡ sponge (stateWith a s x) (placeFor a + 1) rate (n + permutationsFor a)
+  unfolding absorbElement readyToAbsorb stateWith stateFor placeFor permutationsFor if_then_else_
   absorb-parts x = cases (eqb a rate) (λ e. rw e refl) λ e. rw (e, add-zero n) refl
 
   pub squeeze-parts : squeezeElement (sponge s a q n) ≡ sponge (stateFor q s) (absorbFor q a) (placeFor q + 1) (n + permutationsFor q)

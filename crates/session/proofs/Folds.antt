@@ -41,12 +41,12 @@ unfolding squeezeElements
 squeeze-snoc zero s = refl
 squeeze-snoc (suc n) s = squeeze-snoc n (squeezeElement s)
 
-pub squeezed-snoc : (n : ℕ) (s : Sponge) → squeezedElements s (suc n) ≡ squeezedElements s n ++ (squeezedElement (squeezeElements s n) ∷ [])
+squeezed-snoc : (n : ℕ) (s : Sponge) → squeezedElements s (suc n) ≡ squeezedElements s n ++ (squeezedElement (squeezeElements s n) ∷ [])
 unfolding squeezedElements squeezeElements
 squeezed-snoc zero s = refl
 squeezed-snoc (suc n) s = ap (λ (l : List ℕ). squeezedElement s ∷ l) (squeezed-snoc n (squeezeElement s))
 
-pub length-squeezed : (n : ℕ) (s : Sponge) → length (squeezedElements s n) ≡ n
+length-squeezed : (n : ℕ) (s : Sponge) → length (squeezedElements s n) ≡ n
 unfolding squeezedElements
 length-squeezed zero s = refl
 length-squeezed (suc n) s = ap suc (length-squeezed n (squeezeElement s))
@@ -88,16 +88,16 @@ module _ (r : Session) where
   last-done = rw (add-one (r .done)) refl
 
   module _ (more : suc (r .done) < lengthOf (phaseWord r)) where
-    pub same-phase : nextPhase r ≡ r .phase
+    same-phase : nextPhase r ≡ r .phase
     unfolding nextPhase lastElement
     same-phase = if-false _ _ _ (ne-eqb (suc (r .done)) (lengthOf (phaseWord r)) (λ e. omega arith))
 
-    pub next-done : nextDone r ≡ suc (r .done)
+    next-done : nextDone r ≡ suc (r .done)
     unfolding nextDone lastElement
     next-done = if-false _ _ _ (ne-eqb (suc (r .done)) (lengthOf (phaseWord r)) (λ e. omega arith))
 
     -- the record after one element that is not the phase's last
-    pub inside : (s : Sponge) → moved r s (nextPhase r) (nextDone r) ≡ moved r s (r .phase) (suc (r .done))
+    inside : (s : Sponge) → moved r s (nextPhase r) (nextDone r) ≡ moved r s (r .phase) (suc (r .done))
     inside s = ap₂ (moved r s) same-phase next-done
 
     phase-further : (s : Sponge) (n : ℕ) → phaseAfter (moved r s (nextPhase r) (nextDone r)) n ≡ phaseAfter r (suc n)

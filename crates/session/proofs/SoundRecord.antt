@@ -5,7 +5,7 @@ use mathlib.Core.Bool.{Bool, true, false}
 use Prim.Native.Nat.{_≤_, _<_}
 use native.Mathlib.Omega.{arith}
 use borrow.Author.Tests.{ltb-true, leb-true, eqb-true, lt-ltb, le-ltb, le-leb, eq-eqb}
-use lib.Dec.{leb, ltb, eqb}
+use lib.Dec.{ltb, eqb}
 use lib.ListN.{length, take, drop}
 use Rattle.basics.specs.Logic.{if_then_else_, _and_, all}
 use Rattle.basics.proofs.Cases.{if-true, if-false, and-left, and-right, and-both, and-step, and-stop}
@@ -13,6 +13,7 @@ use Rattle.field.specs.Field.{p}
 use Rattle.tag.specs.Pattern.{lengthOf, soundWords}
 use Rattle.session.specs.Record.{phaseWord}
 use Rattle.session.specs.Soundness.{permutationsAt, positionsAt, sound}
+use Rattle.session.specs.Steps.{wordsSound, placeSound}
 use Rattle.session.specs.declared.Session.{Session}
 
 pub record Sound (r : Session) : Type 0 where
@@ -36,31 +37,26 @@ regroup true true true true e f = refl
 
 module _ (r : Session) where
   -- the tests as code takes them
-  abbrev pub wordsTest : Bool
-  wordsTest =
-      leb (r .count) (length (r .words))
-      and soundWords (take (r .count) (r .words))
-      and all (λ w. eqb w 0) (drop (r .count) (r .words))
+  abbrev wordsTest : Bool
+  wordsTest = wordsSound (r .words) (r .count)
 
-  abbrev pub placeTest : Bool
-  placeTest =
-      leb (r .phase) (r .count)
-      and (if ltb (r .phase) (r .count) then ltb (r .done) (lengthOf (phaseWord r)) else eqb (r .done) 0)
+  abbrev placeTest : Bool
+  placeTest = placeSound (r .words) (r .count) (r .phase) (r .done)
 
-  abbrev pub stateTest : Bool
+  abbrev stateTest : Bool
   stateTest = all (λ x. ltb x p) (r .state)
 
-  abbrev pub countTest : Bool
+  abbrev countTest : Bool
   countTest = eqb (r .permutations) (permutationsAt (r .words) (r .phase) (r .done))
 
-  abbrev pub absorbTest : Bool
+  abbrev absorbTest : Bool
   absorbTest = eqb (r .«absorb_position») (positionsAt (r .words) (r .phase) (r .done) .absorb)
 
-  abbrev pub squeezeTest : Bool
+  abbrev squeezeTest : Bool
   squeezeTest = eqb (r .«squeeze_position») (positionsAt (r .words) (r .phase) (r .done) .squeeze)
 
   tests : sound r ≡ wordsTest and placeTest and stateTest and countTest and absorbTest and squeezeTest
-  unfolding sound
+  unfolding sound wordsSound placeSound phaseWord
   tests = regroup _ _ _ _ _ _
 
   pub fails-1 : wordsTest ≡ false → sound r ≡ false

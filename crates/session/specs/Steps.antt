@@ -1,12 +1,13 @@
 -- What private functions of the crate give.
 use mathlib.Core.Path.{_≡_}
-use mathlib.Core.Bool.{true}
+use mathlib.Core.Bool.{Bool, true}
 use mathlib.Core.List.{List}
-use Prim.Native.Nat.{ℕ, suc, _+_, _*_, _≤_, _<_}
-use lib.Dec.{ltb, eqb}
-use Rattle.basics.specs.Logic.{if_then_else_, all}
+use Prim.Native.Nat.{ℕ, suc, _+_, _*_, _%_, _≤_, _<_}
+use lib.Dec.{leb, ltb, eqb}
+use lib.ListN.{length, getD, set, take, drop}
+use Rattle.basics.specs.Logic.{if_then_else_, _and_, all}
 use Rattle.field.specs.Field.{p}
-use Rattle.tag.specs.Pattern.{lengthOf}
+use Rattle.tag.specs.Pattern.{lengthOf, soundWords}
 use Rattle.session.specs.Sponge.{Sponge, rate, permute}
 use Rattle.session.specs.Record.{phaseWord}
 use Rattle.session.specs.declared.Session.{Session}
@@ -28,9 +29,23 @@ permutationsFor position = if eqb position rate then 1 else 0
 unfoldable pub placeFor : ℕ → ℕ
 placeFor position = if eqb position rate then 0 else position
 
+-- the state with an element added at a position
+unfoldable pub stateWith : ℕ → List ℕ → ℕ → List ℕ
+stateWith position state x =
+    set (stateFor position state) (placeFor position) ((getD (stateFor position state) (placeFor position) 0 + x) % p)
+
 -- the absorb position, where an element comes out at a squeeze position
 unfoldable pub absorbFor : ℕ → ℕ → ℕ
 absorbFor squeeze absorb = if eqb squeeze rate then 0 else absorb
+
+-- the tests of soundness that look at the words, and at the place in them
+unfoldable pub wordsSound : List ℕ → ℕ → Bool
+wordsSound words count =
+    leb count (length words) and soundWords (take count words) and all (λ w. eqb w 0) (drop count words)
+
+unfoldable pub placeSound : List ℕ → ℕ → ℕ → ℕ → Bool
+placeSound words count phase done =
+    leb phase count and (if ltb phase count then ltb done (lengthOf (getD words phase 0)) else eqb done 0)
 
 -- the place in the pattern after n elements more of the phase
 unfoldable pub phaseAfter : Session → ℕ → ℕ

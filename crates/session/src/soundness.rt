@@ -2,10 +2,11 @@
 ghost use mathlib.Core.Path.{_≡_};
 ghost use mathlib.Core.Logic.{_≢_};
 ghost use Prim.Native.Nat.{_-_, _≤_};
-ghost use lib.Dec.{leb, ltb, eqb};
-ghost use lib.ListN.{length, getD, take, drop};
-ghost use Rattle.basics.specs.Logic.{if_then_else_, _and_, all};
-ghost use Rattle.tag.specs.Pattern.{lengthOf, soundWords};
+ghost use lib.Dec.{eqb};
+ghost use lib.ListN.{length, getD};
+ghost use Rattle.basics.specs.Logic.{all};
+ghost use Rattle.tag.specs.Pattern.{lengthOf};
+ghost use Rattle.session.specs.Steps.{wordsSound, placeSound};
 ghost use Rattle.session.specs.Soundness.{phasePermutations, permutationsAt, inLastBlock, positionsAfter, positionsAt};
 
 // An absorb and a squeeze position.
@@ -36,7 +37,7 @@ fn all_zero(words: &[u32]) -> bool
 // Whether the words are sound, and unused ones 0.
 pub(crate) fn words_sound(words: &[u32], count: u32) -> bool
     requires { ⌜ length (now words) ≡ 64 ⌝ }
-    ensures { λ r. ⌜ r ≡ leb count (length (now (words .entry))) and soundWords (take count (now (words .entry))) and all (λ w. eqb w 0) (drop count (now (words .entry))) ⌝ }
+    ensures { λ r. ⌜ r ≡ wordsSound (now (words .entry)) count ⌝ }
 {
     let n = count as usize;
     if n > tag::MAX_WORDS {
@@ -51,7 +52,7 @@ pub(crate) fn words_sound(words: &[u32], count: u32) -> bool
 // Whether the place is one in the pattern.
 pub(crate) fn place_sound(words: &[u32], count: u32, phase: u32, done: u32) -> bool
     requires { ⌜ length (now words) ≡ 64 ⌝ }
-    ensures { λ r. ⌜ r ≡ leb phase count and (if ltb phase count then ltb done (lengthOf (getD (now (words .entry)) phase 0)) else eqb done 0) ⌝ }
+    ensures { λ r. ⌜ r ≡ placeSound (now (words .entry)) count phase done ⌝ }
 {
     if phase > count {
         return false;

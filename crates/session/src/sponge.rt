@@ -4,11 +4,11 @@ ghost use mathlib.Core.Path.{_≡_};
 ghost use mathlib.Core.Bool.{true};
 ghost use Prim.Native.Nat.{_+_, _%_, _≤_, _<_};
 ghost use lib.Dec.{ltb};
-ghost use lib.ListN.{getD, set};
+ghost use lib.ListN.{getD};
 ghost use Rattle.basics.specs.Logic.{all};
 ghost use Rattle.field.specs.Field.{p};
 ghost use Rattle.session.specs.Sponge.{tagState};
-ghost use Rattle.session.specs.Steps.{stateFor, permutationsFor, placeFor, absorbFor};
+ghost use Rattle.session.specs.Steps.{stateFor, permutationsFor, placeFor, stateWith, absorbFor};
 
 // Positions are 32-bit numbers, as in the record.
 const RATE: u32 = Session::RATE as u32;
@@ -59,7 +59,7 @@ pub(crate) fn next_position(position: u32) -> u32
 pub(crate) fn absorb_element(state: &mut [u32; Session::WIDTH], position: u32, element: u32) -> u64
     requires { ⌜ (position ≤ 8) × (all (λ x. ltb x p) (now state) ≡ true) ⌝ }
     ensures { λ r. ⌜ r ≡ permutationsFor position ⌝ }
-    ensures { λ _. ⌜ now (state .exit) ≡ set (stateFor position (now (state .entry))) (placeFor position) ((getD (stateFor position (now (state .entry))) (placeFor position) 0 + element) % p) ⌝ }
+    ensures { λ _. ⌜ now (state .exit) ≡ stateWith position (now (state .entry)) element ⌝ }
 {
     let permutations = permute_if_full(state, position);
     let at = place(position) as usize;

@@ -12,7 +12,7 @@ use Rattle.tag.proofs.WordKinds.{length-below}
 use Rattle.session.specs.Sponge.{Sponge, rate, absorbElement}
 use Rattle.session.specs.Record.{moved, phaseWord}
 use Rattle.session.specs.Steps.{sponge, phaseAfter, doneAfter}
-use Rattle.session.proofs.Elements.{below, at-most-one, state-reduced, sum-reduced, absorb-parts}
+use Rattle.session.proofs.Elements.{below, at-most-one, added-reduced, absorb-parts}
 use Rattle.session.proofs.Folds.{absorbElements, absorb-snoc, absorb-all}
 use borrow.Author.Needs.{needs}
 use Rattle.session.proofs.Session.absorb_all.Statement.{statement}
@@ -68,11 +68,12 @@ loop-again c =
     let absorbed = c .before .absorb-element .ensures in
     let parts = absorb-parts s position rate n x
     ∙ sym (λ j. sponge (absorbed .1 j) (c .next-position .ensures .0 j) rate (n + absorbed .0 j)) in
-    let start = sponge (at-loop .before .before .before .args .self .state) (at-loop .before .before .before .args .self .«absorb_position») rate (at-loop .before .before .before .args .self .permutations) in (
+    let self = at-loop .before .before .before .args .self in
+    let start = sponge (self .state) (self .«absorb_position») rate (self .permutations) in (
       search needs,
       rw (add-one i, take-suc input i 0 (omega arith)) (absorb-snoc (take i input) start x ∙ ap (λ (t : Sponge). absorbElement t x) (inv .1) ∙ parts),
       c .next-position .ensures .1,
-      rw (absorbed .1) (sum-reduced _ _ _ (state-reduced position s (inv .3))),
+      rw (absorbed .1) (added-reduced position s x (inv .3)),
       omega (arith, inv .4, absorbed .0, at-most-one position),
     )
 

@@ -14,51 +14,76 @@ use Rattle.session.proofs.Session.squeeze_step.Tie as tie
 returns : tie.Need-returns
 unfolding squeeze
 returns c =
-    let e1 = ap not (ne-eqb _ 1 (c .before .if1 .taken)) in
+    let at-if1 = c .before in
+    let e1 = ap not (ne-eqb _ 1 (at-if1 .if1 .taken)) in
     let answer = if-true _ _ _ e1 in
     (c .leave .ensures ∙ sym answer, sym (buffer-left _ _ _ _ answer refl))
 
 returns-2 : tie.Need-returns-2
 unfolding squeeze
 returns-2 c =
-    let e1 = ap not (eq-eqb _ 1 (c .before .before .before .if1 .left)) in
-    let e2 = sym (ap not (c .before .before .is-sound .ensures)) ∙ c .before .if2 .taken in
+    let at-if2 = c .before in
+    let at-is-sound = at-if2 .before in
+    let at-if1 = at-is-sound .before in
+    let e1 = ap not (eq-eqb _ 1 (at-if1 .if1 .left)) in
+    let e2 = sym (ap not (at-is-sound .is-sound .ensures)) ∙ at-if2 .if2 .taken in
     let answer = if-false _ _ _ e1 ∙ if-true _ _ _ e2 in
     (c .leave2 .ensures ∙ sym answer, sym (buffer-left _ _ _ _ answer refl))
 
 returns-3 : tie.Need-returns-3
 unfolding squeeze
 returns-3 c =
-    let e1 = ap not (eq-eqb _ 1 (c .before .before .before .before .if1 .left)) in
-    let e2 = sym (ap not (c .before .before .before .is-sound .ensures)) ∙ c .before .before .if2 .left in
-    let e3 = eq-eqb _ 0 (c .before .if3 .taken) in
+    let at-if3 = c .before in
+    let at-if2 = at-if3 .before in
+    let at-is-sound = at-if2 .before in
+    let at-if1 = at-is-sound .before in
+    let e1 = ap not (eq-eqb _ 1 (at-if1 .if1 .left)) in
+    let e2 = sym (ap not (at-is-sound .is-sound .ensures)) ∙ at-if2 .if2 .left in
+    let e3 = eq-eqb _ 0 (at-if3 .if3 .taken) in
     let answer = if-false _ _ _ e1 ∙ if-false _ _ _ e2 ∙ if-true _ _ _ e3 in
     (c .leave3 .ensures ∙ sym answer, sym (buffer-empty _ _ _ (search needs) answer))
 
 returns-4 : tie.Need-returns-4
 unfolding squeeze
 returns-4 c =
-    let e1 = ap not (eq-eqb _ 1 (c .before .before .before .before .before .before .if1 .left)) in
-    let e2 = sym (ap not (c .before .before .before .before .before .is-sound .ensures)) ∙ c .before .before .before .before .if2 .left in
-    let e3 = ne-eqb _ 0 (c .before .before .before .if3 .left) in
-    let e4 = sym (ap not (c .before .before .in-pattern .ensures)) ∙ c .before .if4 .taken in
+    let at-if4 = c .before in
+    let at-in-pattern = at-if4 .before in
+    let at-if3 = at-in-pattern .before in
+    let at-if2 = at-if3 .before in
+    let at-is-sound = at-if2 .before in
+    let at-if1 = at-is-sound .before in
+    let e1 = ap not (eq-eqb _ 1 (at-if1 .if1 .left)) in
+    let e2 = sym (ap not (at-is-sound .is-sound .ensures)) ∙ at-if2 .if2 .left in
+    let e3 = ne-eqb _ 0 (at-if3 .if3 .left) in
+    let e4 = sym (ap not (at-in-pattern .in-pattern .ensures)) ∙ at-if4 .if4 .taken in
     let answer = if-false _ _ _ e1 ∙ if-false _ _ _ e2 ∙ if-false _ _ _ e3 ∙ if-true _ _ _ e4 in
     (c .wipe .ensures ∙ sym answer, sym (buffer-left _ _ _ _ answer refl))
 
 squeeze-all-requires : tie.Need-squeeze-all-requires
 squeeze-all-requires c κs =
-    let sound = sym (c .before .before .before .before .before .is-sound .ensures) ∙ not-false _ (c .before .before .before .before .if2 .left) in
-    let fits = sym (c .before .before .in-pattern .ensures) ∙ not-false _ (c .before .if4 .left) in
+    let at-if4 = c .before in
+    let at-in-pattern = at-if4 .before in
+    let at-if2 = at-in-pattern .before .before in
+    let at-is-sound = at-if2 .before in
+    let sound = sym (at-is-sound .is-sound .ensures) ∙ not-false _ (at-if2 .if2 .left) in
+    let fits = sym (at-in-pattern .in-pattern .ensures) ∙ not-false _ (at-if4 .if4 .left) in
     within _ sound _ _ fits (search needs)
 
 returns-5 : tie.Need-returns-5
 unfolding squeeze
 returns-5 c =
-    let e1 = ap not (eq-eqb _ 1 (c .before .before .before .before .before .before .before .before .before .before .if1 .left)) in
-    let e2 = sym (ap not (c .before .before .before .before .before .before .before .before .before .is-sound .ensures)) ∙ c .before .before .before .before .before .before .before .before .if2 .left in
-    let e3 = ne-eqb _ 0 (c .before .before .before .before .before .before .before .if3 .left) in
-    let e4 = sym (ap not (c .before .before .before .before .before .before .in-pattern .ensures)) ∙ c .before .before .before .before .before .if4 .left in
-    let squeezed = c .before .before .before .squeeze-all .ensures in
+    let at-squeeze-all = c .before .before .before in
+    let at-if4 = at-squeeze-all .before .before in
+    let at-in-pattern = at-if4 .before in
+    let at-if3 = at-in-pattern .before in
+    let at-if2 = at-if3 .before in
+    let at-is-sound = at-if2 .before in
+    let at-if1 = at-is-sound .before in
+    let e1 = ap not (eq-eqb _ 1 (at-if1 .if1 .left)) in
+    let e2 = sym (ap not (at-is-sound .is-sound .ensures)) ∙ at-if2 .if2 .left in
+    let e3 = ne-eqb _ 0 (at-if3 .if3 .left) in
+    let e4 = sym (ap not (at-in-pattern .in-pattern .ensures)) ∙ at-if4 .if4 .left in
+    let squeezed = at-squeeze-all .squeeze-all .ensures in
     let answer = if-false _ _ _ e1 ∙ if-false _ _ _ e2 ∙ if-false _ _ _ e3 ∙ if-false _ _ _ e4 in
     (c .leave4 .ensures ∙ ap (giving 0) (squeezed .0) ∙ sym answer, squeezed .1 ∙ sym (buffer-written _ _ _ answer))
 

@@ -6,20 +6,24 @@ use borrow.Author.Tests.{lt-ltb, le-ltb, le-leb, lt-leb}
 use lib.Dec.{ltb}
 use Rattle.basics.proofs.Cases.{if-true, if-false, and-step, and-stop}
 use Rattle.tag.specs.Pattern.{lengthOf}
+use Rattle.session.specs.Steps.{placeSound}
 use borrow.Author.Needs.{needs}
 use Rattle.session.proofs.soundness.place_sound.Statement.{statement}
 use Rattle.session.proofs.soundness.place_sound.Tie as tie
 
 returns : tie.Need-returns
+unfolding placeSound
 returns c = sym (and-stop _ _ (lt-leb _ _ (c .if1 .taken)))
 
 returns-2 : tie.Need-returns-2
+unfolding placeSound
 returns-2 c =
     let phase = c .before .before .before .args .phase in
     let count = c .before .before .before .args .count in
     sym (and-step _ _ (le-leb phase count (omega arith)) ∙ if-false _ _ _ (le-ltb phase count (omega arith)))
 
 returns-3 : tie.Need-returns-3
+unfolding placeSound
 returns-3 c =
     let at-entry = c .before .before .before .before .before in
     let phase = at-entry .args .phase in

@@ -11,11 +11,13 @@ use lib.Seq.{length-take-le, take-all}
 use Rattle.basics.specs.Logic.{all}
 use Rattle.basics.proofs.Cases.{and-step, and-stop}
 use Rattle.tag.specs.Pattern.{soundWords}
+use Rattle.session.specs.Steps.{wordsSound}
 use borrow.Author.Needs.{needs}
 use Rattle.session.proofs.soundness.words_sound.Statement.{statement}
 use Rattle.session.proofs.soundness.words_sound.Tie as tie
 
 returns : tie.Need-returns
+unfolding wordsSound
 returns c =
     let at-entry = c .before .before in
     let long = at-entry .pre in
@@ -25,6 +27,7 @@ slice-aggregate-is-sound : tie.Need-slice-aggregate-is-sound
 slice-aggregate-is-sound c = sym (length-take-le _ _ (search needs))
 
 returns-2 : tie.Need-returns-2
+unfolding wordsSound
 returns-2 c =
     let at-entry = c .before .before .before .before .before in
     let long = at-entry .pre in
@@ -32,6 +35,7 @@ returns-2 c =
     sym (and-step _ _ few ∙ and-stop _ _ (sym (c .before .is-sound .ensures) ∙ not-true _ (c .if2 .taken)))
 
 returns-3 : tie.Need-returns-3
+unfolding wordsSound
 returns-3 c =
     let at-entry = c .before .before .before .before .before .before .before in
     let words = now (at-entry .args .words) in
