@@ -22,9 +22,11 @@ answered r (ABSORB xs) = absorb r xs
 answered r (SQUEEZE n) = squeeze r n
 answered r FINISH = finish r
 
+-- whether the call is accepted
 unfoldable pub accepts : Session → Call → Bool
 accepts r c = eqb (answered r c .number) accepted
 
+-- the record that the call leaves
 unfoldable pub left : Session → Call → Session
 left r c = answered r c .session
 
@@ -39,6 +41,7 @@ absorbedIn r (ABSORB xs) = if accepts r (ABSORB xs) then xs else []
 absorbedIn r (SQUEEZE n) = []
 absorbedIn r FINISH = []
 
+-- what a list of calls absorbs
 unfoldable pub absorbed : Session → List Call → List ℕ
 absorbed r [] = []
 absorbed r (c ∷ cs) = absorbedIn r c ++ absorbed (left r c) cs
@@ -49,6 +52,7 @@ squeezedIn r (ABSORB xs) = []
 squeezedIn r (SQUEEZE n) = if accepts r (SQUEEZE n) then squeezedAll r n else []
 squeezedIn r FINISH = []
 
+-- what a list of calls squeezes
 unfoldable pub squeezed : Session → List Call → List ℕ
 squeezed r [] = []
 squeezed r (c ∷ cs) = squeezedIn r c ++ squeezed (left r c) cs

@@ -1,4 +1,5 @@
 // The parts of a record's soundness: its words, its place in the pattern, and the positions and the count that the steps give there.
+use crate::sponge::RATE;
 ghost use mathlib.Core.Path.{_≡_};
 ghost use mathlib.Core.Logic.{_≢_};
 ghost use Prim.Native.Nat.{_-_, _≤_};
@@ -23,6 +24,7 @@ pub(crate) fn word_at(words: &[u32], phase: u32) -> u32
     if phase < 64 { words[phase as usize] } else { 0 }
 }
 
+// Whether all are 0, as unused words have to be.
 fn all_zero(words: &[u32]) -> bool
     ensures { λ r. ⌜ r ≡ all (λ w. eqb w 0) (now (words .entry)) ⌝ }
 {
@@ -95,7 +97,7 @@ fn in_last_block(elements: u32) -> u32
     requires { ⌜ 1 ≤ elements ⌝ }
     ensures { λ r. ⌜ r ≡ inLastBlock elements ⌝ }
 {
-    (elements - 1) % 8 + 1
+    (elements - 1) % RATE + 1
 }
 
 // The positions that an element of a phase leaves, counted from 1.
@@ -107,7 +109,7 @@ fn positions_after(word: u32, element: u32) -> Positions
     if tag::words::is_absorb(word) {
         Positions {
             absorb: filled,
-            squeeze: 8,
+            squeeze: RATE,
         }
     } else {
         Positions {

@@ -11,7 +11,7 @@ ghost use Rattle.session.specs.Sponge.{tagState};
 ghost use Rattle.session.specs.Steps.{stateFor, permutationsFor, placeFor, stateWith, absorbFor};
 
 // Positions are 32-bit numbers, as in the record.
-const RATE: u32 = Session::RATE as u32;
+pub(crate) const RATE: u32 = Session::RATE as u32;
 
 // The state that the eight elements of a tag open: they stand behind the outer elements.
 pub(crate) fn tag_state(elements: [u32; 8]) -> [u32; Session::WIDTH]
