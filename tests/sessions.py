@@ -191,6 +191,28 @@ def document_examples(calls):
     calls.absorb([1])
 
 
+def faulty(faults):
+    """Words and separator with these of the faults 1 to 6."""
+    words = [ABSORB + 3, 0 if 2 in faults else 5, ABSORB + 2, 6]
+    if 5 in faults:
+        words[2:2] = [ABSORB + LONGEST, ABSORB + 1]
+    if 1 in faults:
+        words[2:2] = [ABSORB + 1, 1] * 32
+    return [7] * (3 in faults) + words + [ABSORB + 9] * (4 in faults), separator(257 if 6 in faults else 2)
+
+
+def refused_starts(calls):
+    """Every set of faults, each START after one that opened a session, and a call on the record that it leaves."""
+    for bits in range(1, 64):
+        calls.start([ABSORB + 1, 1])
+        calls.start(*faulty({k for k in range(1, 7) if bits >> (k - 1) & 1}))
+        calls.absorb([1])
+    for count in (63, 64, 65, 66, 130):
+        calls.start(([ABSORB + 7, 9] * 65)[-count:])
+        calls.start([ABSORB + 7] * (count - 1) + [9])
+        calls.start([ABSORB + 7] + [9] * (count - 1))
+
+
 def large_elements(calls):
     """Elements around p at each end of a list and inside it, each followed by the good call."""
     for large in (P - 1, P, P + 1, ABSORB, LARGEST):
@@ -381,7 +403,7 @@ def forks(calls):
 
 def cases(oracle):
     calls = Calls(oracle)
-    for part in (generated, document_examples, large_elements, samples, shapes, long_phases, changed_records, other_places,
+    for part in (generated, document_examples, refused_starts, large_elements, samples, shapes, long_phases, changed_records, other_places,
                  changed_counts, empty_calls, out_of_pattern, forks):
         part(calls)
 

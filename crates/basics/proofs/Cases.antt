@@ -121,6 +121,11 @@ module _ {ℓ} {A : Type ℓ} (f : A → Bool) where
   unfolding all
   all-end xs i h = rw (drop-of-length-le xs h)
 
+  pub all-append : (xs ys : List A) → all f (xs ++ ys) ≡ true → (all f xs ≡ true) × (all f ys ≡ true)
+  unfolding all
+  all-append [] ys e = (refl, e)
+  all-append (x ∷ xs) ys e = let rest = all-append xs ys (and-right _ _ e) in (and-both _ _ (and-left _ _ e) (rest .0), rest .1)
+
   pub any-step : (xs : List A) (d : A) (i : ℕ) → i < length xs → f (getD xs i d) ≡ false → any f (drop i xs) ≡ any f (drop (i + 1) xs)
   unfolding any _or_
   any-step xs d i h e = rw (add-one, drop-cons xs i d, e)

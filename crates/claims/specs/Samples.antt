@@ -23,7 +23,7 @@ use Rattle.session.specs.Soundness.{blockCount, phasePermutations, permutations
 use Rattle.session.specs.Calls.{giving, inPattern, absorb, squeeze, finish}
 use Rattle.session.specs.declared.Session.{Session}
 use Rattle.runs.specs.Calls.{Call, ABSORB, SQUEEZE, answered, left, leftBy}
-use Rattle.sample_records.specs.SampleRecords.{words4, words5, words6, words7, opening, record4, record5, record6, record7}
+use Rattle.sample_records.specs.SampleRecords.{words4, words5, words6, words7, startedRecord, record4, record5, record6, record7}
 use Rattle.sample_records.specs.SampleRecords.{opening4, opening5, opening6, opening7}
 
 -- two lists are equal
@@ -103,7 +103,7 @@ samplesWith : Session → Session → Session → Session → List Bool
 samplesWith r4 r5 r6 r7 = b1 ++ b2 ++ b3 ++ b4 r4 ++ b5 r5 ++ b6 r6 ++ b7 r7 ++ b8 ++ b9 ++ b10
 
 pub samples : List Bool
-samples = samplesWith (opening words4) (opening words5) (opening words6) (opening words7)
+samples = samplesWith (startedRecord words4) (startedRecord words5) (startedRecord words6) (startedRecord words7)
 
 computed : all (λ sample. sample) (samplesWith record4 record5 record6 record7) ≡ true
 unfolding samplesWith b1 b2 b3 b4 b5 b6 b7 b8 b9 b10 sameList byFormula byCalls raised

@@ -12,7 +12,7 @@ use Rattle.basics.specs.Numbers.{accepted}
 use Rattle.basics.proofs.Cases.{if-true}
 use Rattle.field.specs.Field.{p}
 use Rattle.tag.specs.Pattern.{phases, mergedWords}
-use Rattle.session.specs.Record.{opened, squeezeAll, squeezedAll}
+use Rattle.session.specs.Record.{opened, squeezedAll}
 use Rattle.session.specs.Soundness.{permutationsAt, sound}
 use Rattle.session.specs.Calls.{start, absorb, squeeze, squeezeBuffer}
 use Rattle.session.specs.declared.Session.{Session}
@@ -26,7 +26,7 @@ use Rattle.runs.proofs.Counted.{count-run, count-whole}
 use Rattle.runs.proofs.Finishing.{finishable}
 use Rattle.runs.proofs.Forks.{left-by-append, absorbed-append, squeezed-append}
 use Rattle.runs.proofs.SqueezedElements.{squeezed-reduced}
-use Rattle.runs.proofs.Cuts.{absorb-part, absorb-cut, squeeze-part, squeeze-cut, squeezed-all-add}
+use Rattle.runs.proofs.Cuts.{absorb-part, absorb-cut, squeeze-part, squeeze-cut, squeezed-cut}
 
 -- START's record is open and sound.
 pub start-gives-sound : (words separator : List ℕ) → start words separator .number ≡ accepted
@@ -75,8 +75,8 @@ absorb-cut-freely r xs ys e = (absorb-part r xs ys e, absorb-cut r xs ys e)
 -- and so is an accepted SQUEEZE, with the elements that it writes
 pub squeeze-cut-freely : (r : Session) (n m : ℕ) → squeeze r (n + m) .number ≡ accepted
     → (squeeze r n .number ≡ accepted) × (squeeze (squeeze r n .session) m ≡ squeeze r (n + m))
-    × (squeezedAll r (n + m) ≡ squeezedAll r n ++ squeezedAll (squeezeAll r n) m)
-squeeze-cut-freely r n m e = (squeeze-part r n m e, squeeze-cut r n m e, squeezed-all-add r n m)
+    × (squeezedAll r (n + m) ≡ squeezedAll r n ++ squeezedAll (squeeze r n .session) m)
+squeeze-cut-freely r n m e = (squeeze-part r n m e, squeeze-cut r n m e, squeezed-cut r n m e)
 
 -- "Squeezed are the elements that the accepted SQUEEZE calls wrote": they are what the buffer then holds,
 pub squeezed-are-written : (r : Session) (buffer : List ℕ) → squeeze r (length buffer) .number ≡ accepted

@@ -1,12 +1,13 @@
 -- Lanes of eight bytes.
 -- Assumes nothing.
-use mathlib.Core.Path.{_≡_, _∙_, refl, sym, ap}
-use mathlib.Core.List.{List, [], _∷_, _++_}
-use Prim.Native.Nat.{ℕ, zero, suc, _+_, _*_, _^_, _≤_, _<_}
+use mathlib.Core.Path.{_≡_, _∙_, sym, ap}
+use mathlib.Core.List.{List, [], _++_}
+use Prim.Native.Nat.{ℕ, _+_, _*_, _^_, _≤_, _<_}
 use native.Mathlib.Nat.{add-zero, add-assoc}
 use native.Mathlib.Omega.{arith}
 use lib.ListN.{length, getD, drop, replicate, List·getD-eq-default, length-take}
 use lib.Seq.{getD-take, getD-drop}
+use Rattle.basics.proofs.Zeros.{zeros-behind}
 use Rattle.basics.specs.Lists.{sum}
 use Rattle.basics.proofs.Sums.{sum-same}
 use Rattle.keccak.specs.Sponge.{padded, laneAt, block}
@@ -32,17 +33,6 @@ same-lane s t k l h = sum-same 8 _ _ (λ j below. ap (λ (b : ℕ). b * 2 ^ (8 *
 -- a lane that is all of the message
 pub in-message-lane : (m : List ℕ) (k : ℕ) → k + 8 ≤ length m → laneAt m k ≡ laneAt (padded m) k
 in-message-lane m k h = same-lane m (padded m) k k (λ j below. sym (in-message m (k + j) (omega arith)))
-
-zeros : (n i : ℕ) → _≡_ {A = ℕ} (getD (replicate n 0) i 0) 0
-zeros zero i = refl
-zeros (suc n) zero = refl
-zeros (suc n) (suc i) = zeros n i
-
--- zeros behind a list read as its end does
-zeros-behind : (s : List ℕ) (n i : ℕ) → getD (s ++ replicate n 0) i 0 ≡ getD s i 0
-zeros-behind [] n i = zeros n i
-zeros-behind (x ∷ s) n zero = refl
-zeros-behind (x ∷ s) n (suc i) = zeros-behind s n i
 
 -- the lane i of the block n
 pub block-lane : (p : List ℕ) (n i : ℕ) → i < 17 → laneAt p (136 * n + 8 * i) ≡ laneAt (block p n ++ replicate 64 0) (8 * i)

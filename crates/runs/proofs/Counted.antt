@@ -1,13 +1,14 @@
 -- A session counts the permutations that document 01 fixes for its place in the pattern, whatever its calls were.
 -- Assumes nothing.
-use mathlib.Core.Path.{_≡_, refl, ap, ap₂, _∙_}
+use mathlib.Core.Path.{_≡_, ap, ap₂, _∙_}
 use mathlib.Core.Bool.{true}
-use mathlib.Core.List.{List, [], _∷_, _++_}
-use Prim.Native.Nat.{ℕ, zero, suc, _+_, _-_}
+use mathlib.Core.List.{List, _++_}
+use Prim.Native.Nat.{ℕ, _+_, _-_}
 use lib.Dec.{eqb}
-use lib.ListN.{length, getD, replicate}
+use lib.ListN.{length, replicate}
 use Rattle.basics.specs.Numbers.{accepted}
 use Rattle.basics.proofs.Sums.{sum-same}
+use Rattle.basics.proofs.Zeros.{zeros-behind}
 use Rattle.tag.specs.Pattern.{lengthOf, mergedWords}
 use Rattle.session.specs.Record.{opened, openRecord}
 use Rattle.session.specs.Soundness.{phasePermutations, permutationsAt}
@@ -21,19 +22,12 @@ use Rattle.runs.proofs.Opened.{start-record, sound-run}
 use Rattle.runs.proofs.SamePattern.{same-left-by}
 
 -- unused words read as words past the end do
-padded-at : (ws : List ℕ) (n k : ℕ) → getD (ws ++ replicate n 0) k 0 ≡ getD ws k 0
-padded-at [] zero k = refl
-padded-at [] (suc n) zero = refl
-padded-at [] (suc n) (suc k) = padded-at [] n k
-padded-at (w ∷ ws) n zero = refl
-padded-at (w ∷ ws) n (suc k) = padded-at ws n k
-
 permutations-padded : (ws : List ℕ) (n phase done : ℕ) → permutationsAt (ws ++ replicate n 0) phase done ≡ permutationsAt ws phase done
 unfolding permutationsAt
 permutations-padded ws n phase done =
     ap₂ (λ (a b : ℕ). a + b)
-    (sum-same phase _ _ (λ k _. ap (λ (w : ℕ). phasePermutations w (lengthOf w)) (padded-at ws n k)))
-    (ap (λ (w : ℕ). phasePermutations w done) (padded-at ws n phase))
+    (sum-same phase _ _ (λ k _. ap (λ (w : ℕ). phasePermutations w (lengthOf w)) (zeros-behind ws n k)))
+    (ap (λ (w : ℕ). phasePermutations w done) (zeros-behind ws n phase))
 
 module _ (ws separator : List ℕ) (e : start ws separator .number ≡ accepted) where
   start-words : start ws separator .session .words ≡ mergedWords ws ++ replicate (64 - length (mergedWords ws)) 0

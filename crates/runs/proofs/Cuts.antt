@@ -10,7 +10,7 @@ use lib.Dec.{ltb, eqb}
 use lib.ListN.{length, length-append}
 use Rattle.basics.specs.Logic.{all}
 use Rattle.basics.specs.Numbers.{accepted}
-use Rattle.basics.proofs.Cases.{and-left, and-right, and-both}
+use Rattle.basics.proofs.Cases.{all-append}
 use Rattle.field.specs.Field.{p}
 use Rattle.session.specs.Record.{opened, squeezedOne, absorbOne, squeezeOne, absorbAll, squeezeAll, squeezedAll}
 use Rattle.session.specs.Calls.{giving, absorb, squeeze}
@@ -35,15 +35,10 @@ unfolding squeezeAll
 squeeze-all-add r zero m = ap (squeezeAll r) (zero-add m)
 squeeze-all-add r (suc n) m = ap (squeezeAll r) (suc-add n m) ∙ squeeze-all-add (squeezeOne r) n m
 
-pub squeezed-all-add : (r : Session) (n m : ℕ) → squeezedAll r (n + m) ≡ squeezedAll r n ++ squeezedAll (squeezeAll r n) m
+squeezed-all-add : (r : Session) (n m : ℕ) → squeezedAll r (n + m) ≡ squeezedAll r n ++ squeezedAll (squeezeAll r n) m
 unfolding squeezeAll squeezedAll
 squeezed-all-add r zero m = ap (squeezedAll r) (zero-add m)
 squeezed-all-add r (suc n) m = ap (squeezedAll r) (suc-add n m) ∙ ap (λ (l : List ℕ). squeezedOne r ∷ l) (squeezed-all-add (squeezeOne r) n m)
-
-all-append : (f : ℕ → Bool) (xs ys : List ℕ) → all f (xs ++ ys) ≡ true → (all f xs ≡ true) × (all f ys ≡ true)
-unfolding all
-all-append f [] ys e = (refl, e)
-all-append f (x ∷ xs) ys e = let rest = all-append f xs ys (and-right _ _ e) in (and-both _ _ (and-left _ _ e) (rest .0), rest .1)
 
 -- ---- the second part lies in the phase of the record that the first part leaves
 
@@ -120,6 +115,12 @@ module _ (r : Session) (n m : ℕ) (e : squeeze r (n + m) .number ≡ accepted) 
   pub squeeze-part : squeeze r n .number ≡ accepted
   unfolding giving
   squeeze-part = ap (λ (a : Answer). a .number) squeeze-first
+
+  -- what the second part writes stands behind what the first part does
+  pub squeezed-cut : squeezedAll r (n + m) ≡ squeezedAll r n ++ squeezedAll (squeeze r n .session) m
+  unfolding giving
+  squeezed-cut =
+      squeezed-all-add r n m ∙ ap (λ (a : Answer). squeezedAll r n ++ squeezedAll (a .session) m) (sym squeeze-first)
 
   pub squeeze-cut : squeeze (squeeze r n .session) m ≡ squeeze r (n + m)
   unfolding giving

@@ -17,6 +17,7 @@ use Rattle.session.specs.Record.{spongeOf, moved, phaseWord, nextPhase, nextDon
 use Rattle.session.specs.Soundness.{phasePermutations, permutationsAt, positionsAfter, positionsAt}
 use Rattle.session.specs.declared.Session.{Session}
 use Rattle.session.proofs.Elements.{sum-reduced}
+use Rattle.session.proofs.Counts.{wholePhase}
 use Rattle.runs.proofs.Positions.{position, no-permutations, positions-absorb, positions-squeeze, absorb-position, squeeze-position, squeeze-keeps-absorb}
 use Rattle.runs.proofs.ReadySponge.{Ready, ready-to-absorb, ready-to-squeeze}
 use Rattle.session.proofs.SoundRecord.{Sound, element-left}
@@ -25,7 +26,7 @@ use Rattle.runs.proofs.Places.{next-place}
 
 -- the permutations of the phases before the record's
 abbrev permutationsBefore : Session → ℕ
-permutationsBefore r = sum (r .phase) (λ k. phasePermutations (getD (r .words) k 0) (lengthOf (getD (r .words) k 0)))
+permutationsBefore r = sum (r .phase) (wholePhase (r .words))
 
 module _ (r : Session) (s : Sound r) (h : r .phase < r .count) where
   positions-next : positionsAt (r .words) (nextPhase r) (nextDone r) ≡ positionsAfter (phaseWord r) (suc (r .done))

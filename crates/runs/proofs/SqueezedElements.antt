@@ -2,14 +2,14 @@
 -- Assumes nothing.
 use mathlib.Core.Path.{_≡_, refl, ap, _∙_}
 use mathlib.Core.Bool.{true}
-use Prim.Native.Nat.{ℕ, zero, suc, _<_}
+use Prim.Native.Nat.{ℕ, zero, suc}
 use borrow.Author.Tests.{lt-ltb}
-use lib.Dec.{ltb, lit<}
+use lib.Dec.{lit<}
 use Rattle.basics.specs.Logic.{all}
 use Rattle.basics.proofs.Cases.{and-both}
 use Rattle.field.specs.Field.{p}
 use Rattle.poseidon.proofs.Bounds.{reduced-all}
-use Rattle.session.specs.Sponge.{Sponge, squeezeElement, squeezedElement}
+use Rattle.session.specs.Sponge.{Sponge}
 use Rattle.session.specs.Record.{spongeOf, moved, squeezeOne, squeezedOne, squeezedAll}
 use Rattle.session.specs.Steps.{stateFor, placeFor}
 use Rattle.session.specs.declared.Session.{Session}

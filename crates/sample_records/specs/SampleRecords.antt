@@ -35,15 +35,15 @@ unfoldable pub words7 : List ℕ
 words7 = 0x80000008 ∷ 8 ∷ 0x80000001 ∷ 1 ∷ []
 
 -- the record that START gives to words and the empty separator
-unfoldable pub opening : List ℕ → Session
-opening ws = start ws [] .session
+unfoldable pub startedRecord : List ℕ → Session
+startedRecord ws = start ws [] .session
 
 -- the records, with the digests computed
 unfoldable pub record4 : Session
 record4 = openRecord (tagState (428149845 ∷ 12180626 ∷ 512510949 ∷ 364062899 ∷ 130316680 ∷ 543458101 ∷ 1034516603 ∷ 309143001 ∷ [])) words4
 
-pub opening4 : opening words4 ≡ record4
-unfolding opening record4 words4 start giving startRecord openRecord tagState
+pub opening4 : startedRecord words4 ≡ record4
+unfolding startedRecord record4 words4 start giving startRecord openRecord tagState
     all any _and_ _or_ if_then_else_ same tabulate sum digits number numberAfter
     isAbsorb lengthOf phaseOf wordOf join merge phases mergedWords tooLong startNumber wordBytes tagString wordAt tagElements
     hash.bytes hash.pad10*1 hash.padded hash.laneAt hash.addBlock hash.absorb hash.byteOf hash.squeeze hash.sha3
@@ -54,8 +54,8 @@ opening4 = refl
 unfoldable pub record5 : Session
 record5 = openRecord (tagState (85647870 ∷ 98761955 ∷ 15749974 ∷ 142315807 ∷ 696686023 ∷ 357790836 ∷ 298503356 ∷ 48769929 ∷ [])) words5
 
-pub opening5 : opening words5 ≡ record5
-unfolding opening record5 words5 start giving startRecord openRecord tagState
+pub opening5 : startedRecord words5 ≡ record5
+unfolding startedRecord record5 words5 start giving startRecord openRecord tagState
     all any _and_ _or_ if_then_else_ same tabulate sum digits number numberAfter
     isAbsorb lengthOf phaseOf wordOf join merge phases mergedWords tooLong startNumber wordBytes tagString wordAt tagElements
     hash.bytes hash.pad10*1 hash.padded hash.laneAt hash.addBlock hash.absorb hash.byteOf hash.squeeze hash.sha3
@@ -66,8 +66,8 @@ opening5 = refl
 unfoldable pub record6 : Session
 record6 = openRecord (tagState (792278498 ∷ 865313857 ∷ 977898485 ∷ 843031537 ∷ 703915831 ∷ 827443881 ∷ 800229420 ∷ 1054256756 ∷ [])) words6
 
-pub opening6 : opening words6 ≡ record6
-unfolding opening record6 words6 start giving startRecord openRecord tagState
+pub opening6 : startedRecord words6 ≡ record6
+unfolding startedRecord record6 words6 start giving startRecord openRecord tagState
     all any _and_ _or_ if_then_else_ same tabulate sum digits number numberAfter
     isAbsorb lengthOf phaseOf wordOf join merge phases mergedWords tooLong startNumber wordBytes tagString wordAt tagElements
     hash.bytes hash.pad10*1 hash.padded hash.laneAt hash.addBlock hash.absorb hash.byteOf hash.squeeze hash.sha3
@@ -78,8 +78,8 @@ opening6 = refl
 unfoldable pub record7 : Session
 record7 = openRecord (tagState (474420294 ∷ 269102976 ∷ 1041140285 ∷ 746591247 ∷ 352671062 ∷ 218677777 ∷ 826832901 ∷ 480975037 ∷ [])) words7
 
-pub opening7 : opening words7 ≡ record7
-unfolding opening record7 words7 start giving startRecord openRecord tagState
+pub opening7 : startedRecord words7 ≡ record7
+unfolding startedRecord record7 words7 start giving startRecord openRecord tagState
     all any _and_ _or_ if_then_else_ same tabulate sum digits number numberAfter
     isAbsorb lengthOf phaseOf wordOf join merge phases mergedWords tooLong startNumber wordBytes tagString wordAt tagElements
     hash.bytes hash.pad10*1 hash.padded hash.laneAt hash.addBlock hash.absorb hash.byteOf hash.squeeze hash.sha3

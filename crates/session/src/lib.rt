@@ -11,7 +11,7 @@ ghost use Rattle.session.specs.Record.{wiped, moved, absorbAll, squeezeA
 ghost use Rattle.session.specs.Soundness.{sound};
 ghost use Rattle.session.specs.Steps.{sponge, phaseAfter, doneAfter, Within};
 
-// The record of a session. Any contents at all may be handed over: a call looks at them before it uses them.
+// The record of a session, laid out as C does it. Any contents at all may be handed over: a call looks at them before it uses them.
 #[repr(C)]
 pub struct Session {
     // OPEN, otherwise closed
@@ -91,6 +91,7 @@ impl Session {
             return wipe(merged.number);
         }
         let merged_words = merged.words;
+        // room for 64 words of 4 bytes and a separator of 256
         let mut string = [0u8; 512];
         let written = tag::write(words, separator, &mut string);
         let length = written.length;

@@ -3,13 +3,91 @@
 // `safe_oracle.py`, in Python, written from document 01 by other hands.
 
 ghost use mathlib.Core.Path.{_≡_};
-ghost use Prim.Native.Nat.{_≤_, _<_};
+ghost use Prim.Native.Nat.{_+_, _≤_, _<_};
 ghost use lib.ListN.{length};
+
+// The bytes that a field of hexadecimal digits writes, how many, and the place behind the field.
+struct Field {
+    bytes: [u8; 1024],
+    count: usize,
+    next: usize,
+}
 
 // The record that a line leaves, and the place behind the line.
 struct Step {
     record: session::Session,
     next: usize,
+}
+
+fn digit(byte: u8) -> u8
+    ensures { λ r. ⌜ r < 16 ⌝ }
+{
+    if byte < 58 {
+        return byte % 16;
+    }
+    (byte % 16 + 9) % 16
+}
+
+// The byte that two digits at a place write, and 0 behind the text.
+fn byte_at(text: &[u8], at: usize) -> u8
+    requires { ⌜ at ≤ 1070000 ⌝ }
+{
+    if text.len() < at + 2 {
+        return 0;
+    }
+    digit(text[at]) * 16 + digit(text[at + 1])
+}
+
+// How many pairs of digits stand at a place, at most 1024. A byte below the digits, as a space or a newline, ends them.
+fn pairs(text: &[u8], at: usize) -> usize
+    requires { ⌜ at ≤ 1060000 ⌝ }
+    ensures { λ r. ⌜ r ≤ 1024 ⌝ }
+{
+    let mut count: usize = 0;
+    while count < 1024 {
+        let from = at + 2 * count;
+        if text.len() < from + 2 {
+            return count;
+        }
+        if text[from] < 48 {
+            return count;
+        }
+        count += 1;
+    }
+    count
+}
+
+fn field_at(text: &[u8], at: usize) -> Field
+    requires { ⌜ at ≤ 1060000 ⌝ }
+    ensures { λ r. ⌜ (r .count ≤ length (r .bytes)) × (length (r .bytes) ≡ 1024) × (at < r .next) × (r .next ≤ at + 2049) ⌝ }
+{
+    let count = pairs(text, at);
+    let mut bytes = [0u8; 1024];
+    for i in 0..count {
+        bytes[i] = byte_at(text, at + 2 * i);
+    }
+    Field {
+        bytes,
+        count,
+        next: at + 2 * count + 1,
+    }
+}
+
+fn word(b0: u8, b1: u8, b2: u8, b3: u8) -> u32 {
+    b0 as u32 * 0x100_0000 + b1 as u32 * 0x1_0000 + b2 as u32 * 0x100 + b3 as u32
+}
+
+fn words_of(bytes: &[u8; 1024]) -> [u32; 256] {
+    let mut words = [0u32; 256];
+    for i in 0..256 {
+        words[i] = word(
+            bytes[4 * i],
+            bytes[4 * i + 1],
+            bytes[4 * i + 2],
+            bytes[4 * i + 3],
+        );
+    }
+    words
 }
 
 fn joined(high: u32, low: u32) -> u64 {
@@ -135,11 +213,12 @@ fn print_answer(old: session::Session, answer: session::Answer) {
 }
 
 fn start_line(text: &[u8], at: usize, record: session::Session) -> Step
-    ensures { λ r. ⌜ at ≤ r .next ⌝ }
+    requires { ⌜ at ≤ 1048578 ⌝ }
+    ensures { λ r. ⌜ at < r .next ⌝ }
 {
-    let first = vector_fields::field_at(text, at);
-    let second = vector_fields::field_at(text, first.next);
-    let words = vector_fields::words_of(&first.bytes);
+    let first = field_at(text, at);
+    let second = field_at(text, first.next);
+    let words = words_of(&first.bytes);
     let count = first.count / 4;
     let separator = second.bytes;
     let length = second.count;
@@ -153,10 +232,11 @@ fn start_line(text: &[u8], at: usize, record: session::Session) -> Step
 }
 
 fn absorb_line(text: &[u8], at: usize, record: session::Session) -> Step
-    ensures { λ r. ⌜ at ≤ r .next ⌝ }
+    requires { ⌜ at ≤ 1048578 ⌝ }
+    ensures { λ r. ⌜ at < r .next ⌝ }
 {
-    let field = vector_fields::field_at(text, at);
-    let elements = vector_fields::words_of(&field.bytes);
+    let field = field_at(text, at);
+    let elements = words_of(&field.bytes);
     let count = field.count / 4;
     let answer = record.absorb_step(&elements[..count]);
     print_answer(record, answer);
@@ -168,10 +248,11 @@ fn absorb_line(text: &[u8], at: usize, record: session::Session) -> Step
 }
 
 fn squeeze_line(text: &[u8], at: usize, record: session::Session) -> Step
-    ensures { λ r. ⌜ at ≤ r .next ⌝ }
+    requires { ⌜ at ≤ 1048578 ⌝ }
+    ensures { λ r. ⌜ at < r .next ⌝ }
 {
-    let field = vector_fields::field_at(text, at);
-    let mut buffer = vector_fields::words_of(&field.bytes);
+    let field = field_at(text, at);
+    let mut buffer = words_of(&field.bytes);
     let count = field.count / 4;
     let answer = record.squeeze_step(&mut buffer[..count]);
     print_answer(record, answer);
@@ -184,29 +265,30 @@ fn squeeze_line(text: &[u8], at: usize, record: session::Session) -> Step
     }
 }
 
-// Such a line has no field, so that the place is behind it already.
 fn finish_line(at: usize, record: session::Session) -> Step
-    ensures { λ r. ⌜ at ≤ r .next ⌝ }
+    requires { ⌜ at ≤ 1048578 ⌝ }
+    ensures { λ r. ⌜ at < r .next ⌝ }
 {
     let answer = record.finish_step();
     print_answer(record, answer);
     let left = answer.session;
     Step {
         record: left,
-        next: at,
+        next: at + 1,
     }
 }
 
 // The record that a line writes.
 fn record_at(text: &[u8], at: usize) -> Step
-    ensures { λ r. ⌜ at ≤ r .next ⌝ }
+    requires { ⌜ at ≤ 1048578 ⌝ }
+    ensures { λ r. ⌜ at < r .next ⌝ }
 {
-    let first = vector_fields::field_at(text, at);
-    let second = vector_fields::field_at(text, first.next);
-    let third = vector_fields::field_at(text, second.next);
-    let numbers = vector_fields::words_of(&first.bytes);
-    let state = vector_fields::words_of(&second.bytes);
-    let words = vector_fields::words_of(&third.bytes);
+    let first = field_at(text, at);
+    let second = field_at(text, first.next);
+    let third = field_at(text, second.next);
+    let numbers = words_of(&first.bytes);
+    let state = words_of(&second.bytes);
+    let words = words_of(&third.bytes);
     Step {
         record: record_in(&numbers, &state, &words),
         next: third.next,
@@ -214,7 +296,8 @@ fn record_at(text: &[u8], at: usize) -> Step
 }
 
 fn record_line(text: &[u8], at: usize, record: session::Session) -> Step
-    ensures { λ r. ⌜ at ≤ r .next ⌝ }
+    requires { ⌜ at ≤ 1048578 ⌝ }
+    ensures { λ r. ⌜ at < r .next ⌝ }
 {
     let step = record_at(text, at);
     print_record(record, step.record);
@@ -238,7 +321,7 @@ fn run_line(text: &[u8], at: usize, record: session::Session) -> Step
         return squeeze_line(text, at + 2, record);
     }
     if kind == b'f' {
-        return finish_line(at + 2, record);
+        return finish_line(at + 1, record);
     }
     record_line(text, at + 2, record)
 }

@@ -1,13 +1,12 @@
--- `vector_fields::pairs` meets its contract.
+-- `session_vectors::pairs` is safe and ends.
 -- Assumes nothing.
-use Prim.Native.Nat.{_+_, _*_, _-_, _≤_}
-use lib.ListN.{length}
+use Prim.Native.Nat.{_-_, _≤_}
 use borrow.Author.Needs.{needs}
-use Rattle.vector_fields.proofs.pairs.Statement.{statement}
-use Rattle.vector_fields.proofs.pairs.Tie as tie
+use Rattle.session_vectors.proofs.pairs.Statement.{statement}
+use Rattle.session_vectors.proofs.pairs.Tie as tie
 
 abbrev Inv-loop : tie.InvT-loop
-Inv-loop text at count₀ count = (count ≤ 1024) × (at + 2 * count ≤ length text)
+Inv-loop text at count₀ count = count ≤ 1024
 
 abbrev μ-loop : tie.MeasureT-loop
 μ-loop text at count₀ count = 1024 - count

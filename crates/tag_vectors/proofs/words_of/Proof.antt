@@ -1,35 +1,38 @@
--- `vector_fields::field_at` meets its contract.
+-- `tag_vectors::words_of` is safe and ends.
 -- Assumes nothing.
 use Prim.Native.Nat.{_-_, _≤_}
-use mathlib.Core.Path.{_≡_}
-use lib.ListN.{length}
 use borrow.Author.Needs.{needs}
-use Rattle.vector_fields.proofs.field_at.Statement.{statement}
-use Rattle.vector_fields.proofs.field_at.Tie as tie
+use Rattle.tag_vectors.proofs.words_of.Statement.{statement}
+use Rattle.tag_vectors.proofs.words_of.Tie as tie
 
 abbrev Inv-loop : tie.InvT-loop
-Inv-loop text at bytes₀ count i₀ bytes i = (i ≤ count) × (length bytes ≡ 1024)
+Inv-loop bytes words₀ i₀ words i = i ≤ 256
 
 abbrev μ-loop : tie.MeasureT-loop
-μ-loop text at bytes₀ count i₀ bytes i = count - i
+μ-loop bytes words₀ i₀ words i = 256 - i
 
-pub field-at-spec : {M : Type 1} → statement M
-field-at-spec =
+pub words-of-spec : {M : Type 1} → statement M
+words-of-spec =
     tie.close
     (tie.spec
     Inv-loop
     μ-loop
     (λ c. search needs)
+    (λ c. search needs)
+    (λ c. search needs)
+    (λ c. search needs)
+    (λ c. search needs)
+    (λ c. search needs)
+    (λ c. search needs)
+    (λ c. search needs)
+    (λ c. search needs)
+    (λ c. search needs)
+    (λ c. search needs)
+    (λ c. search needs)
     (λ c κs. search needs)
     (λ c. search needs)
     (λ c. search needs)
     (λ c. search needs)
-    (λ c κs. search needs)
     (λ c. search needs)
     (λ c. search needs)
-    (λ c. search needs)
-    (λ c. search needs)
-    (λ c. search needs)
-    (λ c. search needs)
-    (λ c κs. search needs)
     (λ c. search needs))

@@ -1,9 +1,9 @@
--- `vector_fields::words_of` meets its contract.
+-- `session_vectors::words_of` is safe and ends.
 -- Assumes nothing.
 use Prim.Native.Nat.{_-_, _≤_}
 use borrow.Author.Needs.{needs}
-use Rattle.vector_fields.proofs.words_of.Statement.{statement}
-use Rattle.vector_fields.proofs.words_of.Tie as tie
+use Rattle.session_vectors.proofs.words_of.Statement.{statement}
+use Rattle.session_vectors.proofs.words_of.Tie as tie
 
 abbrev Inv-loop : tie.InvT-loop
 Inv-loop bytes words₀ i₀ words i = i ≤ 256
