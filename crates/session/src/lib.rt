@@ -137,8 +137,7 @@ impl Session {
 
     // SQUEEZE: fills a buffer with elements.
     pub fn squeeze_step(self, output: &mut [u32]) -> Answer
-        ensures { λ r. ⌜ r ≡ squeeze self (length (now (output .entry))) ⌝ }
-        ensures { λ _. ⌜ now (output .exit) ≡ squeezeBuffer self (now (output .entry)) ⌝ }
+        ensures { λ r. ⌜ (r ≡ squeeze self (length (now (output .entry)))) × (now (output .exit) ≡ squeezeBuffer self (now (output .entry))) ⌝ }
     {
         if self.status != OPEN {
             return leave(basics::RECORD_NOT_OPEN, self);
@@ -169,6 +168,33 @@ impl Session {
             return wipe(basics::PATTERN_NOT_DONE);
         }
         wipe(basics::ACCEPTED)
+    }
+
+    // ABSORB on the caller's own record.
+    pub fn absorb(&mut self, input: &[u32]) -> u32
+        ensures { λ r. ⌜ (r ≡ absorb (now (self .entry)) (now (input .entry)) .number) × (now (self .exit) ≡ absorb (now (self .entry)) (now (input .entry)) .session) ⌝ }
+    {
+        let answer = (*self).absorb_step(input);
+        *self = answer.session;
+        answer.number
+    }
+
+    // SQUEEZE on the caller's own record.
+    pub fn squeeze(&mut self, output: &mut [u32]) -> u32
+        ensures { λ r. ⌜ (r ≡ squeeze (now (self .entry)) (length (now (output .entry))) .number) × (now (self .exit) ≡ squeeze (now (self .entry)) (length (now (output .entry))) .session) × (now (output .exit) ≡ squeezeBuffer (now (self .entry)) (now (output .entry))) ⌝ }
+    {
+        let answer = (*self).squeeze_step(output);
+        *self = answer.session;
+        answer.number
+    }
+
+    // FINISH of the caller's own record.
+    pub fn finish(&mut self) -> u32
+        ensures { λ r. ⌜ (r ≡ finish (now (self .entry)) .number) × (now (self .exit) ≡ finish (now (self .entry)) .session) ⌝ }
+    {
+        let answer = (*self).finish_step();
+        *self = answer.session;
+        answer.number
     }
 
     // Whether the record is sound.

@@ -1,0 +1,15 @@
+-- `tuilarder::tuilarder_read_tag` meets its contract.
+-- Assumes nothing.
+use mathlib.Core.Path.{ap}
+use borrow.Author.Needs.{needs}
+use Rattle.tag.specs.declared.Merged.{Merged}
+use Rattle.tuilarder.proofs.tuilarder_read_tag.Statement.{statement}
+use Rattle.tuilarder.proofs.tuilarder_read_tag.Tie as tie
+
+returns : tie.Need-returns
+returns c =
+    let read = c .before .read .ensures
+    in (ap (λ (r : Merged). r .number) read, ap (λ (r : Merged). r .words) read, ap (λ (r : Merged). r .count) read)
+
+pub tuilarder-read-tag-spec : {M : Type 1} → statement M
+tuilarder-read-tag-spec = tie.close (tie.spec (λ c κs. search needs) returns)
