@@ -7,3 +7,4 @@ pub mod SoundPattern
 pub mod Places
 pub mod Opening
 pub mod Buffers
+pub mod LentRecord

@@ -1,4 +1,5 @@
--- `tuilarder_start` meets its contract: a walk of its MIR, by hand. A copy of each slice is passed to `Session::start`; the borrow is opened, what the call returned is stored behind it, and it is closed at the new record.
+-- `tuilarder_start` meets its contract: a walk of its MIR, by hand. A copy of each slice is passed to `Session::start`; the borrow is
+-- opened, what the call returned is stored behind it, and it is closed at the new record.
 -- All that the proof knows of `Session::start` is that it meets its contract.
 -- Assumes nothing.
 use mathlib.Core.Path.{_≡_, refl, ap}
@@ -17,37 +18,40 @@ use prog.Wp.{Heap, Calls, Loops, WpFn, Tables}
 use ghost.Atoms.{Atoms, sem}
 use contract.Monad.{Fun, fact}
 use contract.Running.{givenOf, tables, tablesOf}
-use types.Kit.{Given, ‵, raw, ⋆, some, later, _⊛_, _$_, _∵_, !, qed, by, move, keep, drop, use1, use3, split, join, pick, rewrite, fsplit, fsplit3, fjoin, fjoin3, feqI, suffices, frame, await, done}
-use types.Run.{look, init, store, forget, stop, hop, fld, from, load, of-opd, and-then, no-more, assigns, land, returns, enter, alloc1, alloc0, params1, pass1, pass0, free1, free0}
+use types.Kit.{Given, ‵, raw, ⋆, some, later, _⊛_, _$_, _∵_, !, qed, by, move, keep, drop}
+use types.Kit.{use1, use3, split, join, pick, rewrite, fsplit, fsplit3, fjoin, fjoin3, feqI, suffices, frame, await, done}
+use types.Run.{look, init, store, forget, stop, hop, fld, from, load, of-opd, and-then}
+use types.Run.{no-more, assigns, land, returns, enter, alloc1, alloc0, params1, pass1, pass0, free1, free0}
 use types.Part.{whole, sub, look-in}
 use types.SemTy.{Body}
 use sound.WpLaws.{FmC, fmOf, WpFn-mono}
 use denote.RattleType.{owns}
 use denote.Laws.{Is, shows}
-use denote.Memory.{mem, cellAt}
+use denote.Memory.{mem}
 use denote.Plain.{uint-makes}
 use denote.Builtin.{u8, u32}
 use denote.Ref.{RefT, ptr, now, MutRef, ptr-vals, mut-tells}
 use denote.Slice.{sliceVal, ShrSlice, Room, slice-vals, shr-slice-tells, shr-slice-copy}
 use denote.Signature.{plain}
-use denote.Steps.{only, opens, closes, owned, peeks, heard, nothing}
-use denote.Struct.Steps.{spelt}
-use denote.Struct.Laws as LL
+use denote.Steps.{only, owned, peeks, heard, nothing}
+use denote.Struct.Laws as laws
 use denote.Triple.Entry.{onEntry}
 use denote.Triple.Spec.{Meets, tripleOf}
 use denote.Triple.Statement.{Contract, Triple}
 use denote.Triple.Call.{calls-at}
 use denote.Triple.Clauses.{ensured, lasts}
 use denote.Triple.Table.{entered, cited}
-use denote.Triple.Walked.{says, Stays, stay-ref, stay-none-slice, walkOf, AllGo, goes-ref, goes-none-slice, Walks, ends-at, walked, walk-meets}
+use denote.Triple.Walked.{says, Stays, stay-ref, stay-none-slice, walkOf, AllGo}
+use denote.Triple.Walked.{goes-ref, goes-none-slice, Walks, ends-at, walked, walk-meets}
 use denote.Exit.{yes}
 use Rattle.session.specs.declared.Session.{Session}
 use Rattle.session.specs.declared.Answer.{Answer}
 use Rattle.session.specs.Calls.{start}
-use Rattle.session.proofs.Session as T
-use Rattle.session.proofs.Session.Laws as T′
-use Rattle.session.proofs.Answer as N
-use Rattle.session.proofs.Answer.Laws as N′
+use Rattle.session.proofs.LentRecord.{number-fits, session-is, opens-record, closes-record}
+use Rattle.session.proofs.Session as session
+use Rattle.session.proofs.Session.Laws as session-laws
+use Rattle.session.proofs.Answer as answer
+use Rattle.session.proofs.Answer.Laws as answer-laws
 use Rattle.session.proofs.Session.start as step
 use Rattle.session.proofs.Session.start.Symbol as step-def
 use Rattle.session.proofs.Session.start.Symbol.{name as #step}
@@ -61,7 +65,10 @@ abbrev Arg : Type 0
 Arg = RefT Session × (RefT (List ℕ) × (RefT (List ℕ) × Unit {0}))
 
 abbrev stayed : Stays (f.ended .signature .params) (f.ended .kept)
-stayed = (stay-ref (0 ∷ []) tt (plain (λ _. T.the-row)), (stay-none-slice (1 ∷ []) tt (plain (λ _. u32)) yes, (stay-none-slice (2 ∷ []) tt (plain (λ _. u8)) yes, tt)))
+stayed = (
+  stay-ref (0 ∷ []) tt (plain (λ _. session.the-row)),
+  (stay-none-slice (1 ∷ []) tt (plain (λ _. u32)) yes, (stay-none-slice (2 ∷ []) tt (plain (λ _. u8)) yes, tt)),
+)
 
 module _ {M : Type 1} (𝓤 : URA M) (H : Heap 𝓤) (A : Atoms 𝓤) (at-mem : Memory → SProp 𝓤) (run : Routine → Fun 𝓤) where
   -- the contract that the proof cites
@@ -69,19 +76,19 @@ module _ {M : Type 1} (𝓤 : URA M) (H : Heap 𝓤) (A : Atoms 𝓤) (at-mem : 
   Step = tripleOf 𝓤 H A step.signature (step.spec 𝓤 H A at-mem run)
 
   -- of the callee's `ensured`, the clause alone: it has no `&mut`, so what is said of last values is dropped
-  step-of : (κ₁ κ₂ : Lft) (y z : RefT (List ℕ)) (r : Answer) → ent 𝓤 (ensured 𝓤 H A step.ended (step.clauses 𝓤 H A at-mem run) (κ₁, (κ₂, tt)) (y, (z, tt)) tt r) (fact 𝓤 (r ≡ start (now y) (now z)))
-  step-of κ₁ κ₂ y z r = exE 𝓤 _ (λ ws. snd∗ 𝓤 (sem 𝓤 H A (lasts step.ended (κ₁, (κ₂, tt)) (y, (z, tt)) ws)) (fact 𝓤 (r ≡ start (now y) (now z))))
+  step-of : (κ₁ κ₂ : Lft) (y z : RefT (List ℕ)) (r : Answer)
+      → ent 𝓤 (ensured 𝓤 H A step.ended (step.clauses 𝓤 H A at-mem run) (κ₁, (κ₂, tt)) (y, (z, tt)) tt r)
+      (fact 𝓤 (r ≡ start (now y) (now z)))
+  step-of κ₁ κ₂ y z r =
+      exE 𝓤 _ (λ ws. snd∗ 𝓤 (sem 𝓤 H A (lasts step.ended (κ₁, (κ₂, tt)) (y, (z, tt)) ws)) (fact 𝓤 (r ≡ start (now y) (now z))))
 
-module _ {M : Type 1} (𝓤 : URA M) (H : Heap 𝓤) (A : Atoms 𝓤) (W : Given 𝓤 H A) (at-mem : Memory → SProp 𝓤) (run : Routine → Fun 𝓤) (κ κ₁ κ₂ : Lft) (q q₁ q₂ : Share) (b o : ℕ) (γ : GName) (h : Session) (y z : RefT (List ℕ)) where
+module _ {M : Type 1} (𝓤 : URA M) (H : Heap 𝓤) (A : Atoms 𝓤) (W : Given 𝓤 H A) (at-mem : Memory → SProp 𝓤) (run : Routine → Fun 𝓤)
+    (κ κ₁ κ₂ : Lft) (q q₁ q₂ : Share) (b o : ℕ) (γ : GName) (h : Session) (y z : RefT (List ℕ)) where
   abbrev x : Arg
   x = (record { ptr = (b, o); name = γ; now = h }, (y, (z, tt)))
 
   abbrev at : List Val × (List Val × (List Val × Unit {0}))
   at = (vptr b o ∷ [], (slice-vals y, (slice-vals z, tt)))
-
-  -- the machine value of a record
-  abbrev mach : Session → Val
-  mach d = LL.val T.the-type T′.the-laws d
 
   -- what each slice owns
   abbrev S : Fml
@@ -96,71 +103,101 @@ module _ {M : Type 1} (𝓤 : URA M) (H : Heap 𝓤) (A : Atoms 𝓤) (W : Given
   abbrev to-step : Step 𝓤 H A at-mem run .Ghost
   to-step = (((κ₁, (κ₂, tt)), (q₁, (q₂, tt)), tt, (y, (z, tt)), (slice-vals y, (slice-vals z, tt))), tt)
 
-  goes-step : ent 𝓤 (sep 𝓤 (sep 𝓤 (A .lft κ₁ q₁) (sep 𝓤 (A .lft κ₂ q₂) (sem 𝓤 H A ftrue))) (sep 𝓤 (sem 𝓤 H A S) (sem 𝓤 H A P))) (Step 𝓤 H A at-mem run .pre to-step)
+  goes-step : ent 𝓤 (sep 𝓤 (sep 𝓤 (A .lft κ₁ q₁) (sep 𝓤 (A .lft κ₂ q₂) (sem 𝓤 H A ftrue))) (sep 𝓤 (sem 𝓤 H A S) (sem 𝓤 H A P)))
+      (Step 𝓤 H A at-mem run .pre to-step)
   goes-step =
       qed W ((‵ (flft κ₁ q₁) ⊛ ‵ (flft κ₂ q₂) ⊛ ‵ ftrue) ∷ ‵ S ∷ ‵ P ∷ []) ∵
       nothing ! $ move ! (3 ∷ 0 ∷ []) $ fjoin ! $ move ! (2 ∷ 0 ∷ []) $ fjoin ! $ move ! (1 ∷ 0 ∷ []) $ join ! $ frame ! $ done !
 
   exits : (r : Answer) → r ≡ start (now y) (now z) → r .number < 2 ^ 32
-      → ent 𝓤 (⋆ 𝓤 H A (‵ (fobs γ (T.the-row .coded .code (r .session))) ∷ ‵ (fbor κ (Body (mem T.the-row) b o γ)) ∷ ‵ (flft κ q) ∷ (‵ (flft κ₁ q₁) ⊛ ‵ (flft κ₂ q₂) ⊛ ‵ ftrue) ∷ ‵ S ∷ ‵ P ∷ [])) (Post (vint w32 (r .number)))
+      → ent 𝓤 (⋆ 𝓤 H A (‵ (fobs γ (session.the-row .coded .code (r .session))) ∷ ‵ (fbor κ (Body (mem session.the-row) b o γ)) ∷ ‵
+      (flft κ q) ∷ (‵ (flft κ₁ q₁) ⊛ ‵ (flft κ₂ q₂) ⊛ ‵ ftrue) ∷ ‵ S ∷ ‵ P ∷ [])) (Post (vint w32 (r .number)))
   exits r e fits =
-      qed W (‵ (fobs γ (T.the-row .coded .code (r .session))) ∷ ‵ (fbor κ (Body (mem T.the-row) b o γ)) ∷ ‵ (flft κ q) ∷ (‵ (flft κ₁ q₁) ⊛ ‵ (flft κ₂ q₂) ⊛ ‵ ftrue) ∷ ‵ S ∷ ‵ P ∷ []) ∵
-      suffices ! _ (ends-at 𝓤 H A f.ended stayed (f.clauses 𝓤 H A at-mem run) W (((κ, (κ₁, (κ₂, tt))), (q, (q₁, (q₂, tt))), tt, x, at), tt) (vint w32 (r .number)) (r .number) (r .session, (tt, (tt, tt))) (tt, (tt, (tt, tt)))) $
+      qed W (‵ (fobs γ (session.the-row .coded .code (r .session))) ∷ ‵ (fbor κ (Body (mem session.the-row) b o γ)) ∷ ‵ (flft κ q) ∷
+      (‵ (flft κ₁ q₁) ⊛ ‵ (flft κ₂ q₂) ⊛ ‵ ftrue) ∷ ‵ S ∷ ‵ P ∷ []) ∵
+      suffices ! _ (ends-at 𝓤 H A f.ended stayed (f.clauses 𝓤 H A at-mem run) W (((κ, (κ₁, (κ₂, tt))), (q, (q₁, (q₂, tt))), tt, x, at), tt)
+      (vint w32 (r .number)) (r .number) (r .session, (tt, (tt, tt))) (tt, (tt, (tt, tt)))) $
       says ! (ap (λ (d : Answer). d .number) e, ap (λ (d : Answer). d .session) e) $
-      move ! (2 ∷ 3 ∷ []) $ join ! $ frame ! $ feqI ! (List Val) (vptr b o ∷ []) (vptr b o ∷ []) refl $ fjoin3 ! $ nothing ! $ move ! (3 ∷ 0 ∷ []) $ fjoin ! $ move ! (2 ∷ 0 ∷ []) $ fjoin ! $ move ! (1 ∷ 0 ∷ []) $ fjoin ! $ frame ! $
+      move ! (2 ∷ 3 ∷ []) $ join ! $ frame ! $ feqI ! (List Val) (vptr b o ∷ []) (vptr b o ∷ []) refl $ fjoin3 ! $ nothing ! $
+      move ! (3 ∷ 0 ∷ []) $ fjoin ! $ move ! (2 ∷ 0 ∷ []) $ fjoin ! $ move ! (1 ∷ 0 ∷ []) $ fjoin ! $ frame ! $
       owned ! u32 (Is u32) (uint-makes 𝓤 H A W w32) (r .number) _ (refl, fits) $ done !
 
-  -- what whoever holds the answer knows of its fields
-  number-fits : (r : Answer) (w : Val) → Is N.the-row r (w ∷ []) → r .number < 2 ^ 32
-  number-fits r w is = LL.owed N.the-type N′.the-laws r _ is .0 .1
-
-  session-is : (r : Answer) (w : Val) → Is N.the-row r (w ∷ []) → Is T.the-row (r .session) (mach (r .session) ∷ [])
-  session-is r w is = LL.owed N.the-type N′.the-laws r _ is .1 .0
-
   module _ (C : Calls 𝓤 H) (Λ : Loops 𝓤 H) (fm : FmC 𝓤 H (W .laws) C) (known : Triple 𝓤 (C #step) (Step 𝓤 H A at-mem run)) where
-    walk : Room u32 (length (now y)) → Room u8 (length (now z)) → ent 𝓤 (onEntry 𝓤 H A f.signature (κ, (κ₁, (κ₂, tt))) (q, (q₁, (q₂, tt))) x at) (WpFn 𝓤 H C Λ code.function (vptr b o ∷ sliceVal (ptr y) (length (now y)) ∷ slice-vals z) Post)
+    walk : Room u32 (length (now y)) → Room u8 (length (now z))
+        → ent 𝓤 (onEntry 𝓤 H A f.signature (κ, (κ₁, (κ₂, tt))) (q, (q₁, (q₂, tt))) x at)
+        (WpFn 𝓤 H C Λ code.function (vptr b o ∷ sliceVal (ptr y) (length (now y)) ∷ slice-vals z) Post)
     walk room room′ =
-        qed W ((‵ (flft κ q) ⊛ ‵ (flft κ₁ q₁) ⊛ ‵ (flft κ₂ q₂) ⊛ ‵ ftrue) ∷ ‵ (owns (MutRef (named 0) κ T.the-row ∷ ShrSlice (named 1) κ₁ u32 ∷ ShrSlice (named 2) κ₂ u8 ∷ []) x at) ∷ []) ∵ enter ! C Λ code.function (vptr b o ∷ sliceVal (ptr y) (length (now y)) ∷ slice-vals z) _ $
+        qed W ((‵ (flft κ q) ⊛ ‵ (flft κ₁ q₁) ⊛ ‵ (flft κ₂ q₂) ⊛ ‵ ftrue) ∷ ‵
+        (owns (MutRef (named 0) κ session.the-row ∷ ShrSlice (named 1) κ₁ u32 ∷ ShrSlice
+        (named 2) κ₂ u8 ∷ []) x at) ∷ []) ∵ enter ! C Λ code.function (vptr b o ∷ sliceVal (ptr y) (length (now y)) ∷ slice-vals z) _ $
         alloc1 ! (λ l₀. alloc1 ! (λ l₁. alloc1 ! (λ l₂. alloc1 ! (λ l₃. alloc1 ! (λ l₄. alloc0 ! $ params1 ! $
-        pass1 ! (init ! 6 refl (tt, tt)) $ pass1 ! (init ! 4 refl (tt, (tt, (record { fits = room .0 }, tt)))) $ pass1 ! (init ! 2 refl (tt, (tt, (record { fits = room′ .0 }, tt)))) $ pass0 ! $
+        pass1 ! (init ! 6 refl (tt, tt)) $ pass1 ! (init ! 4 refl (tt, (tt, (record { fits = room .0 }, tt)))) $
+        pass1 ! (init ! 2 refl (tt, (tt, (record { fits = room′ .0 }, tt)))) $ pass0 ! $
         -- [room for _4; …; _3; …; _2; …; _1; …; room for _0; …; the tokens; what s, words and sep own]: each slice is had twice
-        move ! (11 ∷ []) $ fsplit ! $ move ! (1 ∷ []) $ fsplit ! $ move ! (1 ∷ []) $ fsplit ! $ use1 W (‵ P ⊛ ‵ P) (shr-slice-copy 𝓤 H A W (named 2) κ₂ u8 .twice z (slice-vals z)) $ split ! $
-        move ! (3 ∷ []) $ use1 W (‵ S ⊛ ‵ S) (shr-slice-copy 𝓤 H A W (named 1) κ₁ u32 .twice y (slice-vals y)) $ split ! $ move ! (16 ∷ []) $ split ! $
+        move ! (11 ∷ []) $ fsplit ! $ move ! (1 ∷ []) $ fsplit ! $ move ! (1 ∷ []) $ fsplit ! $
+        use1 W (‵ P ⊛ ‵ P) (shr-slice-copy 𝓤 H A W (named 2) κ₂ u8 .twice z (slice-vals z)) $ split ! $
+        move ! (3 ∷ []) $ use1 W (‵ S ⊛ ‵ S) (shr-slice-copy 𝓤 H A W (named 1) κ₁ u32 .twice y (slice-vals y)) $ split ! $
+        move ! (16 ∷ []) $ split ! $
         -- [the token; the slices' tokens; words; words; sep; sep; true; what s owns; room for _4; …]: the call
         move ! (1 ∷ 2 ∷ 4 ∷ []) $ use3 W (raw (Step 𝓤 H A at-mem run .pre to-step)) goes-step $
-        calls-at ! fm (Step 𝓤 H A at-mem run) known to-step (and-then ! (load ! (from ! (stop !)) (look ! 10 refl)) (and-then ! (load ! (from ! (stop !)) (look ! 8 refl)) (no-more !))) (λ w.
-        use1 W (later (some (λ (r : Answer). ((‵ (flft κ₁ q₁) ⊛ ‵ (flft κ₂ q₂) ⊛ ‵ ftrue) ⊛ ‵ (N.the-row .own r (w ∷ []))) ⊛ raw (ensured 𝓤 H A step.ended (step.clauses 𝓤 H A at-mem run) (κ₁, (κ₂, tt)) (y, (z, tt)) tt r)))) (id⊢ 𝓤 _) $ await ! tt $ pick ! (λ r.
-        split ! $ move ! (1 ∷ []) $ use1 W (raw (fact 𝓤 (r ≡ start (now y) (now z)))) (step-of 𝓤 H A at-mem run κ₁ κ₂ y z r) $ heard ! (r ≡ start (now y) (now z)) (λ e. split ! $ move ! (1 ∷ []) $
-        -- [what the answer owns; the slices' tokens; the token; words; sep; true; what s owns; room for _4; …; _3; …; _2; …; _1; …; room for _0; …]
-        peeks ! N.the-row (Is N.the-row) (shows 𝓤 H A N.the-row) r (w ∷ []) (λ is.
-        land ! (from ! (stop !)) (init ! 7 refl (LL.lawful N.the-type N′.the-laws 𝓤 H A W .typed r _ is .0)) $
-        rewrite ! 7 (λ (u : Val). ‵ (fat fullShare N′.mir l₄ 0 u)) (ap only (LL.tells N.the-type N′.the-laws r _ is)) refl $
+        calls-at ! fm (Step 𝓤 H A at-mem run) known to-step
+        (and-then ! (load ! (from ! (stop !)) (look ! 10 refl)) (and-then ! (load ! (from ! (stop !)) (look ! 8 refl)) (no-more !)))
+        (λ w.
+        use1 W (later (some (λ (r : Answer). ((‵ (flft κ₁ q₁) ⊛ ‵ (flft κ₂ q₂) ⊛ ‵ ftrue) ⊛ ‵ (answer.the-row .own r (w ∷ []))) ⊛ raw
+        (ensured 𝓤 H A step.ended (step.clauses 𝓤 H A at-mem run) (κ₁, (κ₂, tt)) (y, (z, tt)) tt r)))) (id⊢ 𝓤 _) $ await ! tt $ pick !
+        (λ r.
+        split ! $ move ! (1 ∷ []) $ use1 W (raw (fact 𝓤 (r ≡ start (now y) (now z)))) (step-of 𝓤 H A at-mem run κ₁ κ₂ y z r) $
+        heard ! (r ≡ start (now y) (now z)) (λ e. split ! $ move ! (1 ∷ []) $
+        -- [what the answer owns; the slices' tokens; the token; words; sep; true; what s owns; room for _4; …; _3; …; _2; …; _1; …; room
+        -- for _0; …]
+        peeks ! answer.the-row (Is answer.the-row) (shows 𝓤 H A answer.the-row) r (w ∷ []) (λ is.
+        land ! (from ! (stop !)) (init ! 7 refl (laws.lawful answer.the-type answer-laws.the-laws 𝓤 H A W .typed r _ is .0)) $
+        rewrite ! 7 (λ (u : Val). ‵ (fat fullShare answer-laws.mir l₄ 0 u))
+        (ap only (laws.tells answer.the-type answer-laws.the-laws r _ is)) refl $
         -- the borrow is opened
         move ! (6 ∷ []) $ fsplit3 ! $ drop ! $ move ! (0 ∷ 1 ∷ 4 ∷ []) $
-        opens ! tt T.the-row {h = h} b o (λ vs. spelt ! T.the-row (Is T.the-row) (shows 𝓤 H A T.the-row) (LL.vals T.the-type T′.the-laws) (LL.tells T.the-type T′.the-laws) fullShare h vs b o $
-        use1 W (‵ (fat fullShare T′.mir b o (mach h))) (W .laws .raw-at fullShare T′.mir b o (mach h)) $
-        -- [the struct's cell; what a Session owns; the open borrow; obs; auth; what the answer owns; the slices' tokens; words; sep; true; _4; …; _3; …; _2; …; _1; …; room for _0; …]
-        assigns ! (of-opd ! (load ! (from ! (fld ! refl (stop !))) (look-in ! 10 (sub ! 1 refl (whole !))))) (from ! (hop ! (look ! 16 refl) (stop !))) (store ! 0 refl (LL.lawful T.the-type T′.the-laws 𝓤 H A W .typed (r .session) _ (session-is r w is) .0)) $
-        assigns ! (of-opd ! (load ! (from ! (fld ! refl (stop !))) (look-in ! 10 (sub ! 0 refl (whole !))))) (from ! (stop !)) (init ! 18 refl (tt, record { fits = number-fits r w is })) $
+        opens-record ! tt b o h (λ _.
+        -- [the struct's cell; what a Session owns; the open borrow; obs; auth; what the answer owns; the slices' tokens; words; sep; true;
+        -- _4; …; _3; …; _2; …; _1; …; room for _0; …]
+        assigns ! (of-opd ! (load ! (from ! (fld ! refl (stop !))) (look-in ! 10 (sub ! 1 refl (whole !)))))
+        (from ! (hop ! (look ! 16 refl) (stop !)))
+        (store ! 0 refl (laws.lawful session.the-type session-laws.the-laws 𝓤 H A W .typed (r .session) _ (session-is r w is) .0)) $
+        assigns ! (of-opd ! (load ! (from ! (fld ! refl (stop !))) (look-in ! 10 (sub ! 0 refl (whole !))))) (from ! (stop !))
+        (init ! 18 refl (tt, record { fits = number-fits r w is })) $
         -- the borrow is closed at the new record
-        move ! (1 ∷ []) $ drop ! $ owned ! T.the-row (Is T.the-row) (LL.makes T.the-type T′.the-plain 𝓤 H A) (r .session) _ (session-is r w is) $ move ! (1 ∷ 0 ∷ []) $
-        use1 W (‵ (cellAt fullShare (T.the-row .mir) (mach (r .session) ∷ []) b o)) (W .laws .at-raw fullShare T′.mir b o (mach (r .session))) $ closes ! tt T.the-row (r .session) (mach (r .session) ∷ []) b o $
+        move ! (1 ∷ []) $ drop ! $ closes-record ! tt b o (r .session) (session-is r w is) $
         -- [obs; the borrow; the token; what the answer owns; the slices' tokens; words; sep; true; _4; …; _3; …; _2; …; _1; …; _0; …]
         returns ! (look ! 16 refl) $ forget ! 8 refl $ forget ! 10 refl $ forget ! 12 refl $ forget ! 14 refl $ forget ! 16 refl $
-        move ! (16 ∷ 17 ∷ []) $ free1 ! $ move ! (14 ∷ 15 ∷ []) $ free1 ! $ move ! (12 ∷ 13 ∷ []) $ free1 ! $ move ! (10 ∷ 11 ∷ []) $ free1 ! $ move ! (8 ∷ 9 ∷ []) $ free1 ! $ free0 ! $
+        move ! (16 ∷ 17 ∷ []) $ free1 ! $ move ! (14 ∷ 15 ∷ []) $ free1 ! $ move ! (12 ∷ 13 ∷ []) $ free1 ! $ move ! (10 ∷ 11 ∷ []) $
+        free1 ! $ move ! (8 ∷ 9 ∷ []) $ free1 ! $ free0 ! $
         keep ! (0 ∷ 1 ∷ 2 ∷ 4 ∷ 5 ∷ 6 ∷ []) $ by ! (exits r e (number-fits r w is))))))))))))
 
 module _ {M : Type 1} (𝓤 : URA M) (H : Heap 𝓤) (A : Atoms 𝓤) (W : Given 𝓤 H A) (at-mem : Memory → SProp 𝓤) (run : Routine → Fun 𝓤) where
-  start-walks : (C : Calls 𝓤 H) (Λ : Loops 𝓤 H) → FmC 𝓤 H (W .laws) C → Triple 𝓤 (C #step) (Step 𝓤 H A at-mem run) → Walks 𝓤 H A f.ended stayed (WpFn 𝓤 H C Λ code.function) (f.clauses 𝓤 H A at-mem run)
-  start-walks C Λ fm known = walked 𝓤 H A f.ended stayed (f.clauses 𝓤 H A at-mem run) (WpFn 𝓤 H C Λ code.function) (λ κs. (ptr-vals, (slice-vals, (slice-vals, tt)))) (λ κs. (mut-tells (named 0) (κs .0) T.the-row, (shr-slice-tells (named 1) (κs .1 .0) u32, (shr-slice-tells (named 2) (κs .1 .1 .0) u8, tt))))
-      (λ κs qs bounds a _ are. via 𝓤 _ (fst∗ 𝓤 _ (emp 𝓤)) (walk 𝓤 H A W at-mem run (κs .0) (κs .1 .0) (κs .1 .1 .0) (qs .0) (qs .1 .0) (qs .1 .1 .0) (a .0 .ptr .0) (a .0 .ptr .1) (a .0 .name) (a .0 .now) (a .1 .0) (a .1 .1 .0) C Λ fm known (are .1 .0 .0 .1) (are .1 .1 .0 .0 .1)))
+  start-walks : (C : Calls 𝓤 H) (Λ : Loops 𝓤 H) → FmC 𝓤 H (W .laws) C → Triple 𝓤 (C #step) (Step 𝓤 H A at-mem run)
+      → Walks 𝓤 H A f.ended stayed (WpFn 𝓤 H C Λ code.function) (f.clauses 𝓤 H A at-mem run)
+  start-walks C Λ fm known =
+      walked 𝓤 H A f.ended stayed (f.clauses 𝓤 H A at-mem run) (WpFn 𝓤 H C Λ code.function)
+      (λ κs. (ptr-vals, (slice-vals, (slice-vals, tt))))
+      (λ κs. (
+        mut-tells (named 0) (κs .0) session.the-row,
+        (shr-slice-tells (named 1) (κs .1 .0) u32, (shr-slice-tells (named 2) (κs .1 .1 .0) u8, tt)),
+      ))
+      (λ κs qs bounds a _ are. via 𝓤 _ (fst∗ 𝓤 _ (emp 𝓤))
+      (walk 𝓤 H A W at-mem run (κs .0) (κs .1 .0) (κs .1 .1 .0) (qs .0) (qs .1 .0) (qs .1 .1 .0) (a .0 .ptr .0) (a .0 .ptr .1)
+      (a .0 .name) (a .0 .now) (a .1 .0) (a .1 .1 .0) C Λ fm known (are .1 .0 .0 .1) (are .1 .1 .0 .0 .1)))
 
   goes : AllGo 𝓤 H A W 3 (f.signature .params) (f.ended .kept) stayed
-  goes = (goes-ref 𝓤 H A W 3 0 tt (plain (λ _. T.the-row)), (goes-none-slice 𝓤 H A W 3 (1 ∷ []) tt (plain (λ _. u32)) yes, (goes-none-slice 𝓤 H A W 3 (2 ∷ []) tt (plain (λ _. u8)) yes, tt)))
+  goes = (
+    goes-ref 𝓤 H A W 3 0 tt (plain (λ _. session.the-row)),
+    (goes-none-slice 𝓤 H A W 3 (1 ∷ []) tt (plain (λ _. u32)) yes, (goes-none-slice 𝓤 H A W 3 (2 ∷ []) tt (plain (λ _. u8)) yes, tt)),
+  )
 
-start-meets : {M : Type 1} (𝓤 : URA M) (H : Heap 𝓤) (A : Atoms 𝓤) → Given 𝓤 H A → (at-mem : Memory → SProp 𝓤) (run : Routine → Fun 𝓤) (𝓣 : Tables 𝓤 H) → Triple 𝓤 (𝓣 .C #step) (Step 𝓤 H A at-mem run)
+start-meets : {M : Type 1} (𝓤 : URA M) (H : Heap 𝓤) (A : Atoms 𝓤) → Given 𝓤 H A
+    → (at-mem : Memory → SProp 𝓤) (run : Routine → Fun 𝓤) (𝓣 : Tables 𝓤 H) → Triple 𝓤 (𝓣 .C #step) (Step 𝓤 H A at-mem run)
     → Meets 𝓤 H A f.signature (WpFn 𝓤 H (𝓣 .C) (𝓣 .Λ) code.function) (f.spec 𝓤 H A at-mem run)
-start-meets 𝓤 H A W at-mem run 𝓣 known = walk-meets 𝓤 H A f.ended stayed W (goes 𝓤 H A W at-mem run) (f.clauses 𝓤 H A at-mem run) (WpFn 𝓤 H (𝓣 .C) (𝓣 .Λ) code.function) (WpFn-mono 𝓤 H (W .laws) 𝓣 code.function)
+start-meets 𝓤 H A W at-mem run 𝓣 known =
+    walk-meets 𝓤 H A f.ended stayed W (goes 𝓤 H A W at-mem run) (f.clauses 𝓤 H A at-mem run) (WpFn 𝓤 H (𝓣 .C) (𝓣 .Λ) code.function)
+    (WpFn-mono 𝓤 H (W .laws) 𝓣 code.function)
     (start-walks 𝓤 H A W at-mem run (𝓣 .C) (𝓣 .Λ) (fmOf 𝓤 H (W .laws) 𝓣) known)
 
 pub tuilarder-start-spec : {M : Type 1} → stated.statement M
@@ -169,4 +206,5 @@ tuilarder-start-spec 𝓤 H 𝓜 𝓖 𝓡 =
     entered 𝓤 H (tripleOf 𝓤 H (𝓖 .A) f.signature (f.spec 𝓤 H (𝓖 .A) (𝓜 .mem) (𝓡 .run)))
     (tables 𝓤 H 𝓜 𝓡 code.env .C) (tables 𝓤 H 𝓜 𝓡 code.env .Λ) #start code.function (code.unfolded 𝓤 H 𝓜 𝓡)
     (start-meets 𝓤 H (𝓖 .A) (givenOf 𝓤 H 𝓜 𝓖) (𝓜 .mem) (𝓡 .run) (tablesOf 𝓤 H 𝓜 (tables 𝓤 H 𝓜 𝓡 code.env))
-    (cited 𝓤 H (Step 𝓤 H (𝓖 .A) (𝓜 .mem) (𝓡 .run)) 𝓜 𝓡 code.env #step step-def.routine code.calls-session·Session·start (step-thm.met 𝓤 H 𝓜 𝓖 𝓡)))
+    (cited 𝓤 H (Step 𝓤 H (𝓖 .A) (𝓜 .mem) (𝓡 .run)) 𝓜 𝓡 code.env #step step-def.routine code.calls-session·Session·start
+    (step-thm.met 𝓤 H 𝓜 𝓖 𝓡)))
