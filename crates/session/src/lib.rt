@@ -137,7 +137,8 @@ impl Session {
 
     // SQUEEZE: fills a buffer with elements.
     pub fn squeeze_step(self, output: &mut [u32]) -> Answer
-        ensures { λ r. ⌜ (r ≡ squeeze self (length (now (output .entry)))) × (now (output .exit) ≡ squeezeBuffer self (now (output .entry))) ⌝ }
+        ensures { λ r. ⌜ (r ≡ squeeze self (length (now (output .entry)))) ×
+            (now (output .exit) ≡ squeezeBuffer self (now (output .entry))) ⌝ }
     {
         if self.status != OPEN {
             return leave(basics::RECORD_NOT_OPEN, self);
@@ -172,7 +173,7 @@ impl Session {
 
     // ABSORB on the caller's own record.
     pub fn absorb(&mut self, input: &[u32]) -> u32
-        ensures { λ r. ⌜ (r ≡ absorb (now (self .entry)) (now (input .entry)) .number) × (now (self .exit) ≡ absorb (now (self .entry)) (now (input .entry)) .session) ⌝ }
+        ensures { λ r. ⌜ giving r (now (self .exit)) ≡ absorb (now (self .entry)) (now (input .entry)) ⌝ }
     {
         let answer = (*self).absorb_step(input);
         *self = answer.session;
@@ -181,7 +182,8 @@ impl Session {
 
     // SQUEEZE on the caller's own record.
     pub fn squeeze(&mut self, output: &mut [u32]) -> u32
-        ensures { λ r. ⌜ (r ≡ squeeze (now (self .entry)) (length (now (output .entry))) .number) × (now (self .exit) ≡ squeeze (now (self .entry)) (length (now (output .entry))) .session) × (now (output .exit) ≡ squeezeBuffer (now (self .entry)) (now (output .entry))) ⌝ }
+        ensures { λ r. ⌜ (giving r (now (self .exit)) ≡ squeeze (now (self .entry)) (length (now (output .entry)))) ×
+            (now (output .exit) ≡ squeezeBuffer (now (self .entry)) (now (output .entry))) ⌝ }
     {
         let answer = (*self).squeeze_step(output);
         *self = answer.session;
@@ -190,7 +192,7 @@ impl Session {
 
     // FINISH of the caller's own record.
     pub fn finish(&mut self) -> u32
-        ensures { λ r. ⌜ (r ≡ finish (now (self .entry)) .number) × (now (self .exit) ≡ finish (now (self .entry)) .session) ⌝ }
+        ensures { λ r. ⌜ giving r (now (self .exit)) ≡ finish (now (self .entry)) ⌝ }
     {
         let answer = (*self).finish_step();
         *self = answer.session;

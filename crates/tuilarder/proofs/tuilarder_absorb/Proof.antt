@@ -40,7 +40,7 @@ use denote.Triple.Walked.{says, Stays, gave-ref, stay-none-slice, walkOf, AllGo}
 use denote.Triple.Walked.{goes-gave-ref, goes-none-slice, Walks, ends-at, walked, walk-meets}
 use denote.Exit.{yes}
 use Rattle.session.specs.declared.Session.{Session}
-use Rattle.session.specs.Calls.{absorb}
+use Rattle.session.specs.Calls.{giving, absorb}
 use Rattle.session.proofs.Session as T
 use Rattle.session.proofs.Session.absorb as step
 use Rattle.session.proofs.Session.absorb.Symbol as step-def
@@ -56,7 +56,7 @@ stayed = (gave-ref (0 ∷ []) tt (plain (λ _. T.the-row)), (stay-none-slice (1 
 
 -- what the callee ensures, at the result r and the last record d
 abbrev Said : Session → List ℕ → ℕ → Session → Type 0
-Said h ys r d = (r ≡ absorb h ys .number) × (d ≡ absorb h ys .session)
+Said h ys r d = giving r d ≡ absorb h ys
 
 module _ {M : Type 1} (𝓤 : URA M) (H : Heap 𝓤) (A : Atoms 𝓤) (at-mem : Memory → SProp 𝓤) (run : Routine → Fun 𝓤) where
   -- the contract that the proof cites

@@ -36,7 +36,7 @@ use denote.Triple.Clauses.{ensured, lasts}
 use denote.Triple.Table.{entered, cited}
 use denote.Triple.Walked.{says, Stays, gave-ref, walkOf, AllGo, goes-gave-ref, Walks, ends-at, walked, walk-meets}
 use Rattle.session.specs.declared.Session.{Session}
-use Rattle.session.specs.Calls.{finish}
+use Rattle.session.specs.Calls.{giving, finish}
 use Rattle.session.proofs.Session as T
 use Rattle.session.proofs.Session.finish as step
 use Rattle.session.proofs.Session.finish.Symbol as step-def
@@ -52,7 +52,7 @@ stayed = (gave-ref (0 ∷ []) tt (plain (λ _. T.the-row)), tt)
 
 -- what the callee ensures, at the result r and the last record d
 abbrev Said : Session → ℕ → Session → Type 0
-Said h r d = (r ≡ finish h .number) × (d ≡ finish h .session)
+Said h r d = giving r d ≡ finish h
 
 module _ {M : Type 1} (𝓤 : URA M) (H : Heap 𝓤) (A : Atoms 𝓤) (at-mem : Memory → SProp 𝓤) (run : Routine → Fun 𝓤) where
   -- the contract that the proof cites

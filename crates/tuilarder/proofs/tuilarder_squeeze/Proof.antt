@@ -40,7 +40,7 @@ use denote.Triple.Table.{entered, cited}
 use denote.Triple.Walked.{says, Stays, gave-ref, gave-slice, walkOf, AllGo}
 use denote.Triple.Walked.{goes-gave-ref, goes-gave-slice, Walks, ends-at, walked, walk-meets}
 use Rattle.session.specs.declared.Session.{Session}
-use Rattle.session.specs.Calls.{squeeze, squeezeBuffer}
+use Rattle.session.specs.Calls.{giving, squeeze, squeezeBuffer}
 use Rattle.session.proofs.Session as T
 use Rattle.session.proofs.Session.squeeze as step
 use Rattle.session.proofs.Session.squeeze.Symbol as step-def
@@ -56,7 +56,7 @@ stayed = (gave-ref (0 ∷ []) tt (plain (λ _. T.the-row)), (gave-slice (1 ∷ [
 
 -- what the callee ensures, at the result r, the last record d and the last list zs
 abbrev Said : Session → List ℕ → ℕ → Session → List ℕ → Type 0
-Said h ys r d zs = (r ≡ squeeze h (length ys) .number) × (d ≡ squeeze h (length ys) .session) × (zs ≡ squeezeBuffer h ys)
+Said h ys r d zs = (giving r d ≡ squeeze h (length ys)) × (zs ≡ squeezeBuffer h ys)
 
 module _ {M : Type 1} (𝓤 : URA M) (H : Heap 𝓤) (A : Atoms 𝓤) (at-mem : Memory → SProp 𝓤) (run : Routine → Fun 𝓤) where
   -- the contract that the proof cites

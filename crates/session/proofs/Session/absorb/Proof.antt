@@ -46,7 +46,7 @@ use denote.Triple.Walked.{goes-ref, goes-none-slice, Walks, ends-at, walked, wal
 use denote.Exit.{yes}
 use Rattle.session.specs.declared.Session.{Session}
 use Rattle.session.specs.declared.Answer.{Answer}
-use Rattle.session.specs.Calls.{absorb}
+use Rattle.session.specs.Calls.{giving, absorb}
 use Rattle.session.proofs.LentRecord.{machine, number-fits, session-is, opens-record, closes-record}
 use Rattle.session.proofs.Session as session
 use Rattle.session.proofs.Session.Laws as session-laws
@@ -104,12 +104,13 @@ module _ {M : Type 1} (𝓤 : URA M) (H : Heap 𝓤) (A : Atoms 𝓤) (W : Given
   exits : (r : Answer) → r ≡ absorb h (now y) → r .number < 2 ^ 32
       → ent 𝓤 (⋆ 𝓤 H A (‵ (fobs γ (session.the-row .coded .code (r .session))) ∷ ‵ (fbor κ (Body (mem session.the-row) b o γ)) ∷ ‵
       (flft κ q) ∷ (‵ (flft κ′ q′) ⊛ ‵ ftrue) ∷ ‵ S ∷ [])) (Post (vint w32 (r .number)))
+  unfolding giving
   exits r e fits =
       qed W (‵ (fobs γ (session.the-row .coded .code (r .session))) ∷ ‵ (fbor κ (Body (mem session.the-row) b o γ)) ∷ ‵ (flft κ q) ∷
       (‵ (flft κ′ q′) ⊛ ‵ ftrue) ∷ ‵ S ∷ []) ∵
       suffices ! _ (ends-at 𝓤 H A f.ended stayed (f.clauses 𝓤 H A at-mem run) W (((κ, (κ′, tt)), (q, (q′, tt)), tt, x, at), tt)
       (vint w32 (r .number)) (r .number) (r .session, (tt, tt)) (tt, (tt, tt))) $
-      says ! (ap (λ (d : Answer). d .number) e, ap (λ (d : Answer). d .session) e) $
+      says ! e $
       move ! (2 ∷ 3 ∷ []) $ join ! $ frame ! $ feqI ! (List Val) (vptr b o ∷ []) (vptr b o ∷ []) refl $ fjoin3 ! $ nothing ! $
       move ! (2 ∷ 0 ∷ []) $ fjoin ! $ move ! (1 ∷ 0 ∷ []) $ fjoin ! $ frame ! $
       owned ! u32 (Is u32) (uint-makes 𝓤 H A W w32) (r .number) _ (refl, fits) $ done !

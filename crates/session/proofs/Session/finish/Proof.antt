@@ -42,7 +42,7 @@ use denote.Triple.Table.{entered, cited}
 use denote.Triple.Walked.{says, Stays, stay-ref, walkOf, AllGo, goes-ref, Walks, ends-at, walked, walk-meets}
 use Rattle.session.specs.declared.Session.{Session}
 use Rattle.session.specs.declared.Answer.{Answer}
-use Rattle.session.specs.Calls.{finish}
+use Rattle.session.specs.Calls.{giving, finish}
 use Rattle.session.proofs.LentRecord.{machine, number-fits, session-is, opens-record, closes-record}
 use Rattle.session.proofs.Session as session
 use Rattle.session.proofs.Session.Laws as session-laws
@@ -94,10 +94,11 @@ module _ {M : Type 1} (𝓤 : URA M) (H : Heap 𝓤) (A : Atoms 𝓤) (W : Given
   exits : (r : Answer) → r ≡ finish h → r .number < 2 ^ 32
       → ent 𝓤 (sep 𝓤 (A .obs γ (session.the-row .coded .code (r .session)))
       (sep 𝓤 (A .bor κ (Body (mem session.the-row) b o γ)) (A .lft κ q))) (Post (vint w32 (r .number)))
+  unfolding giving
   exits r e fits =
       qed W (‵ (fobs γ (session.the-row .coded .code (r .session))) ∷ ‵ (fbor κ (Body (mem session.the-row) b o γ)) ∷ ‵ (flft κ q) ∷ []) ∵
       suffices ! _ (ends-at 𝓤 H A f.ended stayed (f.clauses 𝓤 H A at-mem run) W (((κ, tt), (q, tt), tt, x, at), tt) (vint w32 (r .number))
-      (r .number) (r .session, tt) (tt, tt)) $ says ! (ap (λ (d : Answer). d .number) e, ap (λ (d : Answer). d .session) e) $
+      (r .number) (r .session, tt) (tt, tt)) $ says ! e $
       nothing ! $ move ! (3 ∷ 0 ∷ []) $ join ! $ frame ! $ feqI ! (List Val) (vptr b o ∷ []) (vptr b o ∷ []) refl $ fjoin3 ! $ nothing ! $
       move ! (1 ∷ 0 ∷ []) $ fjoin ! $ frame ! $
       owned ! u32 (Is u32) (uint-makes 𝓤 H A W w32) (r .number) _ (refl, fits) $ done !
