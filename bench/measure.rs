@@ -19,15 +19,20 @@ fn median(mut times: Vec<f64>) -> f64 {
     times[times.len() / 2]
 }
 
-// Each of 41 rounds times the ways in turn; the medians are compared with that of the last way, which is the library.
-pub fn compare(job: &str, calls: u32, ways: &mut [Way]) {
+// Nanoseconds for each way: the median of 41 rounds, each of which times the ways in turn.
+pub fn medians(calls: u32, ways: &mut [Way]) -> Vec<f64> {
     let mut times = vec![Vec::new(); ways.len()];
     for _ in 0..41 {
         for (times, way) in times.iter_mut().zip(ways.iter_mut()) {
             times.push(nanoseconds(calls, way.call));
         }
     }
-    let medians: Vec<f64> = times.into_iter().map(median).collect();
+    times.into_iter().map(median).collect()
+}
+
+// The medians, compared with that of the last way, which is the library.
+pub fn compare(job: &str, calls: u32, ways: &mut [Way]) {
+    let medians = medians(calls, ways);
     println!("{job:44}{:>9}   library's speed", "ns");
     for (way, time) in ways.iter().zip(&medians) {
         println!("{:44}{time:>9.0}   {:.2} times", way.name, time / medians[ways.len() - 1]);

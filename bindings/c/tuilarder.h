@@ -1,0 +1,177 @@
+/*
+ * Tuilarder, the challenge sponge: SAFE sessions over the BabyBear field with Poseidon and SHA3-256. C11 or C++11, x86-64 Linux.
+ *
+ *     const uint32_t words[2] = {TUILARDER_ABSORB_BIT | 8, 1};          ABSORB 8, then SQUEEZE 1
+ *     struct tuilarder_session session;
+ *     tuilarder_start(&session, words, 2, separator, separator_length);
+ *     tuilarder_absorb(&session, elements, 8);
+ *     tuilarder_squeeze(&session, &challenge, 1);
+ *     tuilarder_finish(&session);                                       each answers 0 where it is accepted
+ *
+ * What a list, a string or a record holds is free: the functions take every content, and answer with a number where they turn a call away.
+ * What the functions cannot look at is the caller's duty:
+ *
+ * - A pointer is aligned for its type and valid: a list's for as many items as the length after it says, every other one for its object.
+ *   With length 0 a list's pointer may have any value, NULL among them: nothing is read or written through it. No other one may be NULL.
+ * - What a function writes (the record, the state, out, written, words and count of tuilarder_read_tag, digest) overlaps nothing else that
+ *   the call was lent. Nobody else reads or writes that, and nobody writes what the function reads, until the call returns.
+ *
+ * What a function only writes need not be set before. The library has no state of its own, so distinct records may be used by distinct
+ * threads at once. The time that a call takes depends on what it is lent, and copies of a record may stay behind on the stack: nothing is
+ * claimed about secrecy.
+ */
+#ifndef TUILARDER_H
+#define TUILARDER_H
+
+#include <stddef.h>
+#include <stdint.h>
+
+#ifdef __cplusplus
+extern "C" {
+#endif
+
+/* Elements are the numbers below this prime. */
+#define TUILARDER_PRIME 2013265921u
+
+/* The state's outer elements, which are absorbed into and squeezed from; its inner elements; and all of them. */
+#define TUILARDER_RATE 8
+#define TUILARDER_CAPACITY 16
+#define TUILARDER_WIDTH 24
+
+/* A word is a length, with this bit set for ABSORB and clear for SQUEEZE. */
+#define TUILARDER_ABSORB_BIT 0x80000000u
+
+/* The longest pattern in words, and the longest separator in bytes. The longest tag string has 4 * 64 + 256 bytes. */
+#define TUILARDER_MAX_WORDS 64
+#define TUILARDER_MAX_SEPARATOR 256
+#define TUILARDER_MAX_TAG_STRING 512
+
+/* The bytes of a SHA3-256 digest. */
+#define TUILARDER_DIGEST_LENGTH 32
+
+/* The numbers that the functions answer with. */
+enum tuilarder_number {
+    TUILARDER_ACCEPTED = 0,
+    /* pattern of 0 or over 64 words */
+    TUILARDER_WORD_COUNT_OUT_OF_RANGE = 1,
+    /* a word of length 0 */
+    TUILARDER_WORD_LENGTH_ZERO = 2,
+    /* first word is SQUEEZE */
+    TUILARDER_FIRST_WORD_SQUEEZE = 3,
+    /* last word is ABSORB */
+    TUILARDER_LAST_WORD_ABSORB = 4,
+    /* merged length above 2147483647 */
+    TUILARDER_MERGED_LENGTH_TOO_LONG = 5,
+    /* separator over 256 bytes */
+    TUILARDER_SEPARATOR_TOO_LONG = 6,
+    /* record not open */
+    TUILARDER_RECORD_NOT_OPEN = 7,
+    /* open record not sound */
+    TUILARDER_RECORD_NOT_SOUND = 8,
+    /* wrong kind, past the phase's end, or after the last phase */
+    TUILARDER_CALL_NOT_IN_PATTERN = 9,
+    /* an element of p or more */
+    TUILARDER_ELEMENT_NOT_REDUCED = 10,
+    /* FINISH before the last phase's end */
+    TUILARDER_PATTERN_NOT_DONE = 11,
+    /* lent buffer shorter than the tag string */
+    TUILARDER_BUFFER_TOO_SHORT = 12,
+    /* no tag string of that separator length */
+    TUILARDER_NOT_TAG_STRING = 13
+};
+
+/*
+ * The record of a session. Any contents may be handed over: a call looks at them before it uses them. Wiped means every field 0.
+ * A copied record is a fork: each copy goes on by itself.
+ */
+struct tuilarder_session {
+    /* 1 open, otherwise closed */
+    uint32_t status;
+    /* the outer elements, then the inner ones */
+    uint32_t state[TUILARDER_WIDTH];
+    /* the merged words of the pattern, with unused ones 0 */
+    uint32_t words[TUILARDER_MAX_WORDS];
+    /* how many words are used */
+    uint32_t count;
+    /* the number of the word that is being done, from 0; count after the last */
+    uint32_t phase;
+    /* how many elements of it are done */
+    uint32_t done;
+    /* from 0 to 8 */
+    uint32_t absorb_position;
+    uint32_t squeeze_position;
+    /* how many permutations the session has had */
+    uint64_t permutations;
+};
+
+/* The library was compiled for this layout. */
+#ifdef __cplusplus
+#define TUILARDER_ASSERT(condition) static_assert(condition, #condition)
+#else
+#define TUILARDER_ASSERT(condition) _Static_assert(condition, #condition)
+#endif
+#define TUILARDER_FIELD_AT(field, offset) TUILARDER_ASSERT(offsetof(struct tuilarder_session, field) == (offset))
+TUILARDER_ASSERT(sizeof(struct tuilarder_session) == 384);
+TUILARDER_FIELD_AT(status, 0);
+TUILARDER_FIELD_AT(state, 4);
+TUILARDER_FIELD_AT(words, 100);
+TUILARDER_FIELD_AT(count, 356);
+TUILARDER_FIELD_AT(phase, 360);
+TUILARDER_FIELD_AT(done, 364);
+TUILARDER_FIELD_AT(absorb_position, 368);
+TUILARDER_FIELD_AT(squeeze_position, 372);
+TUILARDER_FIELD_AT(permutations, 376);
+TUILARDER_ASSERT(sizeof(size_t) == 8 && sizeof(void *) == 8);
+#undef TUILARDER_FIELD_AT
+#undef TUILARDER_ASSERT
+
+/*
+ * START: opens a session for a pattern and a separator in the record, whatever that held. Checks 1 to 6 in number order, whichever word is
+ * at fault. Refused, it leaves a wiped record.
+ */
+uint32_t tuilarder_start(struct tuilarder_session *record, const uint32_t *words, size_t words_length, const uint8_t *separator,
+                         size_t separator_length);
+
+/*
+ * ABSORB: takes elements in. Checks 7 and 8; then accepts length 0, which changes nothing; then checks 9, then 10.
+ * 9 wipes the record; 7, 8 and 10 leave it as it was.
+ */
+uint32_t tuilarder_absorb(struct tuilarder_session *record, const uint32_t *elements, size_t length);
+
+/*
+ * SQUEEZE: fills out with elements. Checks 7 and 8; then accepts length 0, which changes nothing; then checks 9.
+ * 9 wipes the record; 7 and 8 leave it as it was. Refused, it writes nothing to out.
+ */
+uint32_t tuilarder_squeeze(struct tuilarder_session *record, uint32_t *out, size_t length);
+
+/*
+ * FINISH: ends a session whose pattern is done. Checks 7, 8, 11. Accepted, or refused with 11, it wipes the record; 7 and 8 leave it as
+ * it was.
+ */
+uint32_t tuilarder_finish(struct tuilarder_session *record);
+
+/*
+ * Writes the tag string of a pattern and a separator, from out's start and only the string's bytes, and its length to written.
+ * Checks 1 to 6 in number order, then 12. Refused, it writes nothing to out, and 0 to written.
+ */
+uint32_t tuilarder_write_tag(const uint32_t *words, size_t words_length, const uint8_t *separator, size_t separator_length, uint8_t *out,
+                             size_t out_length, size_t *written);
+
+/*
+ * Reads a tag string back, given the length of its separator, which is the string's last part: its merged words, with unused ones 0, and
+ * how many they are. Checks 6 (of the length given), then 13. Refused, it gives 64 zero words and count 0.
+ */
+uint32_t tuilarder_read_tag(const uint8_t *string, size_t length, size_t separator_length, uint32_t words[TUILARDER_MAX_WORDS],
+                            size_t *count);
+
+/* One Poseidon permutation in place. Answers 0; or 10, with the state as it was, where an element is p or more. */
+uint32_t tuilarder_permute(uint32_t state[TUILARDER_WIDTH]);
+
+/* The SHA3-256 digest of a string of bytes. It turns nothing away. */
+void tuilarder_sha3_256(const uint8_t *data, size_t length, uint8_t digest[TUILARDER_DIGEST_LENGTH]);
+
+#ifdef __cplusplus
+}
+#endif
+
+#endif

@@ -1,0 +1,117 @@
+//! The functions of the static library as C calls them, for callers that keep records of their own. Each takes any contents at all.
+//!
+//! What each function asks of its caller, beyond what its own lines say:
+//!
+//! - A pointer is aligned for its type and valid: a list's for as many items as the length after it says, every other one for its object.
+//!   With length 0 a list's pointer may have any value, that of an empty slice or null among them.
+//! - What a function writes overlaps nothing else that the call was lent. Nobody else reads or writes that, and nobody writes what the
+//!   function reads, until the call returns.
+//!
+//! Each answers 0 where the call is accepted, or the number of a [`Refusal`](crate::Refusal).
+
+use core::mem::{offset_of, size_of};
+
+/// The record of a session. Any contents may be handed over: a call looks at them before it uses them.
+#[repr(C)]
+#[derive(Clone, Copy, Debug, PartialEq, Eq)]
+pub struct Record {
+    /// 1 open, otherwise closed.
+    pub status: u32,
+    /// Eight outer elements, then sixteen inner ones.
+    pub state: [u32; 24],
+    /// The merged words of the pattern, with unused ones 0.
+    pub words: [u32; 64],
+    /// How many words are used.
+    pub count: u32,
+    /// The number of the word that is being done, from 0; `count` after the last.
+    pub phase: u32,
+    /// How many elements of it are done.
+    pub done: u32,
+    /// From 0 to 8.
+    pub absorb_position: u32,
+    /// From 0 to 8.
+    pub squeeze_position: u32,
+    /// How many permutations the session has had.
+    pub permutations: u64,
+}
+
+impl Record {
+    /// Every field 0, as FINISH leaves a record.
+    pub const WIPED: Record = Record {
+        status: 0,
+        state: [0; 24],
+        words: [0; 64],
+        count: 0,
+        phase: 0,
+        done: 0,
+        absorb_position: 0,
+        squeeze_position: 0,
+        permutations: 0,
+    };
+}
+
+// The library was compiled for this layout.
+const _: () = {
+    assert!(size_of::<Record>() == 384);
+    assert!(offset_of!(Record, status) == 0);
+    assert!(offset_of!(Record, state) == 4);
+    assert!(offset_of!(Record, words) == 100);
+    assert!(offset_of!(Record, count) == 356);
+    assert!(offset_of!(Record, phase) == 360);
+    assert!(offset_of!(Record, done) == 364);
+    assert!(offset_of!(Record, absorb_position) == 368);
+    assert!(offset_of!(Record, squeeze_position) == 372);
+    assert!(offset_of!(Record, permutations) == 376);
+    assert!(size_of::<usize>() == 8);
+};
+
+extern "C" {
+    /// START: opens a session in the record, whatever that held. Checks 1 to 6 in number order. Refused, it leaves a wiped record.
+    pub fn tuilarder_start(
+        record: *mut Record,
+        words: *const u32,
+        words_len: usize,
+        separator: *const u8,
+        separator_len: usize,
+    ) -> u32;
+
+    /// ABSORB: takes elements in. Checks 7 and 8; then accepts length 0, which changes nothing; then checks 9, then 10.
+    /// 9 wipes the record; 7, 8 and 10 leave it as it was.
+    pub fn tuilarder_absorb(record: *mut Record, elements: *const u32, len: usize) -> u32;
+
+    /// SQUEEZE: fills `out` with elements. Checks 7 and 8; then accepts length 0, which changes nothing; then checks 9.
+    /// 9 wipes the record; 7 and 8 leave it as it was. Refused, it writes nothing to `out`.
+    pub fn tuilarder_squeeze(record: *mut Record, out: *mut u32, len: usize) -> u32;
+
+    /// FINISH: ends a session whose pattern is done. Checks 7, 8, 11. Accepted, or refused with 11, it wipes the record; 7 and 8 leave it
+    /// as it was.
+    pub fn tuilarder_finish(record: *mut Record) -> u32;
+
+    /// One permutation in place. Answers 0; or 10, with the state as it was, where an element is p or more.
+    pub fn tuilarder_permute(state: *mut [u32; 24]) -> u32;
+
+    /// Writes a tag string, from the start of `out` and only the string's bytes, and its length to `written`. Checks 1 to 6 in number
+    /// order, then 12. Refused, it writes nothing to `out`, and 0 to `written`.
+    pub fn tuilarder_write_tag(
+        words: *const u32,
+        words_len: usize,
+        separator: *const u8,
+        separator_len: usize,
+        out: *mut u8,
+        out_len: usize,
+        written: *mut usize,
+    ) -> u32;
+
+    /// Reads a tag string back, given the length of its separator: its merged words, with unused ones 0, and how many they are.
+    /// Checks 6 (of the length given), then 13. Refused, it gives 64 zero words and count 0.
+    pub fn tuilarder_read_tag(
+        string: *const u8,
+        len: usize,
+        separator_len: usize,
+        words: *mut [u32; 64],
+        count: *mut usize,
+    ) -> u32;
+
+    /// The SHA3-256 digest of a string of bytes. It turns nothing away.
+    pub fn tuilarder_sha3_256(data: *const u8, len: usize, out: *mut [u8; 32]);
+}

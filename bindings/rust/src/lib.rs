@@ -1,0 +1,86 @@
+//! The challenge sponge that turns a protocol's messages into challenges: SAFE sessions over the BabyBear field
+//! (p = 2013265921), with the Poseidon permutation and SHA3-256.
+//!
+//! The work is done by a static library in Rattle, whose every function is proved to do what document 01 says, on every input. This crate
+//! declares its functions ([`ffi`]) and puts types over them. It checks no rule of its own but that a length fits in a word.
+//!
+//! # A protocol of two rounds
+//!
+//! The prover commits to four elements and gets a challenge, answers with two elements and gets another. Both sides open a session for the
+//! same pattern and separator and absorb the same messages, so both derive the same challenges.
+//!
+//! ```
+//! use tuilarder::{Call, Pattern, Refusal, Session};
+//!
+//! fn challenges(commitment: [u32; 4], response: [u32; 2]) -> Result<[u32; 2], Refusal> {
+//!     let pattern = Pattern::new(&[Call::Absorb(4), Call::Squeeze(1), Call::Absorb(2), Call::Squeeze(1)])?;
+//!     let mut session = Session::start(&pattern, b"two rounds")?;
+//!     session.absorb(&commitment)?;
+//!     let [first] = session.challenge()?;
+//!     session.absorb(&response)?;
+//!     let [second] = session.challenge()?;
+//!     session.finish()?;
+//!     Ok([first, second])
+//! }
+//!
+//! let by_prover = challenges([11, 22, 33, 44], [55, 66])?;
+//! let by_verifier = challenges([11, 22, 33, 44], [55, 66])?;
+//! assert_eq!(by_prover, by_verifier);
+//!
+//! // Another response changes the second challenge alone.
+//! let other = challenges([11, 22, 33, 44], [55, 67])?;
+//! assert_eq!(other[0], by_prover[0]);
+//! assert_ne!(other[1], by_prover[1]);
+//! # Ok::<(), Refusal>(())
+//! ```
+//!
+//! # Building
+//!
+//! The build script runs `rt staticlib tuilarder` at the top of the checkout that this crate is part of, which proves the library and takes
+//! some minutes; it needs the Rattle kit's `rt` on the path. With `TUILARDER_ARCHIVE_DIR` set to the directory of a `libtuilarder.a`,
+//! it links that and runs nothing. The library is for x86-64 Linux only.
+//!
+//! # Limits
+//!
+//! The time that a call takes depends on its inputs. No strength against attack is claimed.
+
+#![no_std]
+
+pub mod ffi;
+mod pattern;
+mod refusal;
+mod session;
+
+pub use pattern::{Call, Pattern};
+pub use refusal::Refusal;
+pub use session::Session;
+
+/// The state's outer elements, which are absorbed into and squeezed from.
+pub const RATE: usize = 8;
+
+/// The state's inner elements.
+pub const CAPACITY: usize = 16;
+
+/// All elements of the state.
+pub const WIDTH: usize = RATE + CAPACITY;
+
+/// Elements are the numbers below this prime.
+pub const PRIME: u32 = 2013265921;
+
+/// One Poseidon permutation in place.
+///
+/// # Errors
+///
+/// 10, with the state as it was, where an element is p or more.
+pub fn permute(state: &mut [u32; WIDTH]) -> Result<(), Refusal> {
+    // SAFETY: the state is lent for the call.
+    refusal::result(unsafe { ffi::tuilarder_permute(state) })
+}
+
+/// The SHA3-256 digest of a string of bytes.
+pub fn sha3_256(data: &[u8]) -> [u8; 32] {
+    let mut digest = [0; 32];
+    // SAFETY: the slice is valid for its length, and the digest is this function's own.
+    unsafe { ffi::tuilarder_sha3_256(data.as_ptr(), data.len(), &mut digest) };
+    digest
+}

@@ -1,0 +1,181 @@
+use core::fmt;
+
+use crate::ffi;
+use crate::refusal::{result, Refusal};
+
+/// The top bit of a word, set for ABSORB.
+const ABSORB_BIT: u32 = 1 << 31;
+
+/// The longest length that a word can hold.
+const MAX_LENGTH: u32 = ABSORB_BIT - 1;
+
+/// A call that a protocol declares beforehand, with its length in elements.
+#[derive(Clone, Copy, Debug, PartialEq, Eq, Hash)]
+pub enum Call {
+    /// Takes so many elements in.
+    Absorb(u32),
+    /// Gives so many elements.
+    Squeeze(u32),
+}
+
+impl Call {
+    /// The word of the call, with `MAX_LENGTH` in the place of a length that no word can hold.
+    fn word(self) -> u32 {
+        match self {
+            Call::Absorb(length) => ABSORB_BIT | length.min(MAX_LENGTH),
+            Call::Squeeze(length) => length.min(MAX_LENGTH),
+        }
+    }
+
+    fn length(self) -> u32 {
+        match self {
+            Call::Absorb(length) | Call::Squeeze(length) => length,
+        }
+    }
+
+    fn of_word(word: u32) -> Call {
+        let length = word & MAX_LENGTH;
+        if word & ABSORB_BIT != 0 {
+            Call::Absorb(length)
+        } else {
+            Call::Squeeze(length)
+        }
+    }
+}
+
+/// A pattern that START accepts: the calls that a protocol declares.
+///
+/// Two patterns are equal if they declare the same calls. The sponge sees merged patterns, in which neighbours of one kind are added
+/// together: compare [`Pattern::merged`] to know whether two protocols open the same session.
+#[derive(Clone, PartialEq, Eq, Hash)]
+pub struct Pattern {
+    // unused words are 0
+    words: [u32; Pattern::MAX_WORDS],
+    count: usize,
+}
+
+impl Pattern {
+    /// The most calls that a pattern declares.
+    pub const MAX_WORDS: usize = 64;
+
+    /// The longest separator, in bytes.
+    pub const MAX_SEPARATOR: usize = 256;
+
+    /// The longest tag string, in bytes: a buffer of this length is never too short.
+    pub const MAX_TAG_STRING: usize = 4 * Pattern::MAX_WORDS + Pattern::MAX_SEPARATOR;
+
+    /// The pattern of these calls.
+    ///
+    /// # Errors
+    ///
+    /// 1 to 5, the first that applies. A length above 2147483647 gets 5 where none of 1 to 4 applies.
+    pub fn new(calls: &[Call]) -> Result<Pattern, Refusal> {
+        // one more than a pattern can have, so that the library sees that there are too many
+        let mut words = [0; Pattern::MAX_WORDS + 1];
+        for (word, call) in words.iter_mut().zip(calls) {
+            *word = call.word();
+        }
+        let pattern = Pattern::from_words(&words[..calls.len().min(words.len())])?;
+        if calls.iter().any(|call| call.length() > MAX_LENGTH) {
+            return Err(Refusal::MergedLengthTooLong);
+        }
+        Ok(pattern)
+    }
+
+    /// The pattern of these words: a word has its top bit set for ABSORB and clear for SQUEEZE, and its low 31 bits are the length.
+    ///
+    /// # Errors
+    ///
+    /// 1 to 5, the first that applies.
+    pub fn from_words(words: &[u32]) -> Result<Pattern, Refusal> {
+        write_tag(words, &[], &mut [0; 4 * Pattern::MAX_WORDS])?;
+        let mut pattern = Pattern {
+            words: [0; Pattern::MAX_WORDS],
+            count: words.len(),
+        };
+        pattern.words[..words.len()].copy_from_slice(words);
+        Ok(pattern)
+    }
+
+    /// The pattern and the separator that a tag string was written from, given the separator's length; the pattern is a merged one, and the
+    /// separator is that part of the string.
+    ///
+    /// # Errors
+    ///
+    /// 6 (of the length given), then 13.
+    pub fn read(string: &[u8], separator_length: usize) -> Result<(Pattern, &[u8]), Refusal> {
+        let mut pattern = Pattern {
+            words: [0; Pattern::MAX_WORDS],
+            count: 0,
+        };
+        // SAFETY: the string is valid for its length, and the words and the count are this function's own.
+        let number = unsafe {
+            ffi::tuilarder_read_tag(
+                string.as_ptr(),
+                string.len(),
+                separator_length,
+                &mut pattern.words,
+                &mut pattern.count,
+            )
+        };
+        result(number)?;
+        Ok((pattern, &string[string.len() - separator_length..]))
+    }
+
+    /// The words as they were declared.
+    pub fn words(&self) -> &[u32] {
+        &self.words[..self.count]
+    }
+
+    /// The calls as they were declared.
+    pub fn calls(&self) -> impl Iterator<Item = Call> + '_ {
+        self.words().iter().map(|&word| Call::of_word(word))
+    }
+
+    /// The same pattern with neighbours of one kind added together.
+    pub fn merged(&self) -> Pattern {
+        let mut buffer = [0; 4 * Pattern::MAX_WORDS];
+        let merged = self
+            .tag_string(&[], &mut buffer)
+            .and_then(|string| Pattern::read(string, 0));
+        merged
+            .expect("an accepted pattern has a tag string, which reads back")
+            .0
+    }
+
+    /// Writes the tag string of this pattern and a separator to the start of the buffer, and gives the part that was written.
+    ///
+    /// # Errors
+    ///
+    /// 6, then 12; nothing is written.
+    pub fn tag_string<'a>(&self, separator: &[u8], buffer: &'a mut [u8]) -> Result<&'a [u8], Refusal> {
+        let length = write_tag(self.words(), separator, buffer)?;
+        Ok(&buffer[..length])
+    }
+}
+
+impl fmt::Debug for Pattern {
+    fn fmt(&self, f: &mut fmt::Formatter<'_>) -> fmt::Result {
+        f.write_str("Pattern ")?;
+        f.debug_list().entries(self.calls()).finish()
+    }
+}
+
+/// Writes a tag string to the start of a buffer, and gives its length.
+fn write_tag(words: &[u32], separator: &[u8], buffer: &mut [u8]) -> Result<usize, Refusal> {
+    let mut written = 0;
+    // SAFETY: the three slices are valid for their lengths, and no two of buffer, `written` and the rest overlap.
+    let number = unsafe {
+        ffi::tuilarder_write_tag(
+            words.as_ptr(),
+            words.len(),
+            separator.as_ptr(),
+            separator.len(),
+            buffer.as_mut_ptr(),
+            buffer.len(),
+            &mut written,
+        )
+    };
+    result(number)?;
+    Ok(written)
+}

@@ -1,0 +1,122 @@
+use core::fmt;
+use core::ptr;
+use core::sync::atomic::{compiler_fence, Ordering};
+
+use crate::ffi::{self, Record};
+use crate::pattern::Pattern;
+use crate::refusal::{result, Refusal};
+
+/// One use of the sponge, from START to FINISH.
+///
+/// A session is neither `Clone` nor `Copy`, so that no second one is made by accident: [`Session::fork`] makes one. When it is dropped, its
+/// record is wiped. As all moves in Rust, that of a session leaves its bytes behind in the old place, and so do the library's own copies on
+/// the stack: no secrecy is claimed.
+pub struct Session {
+    record: Record,
+}
+
+impl Session {
+    /// START: a session for a pattern and a separator, the byte string that names the protocol.
+    ///
+    /// # Errors
+    ///
+    /// 6; an accepted pattern has none of 1 to 5.
+    pub fn start(pattern: &Pattern, separator: &[u8]) -> Result<Session, Refusal> {
+        let words = pattern.words();
+        let mut session = Session { record: Record::WIPED };
+        // SAFETY: the slices are valid for their lengths, and the record is this function's own.
+        let number = unsafe {
+            ffi::tuilarder_start(
+                &mut session.record,
+                words.as_ptr(),
+                words.len(),
+                separator.as_ptr(),
+                separator.len(),
+            )
+        };
+        result(number)?;
+        Ok(session)
+    }
+
+    /// ABSORB: takes elements in. A phase's elements may be cut into calls freely. A call with no elements changes nothing.
+    ///
+    /// # Errors
+    ///
+    /// 7, 8, 9, 10, the first that applies. 9 wipes the record, and later calls get 7; the others leave it.
+    pub fn absorb(&mut self, elements: &[u32]) -> Result<(), Refusal> {
+        // SAFETY: the slice is valid for its length, and `&mut self` keeps the record apart from it.
+        result(unsafe { ffi::tuilarder_absorb(&mut self.record, elements.as_ptr(), elements.len()) })
+    }
+
+    /// SQUEEZE: fills a buffer with elements. A phase's elements may be cut into calls freely. An empty buffer changes nothing.
+    ///
+    /// # Errors
+    ///
+    /// 7, 8, 9, the first that applies, and the buffer is left. 9 wipes the record, and later calls get 7; the others leave it.
+    pub fn squeeze(&mut self, buffer: &mut [u32]) -> Result<(), Refusal> {
+        // SAFETY: the slice is valid for its length, and `&mut self` keeps the record apart from it.
+        result(unsafe { ffi::tuilarder_squeeze(&mut self.record, buffer.as_mut_ptr(), buffer.len()) })
+    }
+
+    /// SQUEEZE of `N` elements, as an array.
+    ///
+    /// # Errors
+    ///
+    /// As [`Session::squeeze`].
+    pub fn challenge<const N: usize>(&mut self) -> Result<[u32; N], Refusal> {
+        let mut elements = [0; N];
+        self.squeeze(&mut elements)?;
+        Ok(elements)
+    }
+
+    /// FINISH: ends a session whose pattern is done. Refused or not, the session is over and its record wiped.
+    ///
+    /// # Errors
+    ///
+    /// 7, 8, 11, the first that applies.
+    pub fn finish(mut self) -> Result<(), Refusal> {
+        // SAFETY: the record is this session's own.
+        result(unsafe { ffi::tuilarder_finish(&mut self.record) })
+    }
+
+    /// A second session at the same place. Each goes on by itself.
+    pub fn fork(&self) -> Session {
+        Session { record: self.record }
+    }
+
+    /// How many permutations the session has had.
+    pub fn permutations(&self) -> u64 {
+        self.record.permutations
+    }
+
+    /// The record, which holds the state.
+    pub fn record(&self) -> &Record {
+        &self.record
+    }
+
+    /// The session of any record. Each call looks at the record before it uses it: 7 where it is not open, 8 where it is not sound.
+    pub fn from_record(record: Record) -> Session {
+        Session { record }
+    }
+}
+
+/// The state is left out.
+impl fmt::Debug for Session {
+    fn fmt(&self, f: &mut fmt::Formatter<'_>) -> fmt::Result {
+        f.debug_struct("Session")
+            .field("open", &(self.record.status == 1))
+            .field("phase", &self.record.phase)
+            .field("done", &self.record.done)
+            .field("permutations", &self.record.permutations)
+            .finish_non_exhaustive()
+    }
+}
+
+/// Wipes the record.
+impl Drop for Session {
+    fn drop(&mut self) {
+        // SAFETY: the record is this session's own. A volatile write is not left out, though nothing reads the record again.
+        unsafe { ptr::write_volatile(&mut self.record, Record::WIPED) };
+        compiler_fence(Ordering::SeqCst);
+    }
+}

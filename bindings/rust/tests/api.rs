@@ -1,0 +1,389 @@
+//! The crate's types: each refusal, what the calls leave, and known challenges.
+//!
+//! Squeezed elements and the permuted state are from the second implementation, in Python, of document 01. The numbers, their conditions
+//! and their examples are document 01's table, "Calls turned away"; B1 to B7 are its samples.
+
+use std::mem::{size_of, ManuallyDrop};
+use std::ptr;
+
+use tuilarder::ffi::Record;
+use tuilarder::{permute, sha3_256, Call, Pattern, Refusal, Session, CAPACITY, PRIME, RATE, WIDTH};
+use Call::{Absorb, Squeeze};
+
+#[allow(dead_code)]
+#[path = "../examples/two_rounds.rs"]
+mod two_rounds;
+
+const ABSORB_BIT: u32 = 1 << 31;
+const MAX_LENGTH: u32 = 2147483647;
+
+const REFUSALS: [(u32, Refusal, &str); 13] = [
+    (1, Refusal::WordCountOutOfRange, "pattern of 0 or over 64 words"),
+    (2, Refusal::WordLengthZero, "a word of length 0"),
+    (3, Refusal::FirstWordSqueeze, "first word is SQUEEZE"),
+    (4, Refusal::LastWordAbsorb, "last word is ABSORB"),
+    (5, Refusal::MergedLengthTooLong, "merged length above 2147483647"),
+    (6, Refusal::SeparatorTooLong, "separator over 256 bytes"),
+    (7, Refusal::RecordNotOpen, "record not open"),
+    (8, Refusal::RecordNotSound, "open record not sound"),
+    (
+        9,
+        Refusal::CallNotInPattern,
+        "call of the wrong kind, past the phase's end, or after the last phase",
+    ),
+    (10, Refusal::ElementNotReduced, "an element of 2013265921 or more"),
+    (11, Refusal::PatternNotDone, "FINISH before the last phase's end"),
+    (12, Refusal::BufferTooShort, "lent buffer shorter than the tag string"),
+    (13, Refusal::NotTagString, "no tag string of that separator length"),
+];
+
+/// Calls that get the number, of each place in the API that can give it.
+fn refused_with(number: u32) -> Vec<Result<(), Refusal>> {
+    match number {
+        1..=5 => patterns_refused_with(number),
+        6 | 12 | 13 => strings_refused_with(number),
+        _ => sessions_refused_with(number),
+    }
+}
+
+fn patterns_refused_with(number: u32) -> Vec<Result<(), Refusal>> {
+    let words = |words: &[u32]| Pattern::from_words(words).map(drop);
+    let calls = |calls: &[Call]| Pattern::new(calls).map(drop);
+    match number {
+        1 => vec![
+            words(&[]),
+            words(&[1; 65]),
+            calls(&[]),
+            calls(&[Squeeze(0); 65]),
+            calls(&[Absorb(u32::MAX); 1000]),
+        ],
+        2 => vec![words(&[0x80000003, 0x00000000]), calls(&[Absorb(3), Squeeze(0)])],
+        3 => vec![words(&[0x00000001]), calls(&[Squeeze(1)])],
+        4 => vec![words(&[0x80000001]), calls(&[Absorb(1)])],
+        _ => vec![
+            words(&[0xffffffff, 0x80000001, 0x00000001]),
+            calls(&[Absorb(MAX_LENGTH), Absorb(1), Squeeze(1)]),
+            calls(&[Absorb(1), Squeeze(1 << 31)]),
+        ],
+    }
+}
+
+fn strings_refused_with(number: u32) -> Vec<Result<(), Refusal>> {
+    let long = [0; 257];
+    match number {
+        6 => vec![
+            Session::start(&one_and_one(), &long).map(drop),
+            one_and_one().tag_string(&long, &mut [0; 1024]).map(drop),
+            Pattern::read(&long, 257).map(drop),
+        ],
+        12 => vec![b1().tag_string(b"AB", &mut [0; 9]).map(drop)],
+        _ => vec![
+            Pattern::read(&[0x80, 0, 0, 3], 0).map(drop),
+            Pattern::read(&[], 1).map(drop),
+        ],
+    }
+}
+
+fn sessions_refused_with(number: u32) -> Vec<Result<(), Refusal>> {
+    match number {
+        7 => on_each_call(Record::WIPED),
+        8 => on_each_call(Record {
+            absorb_position: 9,
+            ..*opened().record()
+        }),
+        9 => vec![
+            opened().squeeze(&mut [0]),
+            opened().absorb(&[1, 1]),
+            opened().challenge::<1>().map(drop),
+        ],
+        10 => vec![opened().absorb(&[2013265921]), permute(&mut [2013265921; WIDTH])],
+        _ => vec![opened().finish()],
+    }
+}
+
+fn one_and_one() -> Pattern {
+    Pattern::new(&[Absorb(1), Squeeze(1)]).unwrap()
+}
+
+fn b1() -> Pattern {
+    Pattern::from_words(&[0x80000003, 0x80000003, 0x00000003]).unwrap()
+}
+
+fn opened() -> Session {
+    Session::start(&one_and_one(), b"").unwrap()
+}
+
+fn on_each_call(record: Record) -> Vec<Result<(), Refusal>> {
+    let session = || Session::from_record(record);
+    vec![
+        session().absorb(&[1]),
+        session().absorb(&[]),
+        session().squeeze(&mut [0]),
+        session().finish(),
+    ]
+}
+
+#[test]
+fn each_refusal_is_given_with_its_number_and_words() {
+    for (number, refusal, text) in REFUSALS {
+        assert_eq!(refusal.number(), number);
+        assert_eq!(refusal.to_string(), text);
+        let error: &dyn std::error::Error = &refusal;
+        assert_eq!(error.to_string(), text);
+        for (place, answer) in refused_with(number).into_iter().enumerate() {
+            assert_eq!(answer, Err(refusal), "number {number}, call {place}");
+        }
+    }
+}
+
+#[test]
+fn the_first_number_that_applies_is_given() {
+    let long = Absorb(u32::MAX);
+    let number = |calls: &[Call]| Pattern::new(calls).map_err(Refusal::number).map(drop);
+    assert_eq!(number(&[Squeeze(1), long, Absorb(0)]), Err(2));
+    assert_eq!(number(&[Squeeze(1), long]), Err(3));
+    assert_eq!(number(&[long, Squeeze(1), Absorb(1)]), Err(4));
+    assert_eq!(number(&[long, Squeeze(1)]), Err(5));
+    assert_eq!(number(&[Absorb(1), Squeeze(u32::MAX)]), Err(5));
+    assert_eq!(number(&[Absorb(1 << 31), Squeeze(1)]), Err(5));
+    assert_eq!(number(&[Absorb(MAX_LENGTH), Squeeze(MAX_LENGTH)]), Ok(()));
+}
+
+#[test]
+fn a_pattern_has_at_most_64_words() {
+    let calls: Vec<Call> = (0..64)
+        .map(|k| if k % 2 == 0 { Absorb(k + 1) } else { Squeeze(k + 1) })
+        .collect();
+    let pattern = Pattern::new(&calls).unwrap();
+    assert_eq!(pattern.calls().collect::<Vec<_>>(), calls);
+    assert_eq!(pattern.words()[..2], [ABSORB_BIT | 1, 2]);
+    assert_eq!(pattern, Pattern::from_words(pattern.words()).unwrap());
+    assert_eq!(pattern.merged(), pattern);
+    let mut buffer = [0; Pattern::MAX_TAG_STRING];
+    assert_eq!(pattern.tag_string(&[7; 256], &mut buffer).unwrap().len(), 512);
+}
+
+#[test]
+fn merging_adds_neighbours_of_one_kind() {
+    assert_eq!(b1().words(), [0x80000003, 0x80000003, 0x00000003]);
+    assert_eq!(b1().merged(), Pattern::new(&[Absorb(6), Squeeze(3)]).unwrap());
+    assert_ne!(b1(), b1().merged());
+    assert_eq!(format!("{:?}", b1()), "Pattern [Absorb(3), Absorb(3), Squeeze(3)]");
+    let b3 = Pattern::from_words(&[0xfffffffe, 0x80000001, 0x00000001]).unwrap();
+    assert_eq!(b3.merged().words(), [0xffffffff, 0x00000001]);
+}
+
+#[test]
+fn a_tag_string_is_written_and_read_back() {
+    let b1_string = [0x80, 0, 0, 6, 0, 0, 0, 3, 0x41, 0x42];
+    let mut buffer = [7; 12];
+    assert_eq!(b1().tag_string(&[0x41, 0x42], &mut buffer), Ok(&b1_string[..]));
+    assert_eq!(buffer[10..], [7, 7]);
+    let (pattern, separator) = Pattern::read(&b1_string, 2).unwrap();
+    assert_eq!((pattern.clone(), separator), (b1().merged(), &b1_string[8..]));
+    assert!(ptr::eq(separator, &b1_string[8..]));
+    assert_eq!(pattern.tag_string(separator, &mut [0; 10]), Ok(&b1_string[..]));
+    let mut short = [7; 9];
+    assert_eq!(b1().tag_string(b"AB", &mut short), Err(Refusal::BufferTooShort));
+    assert_eq!(short, [7; 9]);
+}
+
+/// B2: one string for two patterns, with separators of unequal length.
+#[test]
+fn a_string_is_read_by_the_length_of_its_separator() {
+    let string = [0x80, 0, 0, 1, 0, 0, 0, 1, 0x80, 0, 0, 2, 0, 0, 0, 2];
+    let longer = Pattern::new(&[Absorb(1), Squeeze(1), Absorb(2), Squeeze(2)]).unwrap();
+    assert_eq!(Pattern::read(&string, 8), Ok((one_and_one(), &string[8..])));
+    assert_eq!(Pattern::read(&string, 0), Ok((longer, &string[16..])));
+    assert_eq!(Pattern::read(&string, 4), Err(Refusal::NotTagString));
+    assert_eq!(Pattern::read(&string, 17), Err(Refusal::NotTagString));
+}
+
+/// Absorbs 1, 2, 3 .. in one call a phase. Gives the elements squeezed, and the permutations before FINISH.
+fn run(lengths: &[u32]) -> (Vec<u32>, u64) {
+    let calls: Vec<Call> = (0..)
+        .zip(lengths)
+        .map(|(k, &n)| if k % 2 == 0 { Absorb(n) } else { Squeeze(n) })
+        .collect();
+    let mut session = Session::start(&Pattern::new(&calls).unwrap(), b"").unwrap();
+    let (mut next, mut squeezed) = (1, Vec::new());
+    for call in calls {
+        match call {
+            Absorb(length) => {
+                let elements: Vec<u32> = (next..next + length).collect();
+                session.absorb(&elements).unwrap();
+                next += length;
+            }
+            Squeeze(length) => {
+                let mut buffer = vec![0; length as usize];
+                session.squeeze(&mut buffer).unwrap();
+                squeezed.append(&mut buffer);
+            }
+        }
+    }
+    let permutations = session.permutations();
+    session.finish().unwrap();
+    (squeezed, permutations)
+}
+
+#[test]
+fn sessions_of_b4_to_b7_squeeze_what_the_second_implementation_does() {
+    let b6 = [
+        970910280, 1528735997, 1906973699, 74930400, 1414340884, 151558739, 1690980429, 1214461681, 669881811,
+    ];
+    let b7 = [
+        1520755747, 1654583900, 665816991, 1723433768, 502947992, 381137256, 437094857, 279161951, 19357506,
+    ];
+    assert_eq!(run(&[8, 1]), (vec![1413794352], 1));
+    assert_eq!(run(&[9, 1]), (vec![774647143], 2));
+    assert_eq!(run(&[1, 9]), (b6.to_vec(), 2));
+    assert_eq!(run(&[8, 8, 1, 1]), (b7.to_vec(), 2));
+}
+
+#[test]
+fn the_example_prints_the_second_implementations_challenges() {
+    let expected = "prover [1230312087, 687121981]\nverifier [1230312087, 687121981]\n";
+    assert_eq!(two_rounds::report().unwrap(), expected);
+}
+
+fn two_rounds_session() -> Session {
+    let pattern = Pattern::new(&[Absorb(4), Squeeze(1), Absorb(2), Squeeze(1)]).unwrap();
+    Session::start(&pattern, b"two rounds").unwrap()
+}
+
+#[test]
+fn a_fork_goes_on_by_itself() {
+    let mut session = two_rounds_session();
+    session.absorb(&[11, 22, 33, 44]).unwrap();
+    assert_eq!(session.challenge(), Ok([1230312087]));
+    let mut fork = session.fork();
+    assert_eq!(fork.record(), session.record());
+    fork.absorb(&[55, 67]).unwrap();
+    session.absorb(&[55, 66]).unwrap();
+    assert_eq!(fork.challenge(), Ok([650516488]));
+    assert_eq!(fork.finish(), Ok(()));
+    assert_eq!(session.challenge(), Ok([687121981]));
+    assert_eq!(session.finish(), Ok(()));
+}
+
+#[test]
+fn calls_may_be_cut_and_empty_ones_change_nothing() {
+    let mut session = two_rounds_session();
+    session.absorb(&[11]).unwrap();
+    let record = *session.record();
+    session.absorb(&[]).unwrap();
+    session.squeeze(&mut []).unwrap();
+    assert_eq!(session.challenge(), Ok([]));
+    assert_eq!(*session.record(), record);
+    session.absorb(&[22, 33, 44]).unwrap();
+    assert_eq!(session.challenge(), Ok([1230312087]));
+}
+
+#[test]
+fn a_refused_call_leaves_what_document_01_says() {
+    let mut session = opened();
+    let record = *session.record();
+    assert_eq!(session.absorb(&[PRIME]), Err(Refusal::ElementNotReduced));
+    assert_eq!(*session.record(), record);
+    session.absorb(&[PRIME - 1]).unwrap();
+    let mut buffer = [7; 2];
+    assert_eq!(session.squeeze(&mut buffer), Err(Refusal::CallNotInPattern));
+    assert_eq!((buffer, *session.record()), ([7; 2], Record::WIPED));
+    assert_eq!(session.squeeze(&mut buffer), Err(Refusal::RecordNotOpen));
+    assert_eq!(buffer, [7; 2]);
+    let unsound = Record {
+        permutations: 1,
+        ..record
+    };
+    let mut session = Session::from_record(unsound);
+    assert_eq!(session.squeeze(&mut buffer), Err(Refusal::RecordNotSound));
+    assert_eq!((buffer, *session.record()), ([7; 2], unsound));
+}
+
+#[test]
+fn a_record_goes_in_and_out() {
+    let mut session = two_rounds_session();
+    session.absorb(&[11, 22, 33, 44]).unwrap();
+    let mut again = Session::from_record(*session.record());
+    assert_eq!(again.challenge(), Ok([1230312087]));
+    assert_eq!((again.permutations(), session.permutations()), (1, 0));
+}
+
+#[test]
+fn dropping_wipes_every_byte() {
+    const ONES: u32 = u32::MAX;
+    let record = Record {
+        status: ONES,
+        state: [ONES; 24],
+        words: [ONES; 64],
+        count: ONES,
+        phase: ONES,
+        done: ONES,
+        absorb_position: ONES,
+        squeeze_position: ONES,
+        permutations: u64::MAX,
+    };
+    let mut session = ManuallyDrop::new(Session::from_record(record));
+    let place: *mut Session = &mut *session;
+    assert_eq!(size_of::<Session>(), 384);
+    // SAFETY: the bytes are those of a session in this function, which is dropped once; a session has integers only, and no padding.
+    unsafe {
+        assert_eq!(ptr::read_volatile(place.cast::<[u8; 384]>()), [0xff; 384]);
+        ptr::drop_in_place(place);
+        assert_eq!(ptr::read_volatile(place.cast::<[u8; 384]>()), [0; 384]);
+    }
+}
+
+#[test]
+fn debug_leaves_the_state_out() {
+    let mut session = two_rounds_session();
+    session.absorb(&[11, 22, 33]).unwrap();
+    assert_eq!(
+        format!("{session:?}"),
+        "Session { open: true, phase: 0, done: 3, permutations: 0, .. }"
+    );
+}
+
+#[test]
+fn the_permutation_is_the_second_implementations() {
+    let permuted = [
+        1388997836, 948162243, 1299935936, 1025156667, 515334320, 1361602483, 546021127, 900157588, 1193585924,
+        1723824986, 1518293279, 475657192, 4224694, 1309519042, 867247226, 230798774, 1889843499, 86006077, 1548273803,
+        983866312, 738482988, 1675543977, 27100451, 609882057,
+    ];
+    let mut state: [u32; WIDTH] = std::array::from_fn(|i| i as u32);
+    assert_eq!(permute(&mut state), Ok(()));
+    assert_eq!(state, permuted);
+    state[23] = PRIME;
+    let refused = state;
+    assert_eq!(permute(&mut state), Err(Refusal::ElementNotReduced));
+    assert_eq!(state, refused);
+}
+
+/// The example values that NIST publishes with FIPS 202.
+#[test]
+fn digests_are_those_of_fips_202() {
+    let hex = |digest: [u8; 32]| digest.iter().map(|byte| format!("{byte:02x}")).collect::<String>();
+    assert_eq!(
+        hex(sha3_256(b"abc")),
+        "3a985da74fe225b2045c172d6bd390bd855f086e3e9d525b46bfe24511431532"
+    );
+    assert_eq!(
+        hex(sha3_256(b"")),
+        "a7ffc6f8bf1ed76651c14756a061d662f580ff4de43b49fa82d80a4b80f8434a"
+    );
+}
+
+/// The figures of document 01.
+#[test]
+fn the_figures_are_document_01s() {
+    assert_eq!((RATE, CAPACITY, WIDTH, PRIME), (8, 16, 24, 15 * (1 << 27) + 1));
+}
+
+const fn shared_between_threads<T: Send + Sync>() {}
+const _: () = {
+    shared_between_threads::<Session>();
+    shared_between_threads::<Pattern>();
+    shared_between_threads::<Call>();
+    shared_between_threads::<Refusal>();
+};

@@ -1,0 +1,636 @@
+//! A second implementation of the challenge sponge, written from document 01 alone. It shares no code with the library,
+//! which the tests compare with it, and is plain rather than fast. Quotations are from document 01 unless another source
+//! is named.
+
+// Each program that takes this file in uses only a part of it.
+#![allow(dead_code)]
+
+use std::collections::VecDeque;
+use std::sync::OnceLock;
+
+/// "p = 2013265921 = 15 × 2^27 + 1."
+pub const P: u32 = 2013265921;
+
+/// "Fixed figures of the session: rate 8, capacity 16, width 24."
+pub const RATE: u32 = 8;
+pub const WIDTH: usize = 24;
+
+/// "One permutation is 29 rounds: 4 full, 21 partial, 4 full."
+const FULL_ROUNDS_EACH_SIDE: usize = 4;
+const PARTIAL_ROUNDS: usize = 21;
+const ROUNDS: usize = 29;
+
+/// "The 696 round constants".
+pub const CONSTANTS: usize = 696;
+
+/// "A word has its top bit set for ABSORB and clear for SQUEEZE; its low 31 bits are the length."
+pub const ABSORB: u32 = 0x80000000;
+pub const LONGEST: u32 = 0x7fffffff;
+
+/// "pattern of 0 or over 64 words" and "separator over 256 bytes".
+pub const MOST_WORDS: usize = 64;
+pub const LONGEST_SEPARATOR: usize = 256;
+
+/// "The state has eight outer elements and sixteen inner elements, numbered 0 to 23 with the outer ones first."
+pub type State = [u32; WIDTH];
+
+// The field
+
+/// "All arithmetic on elements is modulo p, results from 0 to p − 1."
+fn add(a: u32, b: u32) -> u32 {
+    ((u64::from(a) + u64::from(b)) % u64::from(P)) as u32
+}
+
+/// "All arithmetic on elements is modulo p, results from 0 to p − 1."
+fn multiply(a: u32, b: u32) -> u32 {
+    (u64::from(a) * u64::from(b) % u64::from(P)) as u32
+}
+
+/// "raises all elements (full) or element 0 alone (partial) to the seventh power", for any exponent.
+pub fn power(base: u32, exponent: u32) -> u32 {
+    let mut result = 1;
+    for k in (0..u32::BITS).rev() {
+        result = multiply(result, result);
+        if exponent >> k & 1 == 1 {
+            result = multiply(result, base);
+        }
+    }
+    result
+}
+
+/// "the inverse of i + j + 24": as p is prime, the power p − 2.
+pub fn inverse(a: u32) -> u32 {
+    power(a, P - 2)
+}
+
+// The round constants
+
+/// "Poseidon's Grain generator", with the oldest bit in front.
+struct Grain {
+    register: VecDeque<u8>,
+    new_bits: u32,
+}
+
+impl Grain {
+    /// "An 80-bit register starts as, from bit 0 on and each number high bit first: field kind 1 (2 bits), power 0 (4),
+    /// 31 (12), 24 (12), 8 (10), 21 (10), thirty ones." "The first 160 new bits are dropped."
+    fn new() -> Grain {
+        let numbers = [
+            (1, 2),
+            (0, 4),
+            (31, 12),
+            (24, 12),
+            (8, 10),
+            (21, 10),
+            ((1 << 30) - 1, 30),
+        ];
+        let mut register = VecDeque::new();
+        for (number, size) in numbers {
+            register.extend((0..size).rev().map(|k| (number >> k & 1) as u8));
+        }
+        assert_eq!(register.len(), 80);
+        let mut grain = Grain { register, new_bits: 0 };
+        for _ in 0..160 {
+            grain.new_bit();
+        }
+        grain
+    }
+
+    /// "The next bit is the exclusive or of register bits 62, 51, 38, 23, 13 and 0, where bit 0 is the oldest and
+    /// leaves." "It stops at 696 constants or 262,144 new bits, dropped ones included": then there is none.
+    fn new_bit(&mut self) -> Option<u8> {
+        if self.new_bits == 262_144 {
+            return None;
+        }
+        let bit = [62, 51, 38, 23, 13, 0]
+            .iter()
+            .fold(0, |sum, place| sum ^ self.register[*place]);
+        self.register.pop_front();
+        self.register.push_back(bit);
+        self.new_bits += 1;
+        Some(bit)
+    }
+
+    /// "Later bits go in pairs: if the first is 1, the second is output, else neither."
+    fn output_bit(&mut self) -> Option<u8> {
+        loop {
+            let (first, second) = (self.new_bit()?, self.new_bit()?);
+            if first == 1 {
+                return Some(second);
+            }
+        }
+    }
+
+    /// "31 output bits, first highest, make a candidate; one of p or more is dropped."
+    fn constant(&mut self) -> Option<u32> {
+        loop {
+            let mut candidate = 0;
+            for _ in 0..31 {
+                candidate = candidate << 1 | u32::from(self.output_bit()?);
+            }
+            if candidate < P {
+                return Some(candidate);
+            }
+        }
+    }
+}
+
+/// "It stops at 696 constants or 262,144 new bits, dropped ones included, and gives those found, zeros in the places
+/// left, and how many".
+pub fn round_constants() -> ([u32; CONSTANTS], usize) {
+    let mut grain = Grain::new();
+    let mut constants = [0; CONSTANTS];
+    for found in 0..CONSTANTS {
+        match grain.constant() {
+            Some(constant) => constants[found] = constant,
+            None => return (constants, found),
+        }
+    }
+    (constants, CONSTANTS)
+}
+
+/// What is worked out once.
+struct Tables {
+    constants: [u32; CONSTANTS],
+    matrix: [State; WIDTH],
+    lane_rotations: [[u32; 5]; 5],
+    hash_constants: [u64; 24],
+}
+
+fn tables() -> &'static Tables {
+    static TABLES: OnceLock<Tables> = OnceLock::new();
+    TABLES.get_or_init(|| Tables {
+        constants: round_constants().0,
+        matrix: matrix(),
+        lane_rotations: lane_rotations(),
+        hash_constants: hash_constants(),
+    })
+}
+
+// The permutation
+
+/// "the matrix whose entry at row i, column j is the inverse of i + j + 24".
+fn matrix() -> [State; WIDTH] {
+    std::array::from_fn(|i| std::array::from_fn(|j| inverse((i + j + 24) as u32)))
+}
+
+/// "A round adds its 24 constants; raises all elements (full) or element 0 alone (partial) to the seventh power; then
+/// multiplies by the matrix".
+fn round(state: &State, constants: &[u32], full: bool) -> State {
+    let mut elements: State = std::array::from_fn(|k| add(state[k], constants[k]));
+    let raised = if full { WIDTH } else { 1 };
+    for element in &mut elements[..raised] {
+        *element = power(*element, 7);
+    }
+    let product = |row: &State| {
+        row.iter()
+            .zip(&elements)
+            .fold(0, |sum, (a, b)| add(sum, multiply(*a, *b)))
+    };
+    std::array::from_fn(|i| product(&tables().matrix[i]))
+}
+
+/// "One permutation is 29 rounds: 4 full, 21 partial, 4 full." "Constants fill round by round, element 0 first."
+fn permutation(state: &State) -> State {
+    let mut state = *state;
+    for number in 0..ROUNDS {
+        let partial = FULL_ROUNDS_EACH_SIDE..FULL_ROUNDS_EACH_SIDE + PARTIAL_ROUNDS;
+        let constants = &tables().constants[WIDTH * number..WIDTH * (number + 1)];
+        state = round(&state, constants, !partial.contains(&number));
+    }
+    state
+}
+
+/// The permutation as a call. "The permutation gives 10 and its input back", under "an element of p or more".
+pub fn permute(state: &mut State) -> u32 {
+    if state.iter().any(|element| *element >= P) {
+        return 10;
+    }
+    *state = permutation(state);
+    0
+}
+
+// SHA3-256. "The hash state is 25 lanes of 64 bits." Here lanes[x][y] is the lane (x, y) of FIPS 202.
+
+type Lanes = [[u64; 5]; 5];
+
+/// A state by its lanes.
+fn lanes(lane: impl Fn(usize, usize) -> u64) -> Lanes {
+    std::array::from_fn(|x| std::array::from_fn(|y| lane(x, y)))
+}
+
+/// FIPS 202, 3.2.2, step 3: the offsets (t + 1)(t + 2)/2 along the walk (x, y) to (y, 2x + 3y) from (1, 0).
+fn lane_rotations() -> [[u32; 5]; 5] {
+    let mut rotations = [[0; 5]; 5];
+    let (mut x, mut y) = (1, 0);
+    for t in 0..24 {
+        rotations[x][y] = (t + 1) * (t + 2) / 2 % 64;
+        (x, y) = (y, (2 * x + 3 * y) % 5);
+    }
+    rotations
+}
+
+/// FIPS 202, 3.2.5, Algorithms 5 and 6: bit 2^j − 1 of round i's constant is bit j + 7i of a feedback register.
+fn hash_constants() -> [u64; 24] {
+    let mut constants = [0; 24];
+    let mut register: u8 = 1;
+    for constant in &mut constants {
+        for j in 0..7 {
+            *constant |= u64::from(register & 1) << ((1 << j) - 1);
+            let leaving = register >> 7;
+            register = (register << 1) ^ (leaving * 0b0111_0001);
+        }
+    }
+    constants
+}
+
+/// FIPS 202, 3.2.1 to 3.2.5 and 3.3: theta, rho, pi, chi and iota.
+fn hash_round(a: &Lanes, constant: u64) -> Lanes {
+    let columns: [u64; 5] = std::array::from_fn(|x| a[x].iter().fold(0, |sum, lane| sum ^ lane));
+    let a = lanes(|x, y| a[x][y] ^ columns[(x + 4) % 5] ^ columns[(x + 1) % 5].rotate_left(1));
+    let a = lanes(|x, y| a[x][y].rotate_left(tables().lane_rotations[x][y]));
+    let a = lanes(|x, y| a[(x + 3 * y) % 5][x]);
+    let mut a = lanes(|x, y| a[x][y] ^ !a[(x + 1) % 5][y] & a[(x + 2) % 5][y]);
+    a[0][0] ^= constant;
+    a
+}
+
+/// "SHA3-256 (FIPS 202) of that string is the digest." FIPS 202, 6.1 and B.2: blocks of 136 bytes, the last filled up
+/// with 06, zeros and a top bit.
+pub fn sha3_256(data: &[u8]) -> [u8; 32] {
+    let mut padded = data.to_vec();
+    padded.push(0x06);
+    padded.resize(padded.len().next_multiple_of(136), 0);
+    *padded.last_mut().unwrap() |= 0x80;
+    let mut a = lanes(|_, _| 0);
+    for block in padded.chunks(136) {
+        for (k, bytes) in block.chunks(8).enumerate() {
+            a[k % 5][k / 5] ^= u64::from_le_bytes(bytes.try_into().unwrap());
+        }
+        for constant in tables().hash_constants {
+            a = hash_round(&a, constant);
+        }
+    }
+    std::array::from_fn(|k| a[k / 8][0].to_le_bytes()[k % 8])
+}
+
+// Tags
+
+/// "A word has its top bit set for ABSORB and clear for SQUEEZE".
+fn is_absorb(word: u32) -> bool {
+    word & ABSORB != 0
+}
+
+/// "its low 31 bits are the length."
+pub fn length(word: u32) -> u32 {
+    word & LONGEST
+}
+
+/// "Merging adds neighbouring lengths of one kind." None for a "merged length above 2147483647".
+fn merge(words: &[u32]) -> Option<Vec<u32>> {
+    let mut merged: Vec<u32> = Vec::new();
+    for word in words {
+        match merged.last_mut() {
+            Some(last) if is_absorb(*last) == is_absorb(*word) => {
+                let sum = u64::from(length(*last)) + u64::from(length(*word));
+                if sum > u64::from(LONGEST) {
+                    return None;
+                }
+                *last += length(*word);
+            }
+            _ => merged.push(*word),
+        }
+    }
+    Some(merged)
+}
+
+/// "START checks 1 to 6 in number order, whichever word is at fault". Gives the merged words or the number.
+fn check_pattern(words: &[u32], separator: &[u8]) -> Result<Vec<u32>, u32> {
+    if words.is_empty() || words.len() > MOST_WORDS {
+        return Err(1);
+    }
+    if words.iter().any(|word| length(*word) == 0) {
+        return Err(2);
+    }
+    if !is_absorb(words[0]) {
+        return Err(3);
+    }
+    if is_absorb(words[words.len() - 1]) {
+        return Err(4);
+    }
+    let merged = merge(words).ok_or(5_u32)?;
+    if separator.len() > LONGEST_SEPARATOR {
+        return Err(6);
+    }
+    Ok(merged)
+}
+
+/// "The tag string is the merged words, four bytes each, highest byte first, then the separator."
+fn tag_string(merged: &[u32], separator: &[u8]) -> Vec<u8> {
+    let mut string: Vec<u8> = merged.iter().flat_map(|word| word.to_be_bytes()).collect();
+    string.extend(separator);
+    string
+}
+
+/// "Writing checks 1 to 6, then 12; it writes from the buffer's start and only the string's bytes, and none when
+/// refused." Gives how many bytes were written, or the number.
+pub fn write_tag(words: &[u32], separator: &[u8], out: &mut [u8]) -> Result<usize, u32> {
+    let string = tag_string(&check_pattern(words, separator)?, separator);
+    if out.len() < string.len() {
+        return Err(12);
+    }
+    out[..string.len()].copy_from_slice(&string);
+    Ok(string.len())
+}
+
+/// "Reading checks 6 (the length given), then 13: the string is shorter than that length, or what precedes it isn't a
+/// sound record's word list in whole words."
+fn split_tag(string: &[u8], separator_length: usize) -> Result<(Vec<u32>, &[u8]), u32> {
+    if separator_length > LONGEST_SEPARATOR {
+        return Err(6);
+    }
+    if string.len() < separator_length {
+        return Err(13);
+    }
+    let (bytes, separator) = string.split_at(string.len() - separator_length);
+    let words: Vec<u32> = bytes
+        .chunks_exact(4)
+        .map(|four| u32::from_be_bytes([four[0], four[1], four[2], four[3]]))
+        .collect();
+    if bytes.len() % 4 != 0 || !is_word_list(&words) {
+        return Err(13);
+    }
+    Ok((words, separator))
+}
+
+/// "The merged words come back by value"; "the number comes with the words." "Refused, it gives 64 zero words and
+/// count 0."
+pub fn read_tag(string: &[u8], separator_length: usize) -> (u32, [u32; MOST_WORDS], usize) {
+    match split_tag(string, separator_length) {
+        Ok((words, _)) => (0, with_unused_words(&words), words.len()),
+        Err(number) => (number, [0; MOST_WORDS], 0),
+    }
+}
+
+/// "the separator comes back as that part of the string itself (empty on a refusal), from a call of its own that checks
+/// the same".
+pub fn read_separator(string: &[u8], separator_length: usize) -> &[u8] {
+    split_tag(string, separator_length).map_or(&[], |(_, separator)| separator)
+}
+
+/// "with the merged words and their number"; "unused words are 0."
+fn with_unused_words(words: &[u32]) -> [u32; MOST_WORDS] {
+    std::array::from_fn(|k| words.get(k).copied().unwrap_or(0))
+}
+
+/// "Read the 32 digest bytes as eight words, highest byte first; keep the low 30 bits of each word."
+pub fn tag_elements(digest: &[u8; 32]) -> [u32; 8] {
+    std::array::from_fn(|k| {
+        let word = u32::from_be_bytes([digest[4 * k], digest[4 * k + 1], digest[4 * k + 2], digest[4 * k + 3]]);
+        word & 0x3fffffff
+    })
+}
+
+// Sessions
+
+/// "The record holds a status (1 open, otherwise closed), 24 state elements and 64 pattern words, the word count, the
+/// phase number, the elements done in that phase, an absorb and a squeeze position (0 to 8); and the record counts its
+/// permutations." "A copied record is a fork."
+#[derive(Clone, Debug, PartialEq, Eq)]
+pub struct Session {
+    pub status: u32,
+    pub state: State,
+    pub words: [u32; MOST_WORDS],
+    pub count: u32,
+    pub phase: u32,
+    pub done: u32,
+    pub absorb_position: u32,
+    pub squeeze_position: u32,
+    pub permutations: u64,
+}
+
+/// "Wiped means every field 0."
+pub const WIPED: Session = Session {
+    status: 0,
+    state: [0; WIDTH],
+    words: [0; MOST_WORDS],
+    count: 0,
+    phase: 0,
+    done: 0,
+    absorb_position: 0,
+    squeeze_position: 0,
+    permutations: 0,
+};
+
+/// The two positions and the count of permutations that "the steps give at that place".
+#[derive(Clone, Copy, Debug, PartialEq, Eq)]
+pub struct Place {
+    pub absorb_position: u32,
+    pub squeeze_position: u32,
+    pub permutations: u64,
+}
+
+impl Place {
+    /// "Permutations for d elements done in a phase: absorb, 0 if d = 0, else ceil(d/8) − 1; squeeze, ceil(d/8)."
+    /// The last of d elements leaves a position of 1 to 8. A phase's first element finds the absorb position 0: at the
+    /// start, or as the squeezing before it left it. An ABSORB sets the squeeze position to 8, so that a SQUEEZE
+    /// after it permutes, which takes the absorb position to 0. With d = 0 all is as the phase before left it.
+    fn after(self, word: u32, done: u32) -> Place {
+        if done == 0 {
+            return self;
+        }
+        let position = (done - 1) % RATE + 1;
+        let blocks = u64::from(done.div_ceil(RATE));
+        let (absorb_position, squeeze_position, permutations) = if is_absorb(word) {
+            (position, RATE, blocks - 1)
+        } else {
+            (0, position, blocks)
+        };
+        Place {
+            absorb_position,
+            squeeze_position,
+            permutations: self.permutations + permutations,
+        }
+    }
+}
+
+/// "Their sum over phases is the count." START leaves both positions and the count 0.
+pub fn place(words: &[u32], phase: usize, done: u32) -> Place {
+    let start = Place {
+        absorb_position: 0,
+        squeeze_position: 0,
+        permutations: 0,
+    };
+    let whole = words[..phase]
+        .iter()
+        .fold(start, |place, word| place.after(*word, length(*word)));
+    words.get(phase).map_or(whole, |word| whole.after(*word, done))
+}
+
+/// "its words are 2 to 64, even in number, alternate from ABSORB, have lengths of at least 1".
+fn is_word_list(words: &[u32]) -> bool {
+    (2..=MOST_WORDS).contains(&words.len())
+        && words.len() % 2 == 0
+        && words
+            .iter()
+            .enumerate()
+            .all(|(k, word)| is_absorb(*word) == (k % 2 == 0) && length(*word) >= 1)
+}
+
+/// "An open record is sound if its words are 2 to 64, even in number, alternate from ABSORB, have lengths of at least 1,
+/// and unused words are 0; the phase number is at most the word count; elements done are below the phase's length, or 0
+/// after the last phase; all state elements are below p; and count and positions are those the steps give at that
+/// place."
+fn is_sound(record: &Session) -> bool {
+    if record.count > MOST_WORDS as u32 || record.phase > record.count {
+        return false;
+    }
+    let (words, unused) = record.words.split_at(record.count as usize);
+    let done_fits = match words.get(record.phase as usize) {
+        Some(word) => record.done < length(*word),
+        None => record.done == 0,
+    };
+    let here = Place {
+        absorb_position: record.absorb_position,
+        squeeze_position: record.squeeze_position,
+        permutations: record.permutations,
+    };
+    is_word_list(words)
+        && unused.iter().all(|word| *word == 0)
+        && done_fits
+        && record.state.iter().all(|element| *element < P)
+        && here == place(words, record.phase as usize, record.done)
+}
+
+/// "record not open", "open record not sound": 7, 8, or else 0.
+fn check_record(record: &Session) -> u32 {
+    match (record.status == 1, is_sound(record)) {
+        (false, _) => 7,
+        (true, false) => 8,
+        (true, true) => 0,
+    }
+}
+
+/// Not "wrong kind, past the phase's end, or after the last phase", in a sound record. "The length of a call is that of
+/// its lent list or buffer."
+fn fits_phase(record: &Session, absorbing: bool, call_length: usize) -> bool {
+    if record.phase == record.count {
+        return false;
+    }
+    let word = record.words[record.phase as usize];
+    let left = length(word) - record.done;
+    is_absorb(word) == absorbing && call_length as u128 <= u128::from(left)
+}
+
+/// "When a phase's last element is done, the phase number (from 0) rises by one and elements done is 0."
+fn count_done(record: &mut Session, call_length: usize) {
+    record.done += call_length as u32;
+    if record.done == length(record.words[record.phase as usize]) {
+        record.phase += 1;
+        record.done = 0;
+    }
+}
+
+/// "the record counts its permutations".
+fn permute_session(record: &mut Session) {
+    record.state = permutation(&record.state);
+    record.permutations += 1;
+}
+
+/// "START makes it open, with the merged words and their number; phase number, elements done, positions, permutations
+/// and unused words are 0." "Word k is added to element 8 + k of the zero state." "a refusal gives a wiped record."
+pub fn start(words: &[u32], separator: &[u8]) -> (u32, Session) {
+    let merged = match check_pattern(words, separator) {
+        Ok(merged) => merged,
+        Err(number) => return (number, WIPED),
+    };
+    let tag = tag_elements(&sha3_256(&tag_string(&merged, separator)));
+    let mut record = Session {
+        status: 1,
+        words: with_unused_words(&merged),
+        count: merged.len() as u32,
+        ..WIPED
+    };
+    for (k, element) in tag.iter().enumerate() {
+        record.state[8 + k] = add(record.state[8 + k], *element);
+    }
+    (0, record)
+}
+
+/// "ABSORB adds each element at the absorb position. If that is 8, it permutes and goes to 0 first."
+fn absorb_element(record: &mut Session, element: u32) {
+    if record.absorb_position == RATE {
+        permute_session(record);
+        record.absorb_position = 0;
+    }
+    let place = record.absorb_position as usize;
+    record.state[place] = add(record.state[place], element);
+    record.absorb_position += 1;
+}
+
+/// "ABSORB and SQUEEZE check 7, 8, then accept length 0, then 9, then 10 (ABSORB only)." "Numbers 9 and 11 wipe the
+/// record; 7, 8 and 10 leave it." "A call of at least one element then sets the squeeze position to 8."
+pub fn absorb(record: &mut Session, elements: &[u32]) -> u32 {
+    let number = check_record(record);
+    if number != 0 || elements.is_empty() {
+        return number;
+    }
+    if !fits_phase(record, true, elements.len()) {
+        *record = WIPED;
+        return 9;
+    }
+    if elements.iter().any(|element| *element >= P) {
+        return 10;
+    }
+    for element in elements {
+        absorb_element(record, *element);
+    }
+    record.squeeze_position = RATE;
+    count_done(record, elements.len());
+    0
+}
+
+/// "SQUEEZE copies from the squeeze position. If that is 8, it first permutes and sets both positions to 0. Squeezing
+/// does not otherwise move the absorb position".
+fn squeeze_element(record: &mut Session) -> u32 {
+    if record.squeeze_position == RATE {
+        permute_session(record);
+        record.squeeze_position = 0;
+        record.absorb_position = 0;
+    }
+    let element = record.state[record.squeeze_position as usize];
+    record.squeeze_position += 1;
+    element
+}
+
+/// "ABSORB and SQUEEZE check 7, 8, then accept length 0, then 9"; 9 wipes the record. "A refused SQUEEZE writes no
+/// element."
+pub fn squeeze(record: &mut Session, buffer: &mut [u32]) -> u32 {
+    let number = check_record(record);
+    if number != 0 || buffer.is_empty() {
+        return number;
+    }
+    if !fits_phase(record, false, buffer.len()) {
+        *record = WIPED;
+        return 9;
+    }
+    for element in buffer.iter_mut() {
+        *element = squeeze_element(record);
+    }
+    count_done(record, buffer.len());
+    0
+}
+
+/// "FINISH checks 7, 8, 11." "FINISH before the last phase's end"; "FINISH wipes the caller's own record"; "Numbers 9
+/// and 11 wipe the record; 7, 8 and 10 leave it."
+pub fn finish(record: &mut Session) -> u32 {
+    let mut number = check_record(record);
+    if number != 0 {
+        return number;
+    }
+    if record.phase < record.count {
+        number = 11;
+    }
+    *record = WIPED;
+    number
+}
