@@ -1,0 +1,247 @@
+//! The library's calls with all that is lent to them between guards: cells with random contents, which have to be after
+//! the call as they were before it. A list that is only read has to be as it was too.
+
+// Each program that takes this file in uses only a part of it.
+#![allow(dead_code)]
+
+use std::fmt::Debug;
+use tuilarder::ffi::{self, Record};
+
+/// SplitMix64 of Steele, Lea and Flood, "Fast splittable pseudorandom number generators" (2014).
+#[derive(Clone, Debug)]
+pub struct Random(u64);
+
+impl Random {
+    pub fn new(seed: u64) -> Random {
+        Random(seed)
+    }
+
+    pub fn next(&mut self) -> u64 {
+        self.0 = self.0.wrapping_add(0x9e3779b97f4a7c15);
+        let z = (self.0 ^ (self.0 >> 30)).wrapping_mul(0xbf58476d1ce4e5b9);
+        let z = (z ^ (z >> 27)).wrapping_mul(0x94d049bb133111eb);
+        z ^ (z >> 31)
+    }
+
+    /// From 0 to `limit` − 1.
+    pub fn below(&mut self, limit: u64) -> u64 {
+        self.next() % limit
+    }
+
+    /// True once in so many times.
+    pub fn once_in(&mut self, times: u64) -> bool {
+        self.below(times) == 0
+    }
+
+    pub fn pick<T: Copy>(&mut self, choices: &[T]) -> T {
+        choices[self.below(choices.len() as u64) as usize]
+    }
+
+    pub fn list<T: Any>(&mut self, len: usize) -> Vec<T> {
+        (0..len).map(|_| T::any(self)).collect()
+    }
+}
+
+/// Any contents at all.
+pub trait Any {
+    fn any(random: &mut Random) -> Self;
+}
+
+impl Any for u8 {
+    fn any(random: &mut Random) -> u8 {
+        random.next() as u8
+    }
+}
+
+impl Any for u32 {
+    fn any(random: &mut Random) -> u32 {
+        random.next() as u32
+    }
+}
+
+impl Any for u64 {
+    fn any(random: &mut Random) -> u64 {
+        random.next()
+    }
+}
+
+impl Any for usize {
+    fn any(random: &mut Random) -> usize {
+        random.next() as usize
+    }
+}
+
+impl<T: Any, const N: usize> Any for [T; N] {
+    fn any(random: &mut Random) -> [T; N] {
+        std::array::from_fn(|_| T::any(random))
+    }
+}
+
+impl Any for Record {
+    fn any(random: &mut Random) -> Record {
+        Record {
+            status: Any::any(random),
+            state: Any::any(random),
+            words: Any::any(random),
+            count: Any::any(random),
+            phase: Any::any(random),
+            done: Any::any(random),
+            absorb_position: Any::any(random),
+            squeeze_position: Any::any(random),
+            permutations: Any::any(random),
+        }
+    }
+}
+
+/// A list lent to the library, between two guards of 1 to 4 cells.
+struct Lent<T> {
+    before: Vec<T>,
+    cells: Vec<T>,
+    front: usize,
+    len: usize,
+}
+
+impl<T: Any + Copy + PartialEq + Debug> Lent<T> {
+    fn new(contents: &[T], random: &mut Random) -> Lent<T> {
+        let front = 1 + random.below(4) as usize;
+        let back = 1 + random.below(4) as usize;
+        let mut before = random.list(front);
+        before.extend(contents);
+        before.extend(random.list::<T>(back));
+        Lent {
+            cells: before.clone(),
+            before,
+            front,
+            len: contents.len(),
+        }
+    }
+
+    fn pointer(&mut self) -> *mut T {
+        self.cells.as_mut_ptr().wrapping_add(self.front)
+    }
+
+    /// The contents after the call.
+    fn returned(&self) -> &[T] {
+        let end = self.front + self.len;
+        assert_eq!(
+            self.cells[..self.front],
+            self.before[..self.front],
+            "cells before the lent ones were written"
+        );
+        assert_eq!(
+            self.cells[end..],
+            self.before[end..],
+            "cells after the lent ones were written"
+        );
+        &self.cells[self.front..end]
+    }
+
+    /// After a call that may only read.
+    fn only_read(&self) {
+        assert_eq!(self.cells, self.before, "a list that may only be read was written");
+    }
+}
+
+pub fn start(random: &mut Random, record: &mut Record, words: &[u32], separator: &[u8]) -> u32 {
+    let mut lent = Lent::new(&[*record], random);
+    let (mut words, mut separator) = (Lent::new(words, random), Lent::new(separator, random));
+    // SAFETY: the pointers are to that many cells, and the lists are apart.
+    let number = unsafe {
+        ffi::tuilarder_start(
+            lent.pointer(),
+            words.pointer(),
+            words.len,
+            separator.pointer(),
+            separator.len,
+        )
+    };
+    words.only_read();
+    separator.only_read();
+    *record = lent.returned()[0];
+    number
+}
+
+pub fn absorb(random: &mut Random, record: &mut Record, elements: &[u32]) -> u32 {
+    let (mut lent, mut elements) = (Lent::new(&[*record], random), Lent::new(elements, random));
+    // SAFETY: the pointers are to that many cells, and the lists are apart.
+    let number = unsafe { ffi::tuilarder_absorb(lent.pointer(), elements.pointer(), elements.len) };
+    elements.only_read();
+    *record = lent.returned()[0];
+    number
+}
+
+pub fn squeeze(random: &mut Random, record: &mut Record, buffer: &mut [u32]) -> u32 {
+    let (mut lent, mut out) = (Lent::new(&[*record], random), Lent::new(buffer, random));
+    // SAFETY: the pointers are to that many cells, and the lists are apart.
+    let number = unsafe { ffi::tuilarder_squeeze(lent.pointer(), out.pointer(), out.len) };
+    buffer.copy_from_slice(out.returned());
+    *record = lent.returned()[0];
+    number
+}
+
+pub fn finish(random: &mut Random, record: &mut Record) -> u32 {
+    let mut lent = Lent::new(&[*record], random);
+    // SAFETY: the pointer is to a record.
+    let number = unsafe { ffi::tuilarder_finish(lent.pointer()) };
+    *record = lent.returned()[0];
+    number
+}
+
+pub fn permute(random: &mut Random, state: &mut [u32; 24]) -> u32 {
+    let mut lent = Lent::new(&[*state], random);
+    // SAFETY: the pointer is to a state.
+    let number = unsafe { ffi::tuilarder_permute(lent.pointer()) };
+    *state = lent.returned()[0];
+    number
+}
+
+/// The number, and what the library says was written.
+pub fn write_tag(random: &mut Random, words: &[u32], separator: &[u8], out: &mut [u8]) -> (u32, usize) {
+    let (mut words, mut separator) = (Lent::new(words, random), Lent::new(separator, random));
+    let (mut lent, mut written) = (Lent::new(out, random), Lent::new(&[usize::any(random)], random));
+    // SAFETY: the pointers are to that many cells, and the lists are apart.
+    let number = unsafe {
+        ffi::tuilarder_write_tag(
+            words.pointer(),
+            words.len,
+            separator.pointer(),
+            separator.len,
+            lent.pointer(),
+            lent.len,
+            written.pointer(),
+        )
+    };
+    words.only_read();
+    separator.only_read();
+    out.copy_from_slice(lent.returned());
+    (number, written.returned()[0])
+}
+
+/// The number, the words and their count.
+pub fn read_tag(random: &mut Random, string: &[u8], separator_length: usize) -> (u32, [u32; 64], usize) {
+    let mut string = Lent::new(string, random);
+    let (mut words, mut count) = (
+        Lent::new(&[<[u32; 64]>::any(random)], random),
+        Lent::new(&[usize::any(random)], random),
+    );
+    // SAFETY: the pointers are to that many cells, and the lists are apart.
+    let number = unsafe {
+        ffi::tuilarder_read_tag(
+            string.pointer(),
+            string.len,
+            separator_length,
+            words.pointer(),
+            count.pointer(),
+        )
+    };
+    string.only_read();
+    (number, words.returned()[0], count.returned()[0])
+}
+
+pub fn sha3_256(random: &mut Random, data: &[u8]) -> [u8; 32] {
+    let (mut data, mut out) = (Lent::new(data, random), Lent::new(&[<[u8; 32]>::any(random)], random));
+    // SAFETY: the pointers are to that many cells, and the lists are apart.
+    unsafe { ffi::tuilarder_sha3_256(data.pointer(), data.len, out.pointer()) };
+    data.only_read();
+    out.returned()[0]
+}
