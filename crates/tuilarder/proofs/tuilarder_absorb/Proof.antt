@@ -1,5 +1,5 @@
--- `tuilarder_absorb` meets its contract: a walk of its MIR, by hand. `s` is passed on to `Session::absorb` at its own lifetime, share and
--- ghost name, and is given up for good: the borrow is never opened.
+-- `tuilarder_absorb` meets its contract: a walk of its MIR, by hand. `record` is passed on to `Session::absorb` at its own lifetime, share and
+-- ghost name: the borrow is never opened.
 -- All that the proof knows of `Session::absorb` is that it meets its contract.
 -- Assumes nothing.
 use mathlib.Core.Path.{_≡_, refl}
@@ -105,7 +105,7 @@ module _ {M : Type 1} (𝓤 : URA M) (H : Heap 𝓤) (A : Atoms 𝓤) (W : Given
         (vptr b o ∷ slice-vals y) _ $
         alloc1 ! (λ l₀. alloc1 ! (λ l₁. alloc1 ! (λ l₂. alloc1 ! (λ l₃. alloc0 ! $ params1 ! $ pass1 ! (init ! 4 refl (tt, tt)) $
         pass1 ! (init ! 2 refl (tt, (tt, (record { fits = room .0 }, tt)))) $ pass0 ! $
-        -- [_3; …; _2; …; _1; …; room for _0; …; the tokens; what s and input own]: the slice is had twice
+        -- [_3; …; _2; …; _1; …; room for _0; …; the tokens; what record and elements own]: the slice is duplicated
         assigns ! (addr ! (from ! (hop ! (look ! 4 refl) (stop !)))) (from ! (stop !)) (init ! 0 refl (tt, tt)) $
         move ! (9 ∷ []) $ fsplit ! $ move ! (1 ∷ []) $ fsplit ! $
         use1 W (‵ S ⊛ ‵ S) (shr-slice-copy 𝓤 H A W (named 1) κ′ u32 .twice y (slice-vals y)) $ split ! $

@@ -1,5 +1,5 @@
--- `tuilarder_finish` meets its contract: a walk of its MIR, by hand. `s` is passed on to `Session::finish` at its own lifetime, share and
--- ghost name, and is given up for good: the borrow is never opened.
+-- `tuilarder_finish` meets its contract: a walk of its MIR, by hand. `record` is passed on to `Session::finish` at its own lifetime, share and
+-- ghost name: the borrow is never opened.
 -- All that the proof knows of `Session::finish` is that it meets its contract.
 -- Assumes nothing.
 use mathlib.Core.Path.{_≡_, refl}
@@ -91,7 +91,7 @@ module _ {M : Type 1} (𝓤 : URA M) (H : Heap 𝓤) (A : Atoms 𝓤) (W : Given
         qed W ((‵ (flft κ q) ⊛ ‵ ftrue) ∷ ‵ (owns (MutRef (named 0) κ T.the-row ∷ []) x at) ∷ []) ∵ enter ! C Λ code.function
         (vptr b o ∷ []) _ $
         alloc1 ! (λ l₀. alloc1 ! (λ l₁. alloc1 ! (λ l₂. alloc0 ! $ params1 ! $ pass1 ! (init ! 2 refl (tt, tt)) $ pass0 ! $
-        -- [_2; …; _1; …; room for _0; …; the token; what s owns]
+        -- [_2; …; _1; …; room for _0; …; the token; what record owns]
         assigns ! (addr ! (from ! (hop ! (look ! 2 refl) (stop !)))) (from ! (stop !)) (init ! 0 refl (tt, tt)) $
         move ! (6 ∷ 7 ∷ []) $ use2 W (raw (Step 𝓤 H A at-mem run .pre to-step)) goes-step $
         calls-at ! fm (Step 𝓤 H A at-mem run) known to-step (and-then ! (load ! (from ! (stop !)) (look ! 1 refl)) (no-more !)) (λ w.

@@ -1,5 +1,5 @@
--- `tuilarder_squeeze` meets its contract: a walk of its MIR, by hand. `s` is passed on to `Session::squeeze` at its own lifetime, share
--- and ghost name, and is given up for good: the borrow is never opened.
+-- `tuilarder_squeeze` meets its contract: a walk of its MIR, by hand. `record` is passed on to `Session::squeeze` at its own lifetime, share
+-- and ghost name: the borrow is never opened.
 -- All that the proof knows of `Session::squeeze` is that it meets its contract.
 -- Assumes nothing.
 use mathlib.Core.Path.{_≡_, refl}
@@ -102,7 +102,7 @@ module _ {M : Type 1} (𝓤 : URA M) (H : Heap 𝓤) (A : Atoms 𝓤) (W : Given
         (vptr b o ∷ slice-vals y) _ $
         alloc1 ! (λ l₀. alloc1 ! (λ l₁. alloc1 ! (λ l₂. alloc1 ! (λ l₃. alloc1 ! (λ l₄. alloc1 ! (λ l₅. alloc0 ! $ params1 ! $
         pass1 ! (init ! 8 refl (tt, tt)) $ pass1 ! (init ! 6 refl (tt, (tt, (record { fits = room .0 }, tt)))) $ pass0 ! $
-        -- [_5; …; _4; …; _3; …; _2; …; _1; …; room for _0; …; the tokens; what s and out own]
+        -- [_5; …; _4; …; _3; …; _2; …; _1; …; room for _0; …; the tokens; what record and out own]
         assigns ! (addr ! (from ! (hop ! (look ! 8 refl) (stop !)))) (from ! (stop !)) (init ! 4 refl (tt, tt)) $
         assigns ! (addr ! (from ! (fld ! refl (hop ! (look-in ! 6 (sub ! 0 refl (whole !))) (stop !))))) (from ! (stop !))
         (init ! 2 refl (tt, tt)) $

@@ -134,12 +134,12 @@ module _ {M : Type 1} (𝓤 : URA M) (H : Heap 𝓤) (A : Atoms 𝓤) (W : Given
         alloc1 ! (λ l₀. alloc1 ! (λ l₁. alloc1 ! (λ l₂. alloc1 ! (λ l₃. alloc1 ! (λ l₄. alloc0 ! $ params1 ! $
         pass1 ! (init ! 6 refl (tt, tt)) $ pass1 ! (init ! 4 refl (tt, (tt, (record { fits = room .0 }, tt)))) $
         pass1 ! (init ! 2 refl (tt, (tt, (record { fits = room′ .0 }, tt)))) $ pass0 ! $
-        -- [room for _4; …; _3; …; _2; …; _1; …; room for _0; …; the tokens; what s, words and sep own]: each slice is had twice
+        -- [room for _4; …; _3; …; _2; …; _1; …; room for _0; …; the tokens; what record, words and separator own]: each slice is duplicated
         move ! (11 ∷ []) $ fsplit ! $ move ! (1 ∷ []) $ fsplit ! $ move ! (1 ∷ []) $ fsplit ! $
         use1 W (‵ P ⊛ ‵ P) (shr-slice-copy 𝓤 H A W (named 2) κ₂ u8 .twice z (slice-vals z)) $ split ! $
         move ! (3 ∷ []) $ use1 W (‵ S ⊛ ‵ S) (shr-slice-copy 𝓤 H A W (named 1) κ₁ u32 .twice y (slice-vals y)) $ split ! $
         move ! (16 ∷ []) $ split ! $
-        -- [the token; the slices' tokens; words; words; sep; sep; true; what s owns; room for _4; …]: the call
+        -- [the token; the slices' tokens; words; words; separator; separator; true; what record owns; room for _4; …]: the call
         move ! (1 ∷ 2 ∷ 4 ∷ []) $ use3 W (raw (Step 𝓤 H A at-mem run .pre to-step)) goes-step $
         calls-at ! fm (Step 𝓤 H A at-mem run) known to-step
         (and-then ! (load ! (from ! (stop !)) (look ! 10 refl)) (and-then ! (load ! (from ! (stop !)) (look ! 8 refl)) (no-more !)))
@@ -149,7 +149,7 @@ module _ {M : Type 1} (𝓤 : URA M) (H : Heap 𝓤) (A : Atoms 𝓤) (W : Given
         (λ r.
         split ! $ move ! (1 ∷ []) $ use1 W (raw (fact 𝓤 (r ≡ start (now y) (now z)))) (step-of 𝓤 H A at-mem run κ₁ κ₂ y z r) $
         heard ! (r ≡ start (now y) (now z)) (λ e. split ! $ move ! (1 ∷ []) $
-        -- [what the answer owns; the slices' tokens; the token; words; sep; true; what s owns; room for _4; …; _3; …; _2; …; _1; …; room
+        -- [what the answer owns; the slices' tokens; the token; words; separator; true; what record owns; room for _4; …; _3; …; _2; …; _1; …; room
         -- for _0; …]
         peeks ! answer.the-row (Is answer.the-row) (shows 𝓤 H A answer.the-row) r (w ∷ []) (λ is.
         land ! (from ! (stop !)) (init ! 7 refl (laws.lawful answer.the-type answer-laws.the-laws 𝓤 H A W .typed r _ is .0)) $
@@ -158,7 +158,7 @@ module _ {M : Type 1} (𝓤 : URA M) (H : Heap 𝓤) (A : Atoms 𝓤) (W : Given
         -- the borrow is opened
         move ! (6 ∷ []) $ fsplit3 ! $ drop ! $ move ! (0 ∷ 1 ∷ 4 ∷ []) $
         opens-record ! tt b o h (λ _.
-        -- [the struct's cell; what a Session owns; the open borrow; obs; auth; what the answer owns; the slices' tokens; words; sep; true;
+        -- [the struct's cell; what a Session owns; the open borrow; obs; auth; what the answer owns; the slices' tokens; words; separator; true;
         -- _4; …; _3; …; _2; …; _1; …; room for _0; …]
         assigns ! (of-opd ! (load ! (from ! (fld ! refl (stop !))) (look-in ! 10 (sub ! 1 refl (whole !)))))
         (from ! (hop ! (look ! 16 refl) (stop !)))
@@ -167,7 +167,7 @@ module _ {M : Type 1} (𝓤 : URA M) (H : Heap 𝓤) (A : Atoms 𝓤) (W : Given
         (init ! 18 refl (tt, record { fits = number-fits r w is })) $
         -- the borrow is closed at the new record
         move ! (1 ∷ []) $ drop ! $ closes-record ! tt b o (r .session) (session-is r w is) $
-        -- [obs; the borrow; the token; what the answer owns; the slices' tokens; words; sep; true; _4; …; _3; …; _2; …; _1; …; _0; …]
+        -- [obs; the borrow; the token; what the answer owns; the slices' tokens; words; separator; true; _4; …; _3; …; _2; …; _1; …; _0; …]
         returns ! (look ! 16 refl) $ forget ! 8 refl $ forget ! 10 refl $ forget ! 12 refl $ forget ! 14 refl $ forget ! 16 refl $
         move ! (16 ∷ 17 ∷ []) $ free1 ! $ move ! (14 ∷ 15 ∷ []) $ free1 ! $ move ! (12 ∷ 13 ∷ []) $ free1 ! $ move ! (10 ∷ 11 ∷ []) $
         free1 ! $ move ! (8 ∷ 9 ∷ []) $ free1 ! $ free0 ! $

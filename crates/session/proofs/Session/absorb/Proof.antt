@@ -124,7 +124,7 @@ module _ {M : Type 1} (𝓤 : URA M) (H : Heap 𝓤) (A : Atoms 𝓤) (W : Given
         (vptr b o ∷ slice-vals y) _ $
         alloc1 ! (λ l₀. alloc1 ! (λ l₁. alloc1 ! (λ l₂. alloc1 ! (λ l₃. alloc1 ! (λ l₄. alloc0 ! $ params1 ! $
         pass1 ! (init ! 6 refl (tt, tt)) $ pass1 ! (init ! 4 refl (tt, (tt, (record { fits = room .0 }, tt)))) $ pass0 ! $
-        -- [_4; …; _3; …; _2; …; _1; …; room for _0; …; the tokens; what self and input own]: the slice is had twice, and the borrow is
+        -- [_4; …; _3; …; _2; …; _1; …; room for _0; …; the tokens; what self and input own]: the slice is duplicated, and the borrow is
         -- opened
         move ! (11 ∷ []) $ fsplit ! $ move ! (1 ∷ []) $ fsplit ! $
         use1 W (‵ S ⊛ ‵ S) (shr-slice-copy 𝓤 H A W (named 1) κ′ u32 .twice y (slice-vals y)) $ split ! $ move ! (14 ∷ []) $ split ! $

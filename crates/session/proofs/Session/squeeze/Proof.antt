@@ -1,5 +1,5 @@
 -- `Session::squeeze` meets its contract: a walk of its MIR, by hand. The borrow is opened, the record is copied out and passed, with the
--- slice, which is given up for good, to `squeeze_step`, what that returns is stored behind the borrow, and the borrow is closed at the new
+-- slice, which is handed over, to `squeeze_step`, what that returns is stored behind the borrow, and the borrow is closed at the new
 -- record.
 -- All that the proof knows of `squeeze_step` is that it meets its contract.
 -- Assumes nothing.
@@ -122,7 +122,7 @@ module _ {M : Type 1} (𝓤 : URA M) (H : Heap 𝓤) (A : Atoms 𝓤) (W : Given
         (vptr b o ∷ slice-vals y) _ $
         alloc1 ! (λ l₀. alloc1 ! (λ l₁. alloc1 ! (λ l₂. alloc1 ! (λ l₃. alloc1 ! (λ l₄. alloc1 ! (λ l₅. alloc1 ! (λ l₆. alloc0 ! $
         params1 ! $ pass1 ! (init ! 10 refl (tt, tt)) $ pass1 ! (init ! 8 refl (tt, (tt, (record { fits = room .0 }, tt)))) $ pass0 ! $
-        -- [_6; …; _5; …; _4; …; _3; …; _2; …; _1; …; room for _0; …; the tokens; what self and out own]: the borrow of the struct is opened
+        -- [_6; …; _5; …; _4; …; _3; …; _2; …; _1; …; room for _0; …; the tokens; what self and output own]: the borrow of the struct is opened
         move ! (15 ∷ []) $ fsplit ! $ move ! (1 ∷ []) $ fsplit ! $ move ! (17 ∷ []) $ split ! $ move ! (4 ∷ []) $ fsplit3 ! $ drop ! $
         opens-record ! tt b o h (λ g.
         -- [the struct's cell; what a Session owns; the open borrow; obs; auth; the slice's token; the slice; true; _6; …; _5; …; _4; …;
