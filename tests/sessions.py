@@ -389,6 +389,15 @@ def out_of_pattern(calls):
         calls.squeeze(buffer(1))
 
 
+def exchanged_kinds(calls):
+    """Words that alternate from SQUEEZE, with the count and the positions that the rule gives for them."""
+    calls.start(PATTERN)
+    count, words = calls.record["count"], calls.record["words"]
+    exchanged = dict(calls.record, words=[word ^ ABSORB for word in words[:count]] + words[count:])
+    for phase, done in ((0, 0), (0, 5), (1, 3), (count, 0)):
+        calls.each(calls.placed(exchanged, phase, done))
+
+
 def forks(calls):
     """A copied record goes on by itself."""
     calls.reach(PATTERN, 2, 3)
@@ -404,7 +413,7 @@ def forks(calls):
 def cases(oracle):
     calls = Calls(oracle)
     for part in (generated, document_examples, refused_starts, large_elements, samples, shapes, long_phases, changed_records, other_places,
-                 changed_counts, empty_calls, out_of_pattern, forks):
+                 changed_counts, empty_calls, out_of_pattern, forks, exchanged_kinds):
         part(calls)
 
 

@@ -1,4 +1,4 @@
-//! Random and damaged calls, done by the library and by the second implementation, which has to answer the same number
+//! Random and damaged calls, done by the library and by the independent implementation, which has to answer the same number
 //! and to leave the same in all that was lent.
 //!
 //! The inputs follow from a seed. TUILARDER_SEED sets another one: a decimal number, or `random` for one from the clock.
@@ -181,8 +181,8 @@ fn by_library(noise: &mut Random, record: &mut Record, call: &Call) -> (&'static
     }
 }
 
-/// The call by the second implementation: the number, the record and the buffer it left.
-fn by_second(record: &Record, call: &Call) -> (u32, Record, Vec<u32>) {
+/// The call by the independent implementation: the number, the record and the buffer it left.
+fn by_independent(record: &Record, call: &Call) -> (u32, Record, Vec<u32>) {
     let mut session = session_of(record);
     let mut left = vec![];
     let number = match call {
@@ -205,7 +205,7 @@ impl Run {
     /// Does a call on a record by both and compares all that they left.
     fn call(&mut self, record: &mut Record, call: Call) -> u32 {
         self.last = Box::new((call.clone(), *record));
-        let (number, expected, expected_buffer) = by_second(record, &call);
+        let (number, expected, expected_buffer) = by_independent(record, &call);
         let (name, answer, buffer) = by_library(&mut self.noise, record, &call);
         assert_eq!(answer, number, "the number");
         assert_eq!(*record, expected, "the record");
@@ -502,10 +502,11 @@ fn used_words(record: &Record) -> Vec<u32> {
     record.words[..record.count as usize].to_vec()
 }
 
-/// Ways to break one condition of soundness in a sound record and to keep all others.
+/// Ways to break a condition of soundness and to keep the positions and the count that the steps give at the place.
+/// None of them leaves a sound record.
 const CONDITION_DAMAGES: [Damage; 9] = [
     ("no words", |random, record| put_at(random, record, &[])),
-    ("words odd in number", |random, record| {
+    ("first word missing", |random, record| {
         put_at(random, record, &used_words(record)[1..])
     }),
     ("last word missing", |random, record| {
@@ -589,7 +590,10 @@ fn session_step(run: &mut Run, records: &mut Vec<Record>, any_once_in: u64) {
     let k = run.random.below(records.len() as u64) as usize;
     let mut copy = records[k];
     match run.random.below(32) {
-        0 if records.len() < 4 => records.push(copy),
+        0 if records.len() < 4 => {
+            records.push(copy);
+            run.answered("fork", 0);
+        }
         1 | 2 => {
             damage_fields(&mut run.random, &mut copy);
             for _ in 0..2 {
@@ -623,6 +627,7 @@ fn sessions_with_forks_and_refused_calls() {
     run.assert_numbers("ABSORB", &[0, 7, 8, 9, 10]);
     run.assert_numbers("SQUEEZE", &[0, 7, 8, 9]);
     run.assert_numbers("FINISH", &[0, 7, 8, 11]);
+    run.assert_reached("fork", &[0]);
     assert!(run.session_calls() >= SESSION_CALLS, "{}", run.session_calls());
 }
 

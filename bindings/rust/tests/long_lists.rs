@@ -1,13 +1,11 @@
 //! Lists longer than 32 bits can count. They take 16 GiB of address space, nearly all of it never touched, so that these
 //! tests run only when asked for: `cargo test --test long_lists -- --ignored --test-threads=1`, as the gate does.
 
-mod independent;
-
-use independent::ABSORB;
 use tuilarder::ffi::{self, Record};
 
 const LENGTH: usize = (1 << 32) + 5;
-const WORDS: [u32; 2] = [ABSORB + 9, 9];
+/// ABSORB 9, SQUEEZE 9.
+const WORDS: [u32; 2] = [0x80000009, 0x00000009];
 
 /// A session whose phase has room for five elements, but not for 2^32 and five.
 fn open() -> Record {

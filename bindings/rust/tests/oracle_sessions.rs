@@ -1,5 +1,5 @@
-//! The stored sessions of `crates/session_vectors`, replayed through the library and through the second implementation.
-//! Their answers are those of a third implementation, in Python, by other hands. The lines are described at the top of
+//! The stored sessions of `crates/session_vectors`, replayed through the library and through the independent implementation.
+//! Their answers are those of the second implementation, in Python, by other hands. The lines are described at the top of
 //! `tests/sessions.py`.
 
 mod guarded;
@@ -10,9 +10,9 @@ use independent::Session;
 use std::path::PathBuf;
 use tuilarder::ffi::Record;
 
-const LINES: usize = 7643;
-const CALLS: usize = 6923;
-const RECORDS: usize = 720;
+const LINES: usize = 7660;
+const CALLS: usize = 6936;
+const RECORDS: usize = 724;
 
 /// A record as its three lists: the numbers with the permutations as two words, the state, and the pattern words.
 type Lists = [Vec<u32>; 3];
@@ -91,11 +91,11 @@ impl Replay for Library {
     }
 }
 
-struct Second {
+struct Independent {
     record: Session,
 }
 
-impl Replay for Second {
+impl Replay for Independent {
     fn put(&mut self, lists: &Lists) {
         self.record = record_of!(Session, lists);
     }
@@ -153,45 +153,39 @@ fn lists_in(fields: &[&str], before: &Lists) -> Lists {
     [list(0, 8), list(1, 24), list(2, 64)]
 }
 
+/// Says which line it was if any check fails while its call is replayed.
+struct Line<'a>(usize, &'a str);
+
+impl Drop for Line<'_> {
+    fn drop(&mut self) {
+        if std::thread::panicking() {
+            eprintln!("line {}: {}", self.0, self.1);
+        }
+    }
+}
+
 /// Does one line's call and compares all that it left with the line of output.
-fn replay_line(replay: &mut dyn Replay, line: usize, input: &str, output: &str) {
+fn replay_line(replay: &mut dyn Replay, input: &str, output: &str) {
     let before = replay.lists();
     let fields: Vec<&str> = input.split(' ').collect();
     let answers: Vec<&str> = output.split(' ').collect();
-    assert_eq!(fields[0], answers[0], "line {line}: another call than in the output");
+    assert_eq!(fields[0], answers[0], "the kind of line");
     if fields[0] == "t" {
         let put = lists_in(&fields[1..], &before);
-        replay.put(&put);
-        assert_eq!(
-            lists_in(&answers[1..], &before),
-            put,
-            "line {line}: another record than in the output"
-        );
-        return;
+        assert_eq!(put, lists_in(&answers[1..], &before), "the record put");
+        return replay.put(&put);
     }
-    let mut buffer = if fields[0] == "q" {
-        words_of(fields[1])
-    } else {
-        Vec::new()
-    };
+    let mut buffer = words_of(if fields[0] == "q" { fields[1] } else { "" });
     let number = match fields[0] {
         "s" => replay.start(&words_of(fields[1]), &bytes_of(fields[2])),
         "a" => replay.absorb(&words_of(fields[1])),
         "q" => replay.squeeze(&mut buffer),
         "f" => replay.finish(),
-        _ => panic!("line {line}: no such call: {input}"),
+        _ => panic!("no such kind of line"),
     };
-    assert_eq!(number.to_string(), answers[1], "line {line}: the number of: {input}");
-    assert_eq!(
-        replay.lists(),
-        lists_in(&answers[2..5], &before),
-        "line {line}: the record after: {input}"
-    );
-    assert_eq!(
-        buffer,
-        words_of(answers.get(5).unwrap_or(&"")),
-        "line {line}: the buffer after: {input}"
-    );
+    assert_eq!(number.to_string(), answers[1], "the number");
+    assert_eq!(replay.lists(), lists_in(&answers[2..5], &before), "the record");
+    assert_eq!(buffer, words_of(answers.get(5).unwrap_or(&"")), "the buffer");
 }
 
 fn replay_all(replay: &mut dyn Replay) {
@@ -200,7 +194,8 @@ fn replay_all(replay: &mut dyn Replay) {
     assert_eq!((inputs.len(), outputs.len(), records), (LINES, LINES, RECORDS));
     let mut calls = 0;
     for (k, (input, output)) in inputs.iter().zip(&outputs).enumerate() {
-        replay_line(replay, k + 1, input, output);
+        let _line = Line(k + 1, input);
+        replay_line(replay, input, output);
         calls += usize::from(!input.starts_with('t'));
     }
     assert_eq!(calls, CALLS);
@@ -216,8 +211,8 @@ fn library_gives_the_stored_answers() {
 }
 
 #[test]
-fn second_implementation_gives_the_stored_answers() {
-    replay_all(&mut Second {
+fn independent_implementation_gives_the_stored_answers() {
+    replay_all(&mut Independent {
         record: independent::WIPED,
     });
 }

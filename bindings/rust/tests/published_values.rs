@@ -1,4 +1,4 @@
-//! The second implementation, held to what is published: the samples B1 to B10 and the table of refused calls in document
+//! The independent implementation, held to what is published: the samples B1 to B10 and the table of refused calls in document
 //! 01, and examples of SHA3-256 from NIST. What the library is compared with must itself be right.
 
 mod guarded;
@@ -107,43 +107,30 @@ fn patterns_turned_away_as_in_the_table() {
 }
 
 #[test]
-fn calls_turned_away_as_in_the_table() {
+fn numbers_7_8_and_10_leave_the_record() {
     let fresh = started(&[ABSORB + 1, 1], &[]);
     let mut record = fresh.clone();
-    assert_eq!(absorb(&mut record, &[2013265921]), 10);
-    assert_eq!(record, fresh);
-    assert_eq!(
-        (
-            absorb(&mut record, &[2013265920]),
-            squeeze(&mut record, &mut [0]),
-            finish(&mut record)
-        ),
-        (0, 0, 0)
-    );
-    assert_eq!(
-        (
-            finish(&mut record),
-            absorb(&mut record, &[]),
-            squeeze(&mut record, &mut [])
-        ),
-        (7, 7, 7)
-    );
+    assert_eq!((absorb(&mut record, &[2013265921]), &record), (10, &fresh));
+    assert_eq!(absorb(&mut record, &[2013265920]), 0);
+    assert_eq!((squeeze(&mut record, &mut [0]), finish(&mut record)), (0, 0));
+    assert_eq!((absorb(&mut record, &[]), squeeze(&mut record, &mut [])), (7, 7));
+    assert_eq!((finish(&mut record), record), (7, WIPED));
     let unsound = Session {
         absorb_position: 9,
-        ..fresh.clone()
+        ..fresh
     };
     let mut record = unsound.clone();
-    assert_eq!(
-        (
-            absorb(&mut record, &[1]),
-            squeeze(&mut record, &mut []),
-            finish(&mut record)
-        ),
-        (8, 8, 8)
-    );
-    assert_eq!(record, unsound);
+    assert_eq!((absorb(&mut record, &[1]), squeeze(&mut record, &mut [])), (8, 8));
+    assert_eq!((finish(&mut record), record), (8, unsound));
+}
+
+#[test]
+fn numbers_9_and_11_wipe_the_record() {
+    let fresh = started(&[ABSORB + 1, 1], &[]);
     let (mut record, mut buffer) = (fresh.clone(), [77]);
     assert_eq!((squeeze(&mut record, &mut buffer), record, buffer), (9, WIPED, [77]));
+    let mut record = fresh.clone();
+    assert_eq!((absorb(&mut record, &[1, 1]), record), (9, WIPED));
     let mut record = fresh;
     assert_eq!((finish(&mut record), record), (11, WIPED));
 }

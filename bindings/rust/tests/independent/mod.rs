@@ -1,4 +1,4 @@
-//! A second implementation of the challenge sponge, written from document 01 alone. It shares no code with the library,
+//! An independent implementation of the challenge sponge, written from document 01 alone. It shares no code with the library,
 //! which the tests compare with it, and is plain rather than fast. Quotations are from document 01 unless another source
 //! is named.
 
