@@ -14,8 +14,9 @@ use std::hint::black_box;
 
 const ABSORB: u32 = 1 << 31;
 
+// SAFETY of the calls of the library: each gets a record and lists that are valid for their lengths, and apart.
 fn library_start(words: &[u32], separator: &[u8]) -> Record {
-    let mut record = unsafe { std::mem::zeroed() };
+    let mut record = Record::WIPED;
     let number =
         unsafe { ffi::tuilarder_start(&mut record, words.as_ptr(), words.len(), separator.as_ptr(), separator.len()) };
     assert_eq!(number, 0);
@@ -24,6 +25,20 @@ fn library_start(words: &[u32], separator: &[u8]) -> Record {
 
 fn library_absorb(record: &mut Record, elements: &[u32]) {
     assert_eq!(unsafe { ffi::tuilarder_absorb(record, elements.as_ptr(), elements.len()) }, 0);
+}
+
+fn record_of(session: &Session) -> Record {
+    Record {
+        status: session.status,
+        state: session.state,
+        words: session.words,
+        count: session.count,
+        phase: session.phase,
+        done: session.done,
+        absorb_position: session.absorb_position,
+        squeeze_position: session.squeeze_position,
+        permutations: session.permutations,
+    }
 }
 
 fn independent_start(words: &[u32], separator: &[u8]) -> Session {
@@ -58,8 +73,7 @@ fn independent_hash(elements: &[u32]) -> [u32; 8] {
 }
 
 fn start(job: &str, words: &[u32], separator: &[u8]) {
-    let (independent, library) = (independent_start(words, separator), library_start(words, separator));
-    assert_eq!((independent.state, independent.words), (library.state, library.words));
+    assert_eq!(record_of(&independent_start(words, separator)), library_start(words, separator));
     compare(
         job,
         1000,
@@ -73,14 +87,10 @@ fn start(job: &str, words: &[u32], separator: &[u8]) {
 // Each call gets its own copy of the record that START gave, and permutes nothing.
 fn absorb_one(job: &str, words: &[u32]) {
     let (independent, library) = (independent_start(words, b"AB"), library_start(words, b"AB"));
-    let absorbed = |element: u32| {
-        let (mut by_independent, mut by_library) = (independent.clone(), library);
-        independent_absorb(&mut by_independent, &[element]);
-        library_absorb(&mut by_library, &[element]);
-        (by_independent.state, by_library.state)
-    };
-    let (by_independent, by_library) = absorbed(7);
-    assert_eq!(by_independent, by_library);
+    let (mut by_independent, mut by_library) = (independent.clone(), library);
+    independent_absorb(&mut by_independent, &[7]);
+    library_absorb(&mut by_library, &[7]);
+    assert_eq!(record_of(&by_independent), by_library);
     compare(
         job,
         10_000,

@@ -3,10 +3,14 @@
  *
  *     const uint32_t words[2] = {TUILARDER_ABSORB_BIT | 8, 1};          ABSORB 8, then SQUEEZE 1
  *     struct tuilarder_session session;
- *     tuilarder_start(&session, words, 2, separator, separator_length);
- *     tuilarder_absorb(&session, elements, 8);
- *     tuilarder_squeeze(&session, &challenge, 1);
- *     tuilarder_finish(&session);                                       each answers 0 where it is accepted
+ *     if (tuilarder_start(&session, words, 2, separator, separator_length) != TUILARDER_ACCEPTED
+ *         || tuilarder_absorb(&session, elements, 8) != TUILARDER_ACCEPTED
+ *         || tuilarder_squeeze(&session, &challenge, 1) != TUILARDER_ACCEPTED
+ *         || tuilarder_finish(&session) != TUILARDER_ACCEPTED)
+ *         return 0;                                                     turned away: there is no challenge
+ *
+ * ALL PROTOCOLS OF ONE VERIFIER NEED SEPARATORS OF ONE LENGTH. With separators of unequal length, two patterns can have the same tag
+ * string, and then the two protocols get the same challenges.
  *
  * What a list, a string or a record holds is free: the functions take every content, and answer with a number where they turn a call away.
  * What the functions cannot look at is the caller's duty:
@@ -18,7 +22,7 @@
  *
  * What a function only writes need not be set before. The library has no state of its own, so distinct records may be used by distinct
  * threads at once. The time that a call takes depends on what it is lent, and copies of a record may stay behind on the stack: nothing is
- * claimed about secrecy.
+ * claimed about secrecy. The library needs memcpy and memset, and nothing else.
  */
 #ifndef TUILARDER_H
 #define TUILARDER_H
@@ -30,7 +34,14 @@
 extern "C" {
 #endif
 
-/* Elements are the numbers below this prime. */
+/* An answer has to be looked at: what a refused call was to write is not there. */
+#ifdef __GNUC__
+#define TUILARDER_ANSWER __attribute__((warn_unused_result)) uint32_t
+#else
+#define TUILARDER_ANSWER uint32_t
+#endif
+
+/* Elements are the numbers below this prime, p. */
 #define TUILARDER_PRIME 2013265921u
 
 /* The state's outer elements, which are absorbed into and squeezed from; its inner elements; and all of them. */
@@ -127,48 +138,50 @@ TUILARDER_ASSERT(sizeof(size_t) == 8 && sizeof(void *) == 8);
 
 /*
  * START: opens a session for a pattern and a separator in the record, whatever that held. Checks 1 to 6 in number order, whichever word is
- * at fault. Refused, it leaves a wiped record.
+ * at fault. Refused, it leaves a wiped record. The separator names the protocol, by as many bytes as in every other one of the verifier.
  */
-uint32_t tuilarder_start(struct tuilarder_session *record, const uint32_t *words, size_t words_length, const uint8_t *separator,
-                         size_t separator_length);
+TUILARDER_ANSWER tuilarder_start(struct tuilarder_session *record, const uint32_t *words, size_t words_length,
+                                 const uint8_t *separator, size_t separator_length);
 
 /*
  * ABSORB: takes elements in. Checks 7 and 8; then accepts length 0, which changes nothing; then checks 9, then 10.
  * 9 wipes the record; 7, 8 and 10 leave it as it was.
  */
-uint32_t tuilarder_absorb(struct tuilarder_session *record, const uint32_t *elements, size_t length);
+TUILARDER_ANSWER tuilarder_absorb(struct tuilarder_session *record, const uint32_t *elements, size_t length);
 
 /*
  * SQUEEZE: fills out with elements. Checks 7 and 8; then accepts length 0, which changes nothing; then checks 9.
  * 9 wipes the record; 7 and 8 leave it as it was. Refused, it writes nothing to out.
  */
-uint32_t tuilarder_squeeze(struct tuilarder_session *record, uint32_t *out, size_t length);
+TUILARDER_ANSWER tuilarder_squeeze(struct tuilarder_session *record, uint32_t *out, size_t length);
 
 /*
  * FINISH: ends a session whose pattern is done. Checks 7, 8, 11. Accepted, or refused with 11, it wipes the record; 7 and 8 leave it as
  * it was.
  */
-uint32_t tuilarder_finish(struct tuilarder_session *record);
+TUILARDER_ANSWER tuilarder_finish(struct tuilarder_session *record);
 
 /*
  * Writes the tag string of a pattern and a separator, from out's start and only the string's bytes, and its length to written.
  * Checks 1 to 6 in number order, then 12. Refused, it writes nothing to out, and 0 to written.
  */
-uint32_t tuilarder_write_tag(const uint32_t *words, size_t words_length, const uint8_t *separator, size_t separator_length, uint8_t *out,
-                             size_t out_length, size_t *written);
+TUILARDER_ANSWER tuilarder_write_tag(const uint32_t *words, size_t words_length, const uint8_t *separator,
+                                     size_t separator_length, uint8_t *out, size_t out_length, size_t *written);
 
 /*
  * Reads a tag string back, given the length of its separator, which is the string's last part: its merged words, with unused ones 0, and
  * how many they are. Checks 6 (of the length given), then 13. Refused, it gives 64 zero words and count 0.
  */
-uint32_t tuilarder_read_tag(const uint8_t *string, size_t length, size_t separator_length, uint32_t words[TUILARDER_MAX_WORDS],
-                            size_t *count);
+TUILARDER_ANSWER tuilarder_read_tag(const uint8_t *string, size_t length, size_t separator_length,
+                                    uint32_t words[TUILARDER_MAX_WORDS], size_t *count);
 
 /* One Poseidon permutation in place. Answers 0; or 10, with the state as it was, where an element is p or more. */
-uint32_t tuilarder_permute(uint32_t state[TUILARDER_WIDTH]);
+TUILARDER_ANSWER tuilarder_permute(uint32_t state[TUILARDER_WIDTH]);
 
 /* The SHA3-256 digest of a string of bytes. It turns nothing away. */
 void tuilarder_sha3_256(const uint8_t *data, size_t length, uint8_t digest[TUILARDER_DIGEST_LENGTH]);
+
+#undef TUILARDER_ANSWER
 
 #ifdef __cplusplus
 }

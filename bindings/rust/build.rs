@@ -15,8 +15,11 @@ fn main() {
     };
     // rt removes its own output when it starts from nothing, so cargo keeps a copy with what it builds
     let kept = variable("OUT_DIR");
-    if let Err(error) = fs::copy(&archive, Path::new(&kept).join("libtuilarder.a")) {
-        fail(&format!("{}: {error}", archive.display()));
+    let copy = Path::new(&kept).join("libtuilarder.a");
+    // an earlier copy may be read-only, as the archive that it was made of
+    let _ = fs::remove_file(&copy);
+    if let Err(error) = fs::copy(&archive, &copy) {
+        fail(&format!("{} to {}: {error}", archive.display(), copy.display()));
     }
     println!("cargo:rustc-link-search=native={kept}");
     println!("cargo:rustc-link-lib=static=tuilarder");

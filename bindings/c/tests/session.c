@@ -123,18 +123,20 @@ static void give_back(struct lent *lent)
 
 /* ---- sessions */
 
-/* Document 01's samples B4 to B7: permutations before FINISH, and the last element squeezed where 1, 2, 3 .. are absorbed and the separator
-   is empty. That element is from the second implementation, in Python. */
+/* Document 01's samples B4 to B7, and B7 with a separator: permutations before FINISH, and the last element squeezed where 1, 2, 3 .. are
+   absorbed. That element is from the second implementation, in Python. */
 static const struct sample {
     uint32_t words[4];
     size_t count;
+    const char *separator;
     uint64_t permutations;
     uint32_t last;
 } samples[] = {
-    {{A | 8, 1}, 2, 1, 1413794352},
-    {{A | 9, 1}, 2, 2, 774647143},
-    {{A | 1, 9}, 2, 2, 669881811},
-    {{A | 8, 8, A | 1, 1}, 4, 2, 19357506},
+    {{A | 8, 1}, 2, "", 1, 1413794352},
+    {{A | 9, 1}, 2, "", 2, 774647143},
+    {{A | 1, 9}, 2, "", 2, 669881811},
+    {{A | 8, 8, A | 1, 1}, 4, "", 2, 19357506},
+    {{A | 8, 8, A | 1, 1}, 4, "AB", 2, 1610560294},
 };
 
 /* One phase of a sample: absorbs the numbers from first on, or squeezes. Gives the last element. */
@@ -161,8 +163,9 @@ static void test_sample(const struct sample *sample)
 {
     struct lent record = lend(sizeof(struct tuilarder_session), 0);
     struct lent words = lend_copy(sample->words, sample->count * sizeof(uint32_t));
+    struct lent separator = lend_copy(sample->separator, strlen(sample->separator));
     struct tuilarder_session *session = record.part;
-    CHECK(tuilarder_start(session, words.part, sample->count, NULL, 0) == TUILARDER_ACCEPTED);
+    CHECK(tuilarder_start(session, words.part, sample->count, separator.part, separator.length) == TUILARDER_ACCEPTED);
     uint32_t absorbed = 0, squeezed = 0;
     for (size_t k = 0; k < sample->count; k++) {
         if (sample->words[k] & A)
@@ -174,7 +177,8 @@ static void test_sample(const struct sample *sample)
     CHECK(squeezed == sample->last);
     CHECK(tuilarder_finish(session) == TUILARDER_ACCEPTED);
     CHECK(wiped(&record));
-    CHECK(same(&words));
+    CHECK(same(&words) && same(&separator));
+    give_back(&separator);
     give_back(&words);
     give_back(&record);
 }

@@ -1,8 +1,15 @@
 //! The challenge sponge that turns a protocol's messages into challenges: SAFE sessions over the BabyBear field
 //! (p = 2013265921), with the Poseidon permutation and SHA3-256.
 //!
-//! The work is done by a static library in Rattle, whose every function is proved to do what document 01 says, on every input. This crate
-//! declares its functions ([`ffi`]) and puts types over them. It checks no rule of its own but that a length fits in a word.
+//! The work is done by a static library in Rattle, whose every function is proved to do what its specification, document 01, says, on every
+//! input. This crate declares its functions ([`ffi`]) and puts types over them. It checks no rule of its own but that a length fits in a
+//! word.
+//!
+//! # Separators
+//!
+//! **All protocols of one verifier need separators of one length.** Then no two of them share a tag string, and so their challenges, unless
+//! merged patterns and separators are both equal. With separators of unequal length, two patterns can have the same tag string: it is
+//! the pattern's words in bytes with the separator behind them, and says nowhere where the separator begins.
 //!
 //! # A protocol of two rounds
 //!
@@ -38,7 +45,8 @@
 //!
 //! The build script runs `rt staticlib tuilarder` at the top of the checkout that this crate is part of, which proves the library and takes
 //! some minutes; it needs the Rattle kit's `rt` on the path. With `TUILARDER_ARCHIVE_DIR` set to the directory of a `libtuilarder.a`,
-//! it links that and runs nothing. The library is for x86-64 Linux only.
+//! it links that and runs nothing. The library is for x86-64 Linux only. It needs `memcpy` and `memset`, which a program without `std` has to
+//! bring.
 //!
 //! # Limits
 //!
@@ -71,7 +79,7 @@ pub const PRIME: u32 = 2013265921;
 ///
 /// # Errors
 ///
-/// 10, with the state as it was, where an element is p or more.
+/// [`Refusal::ElementNotReduced`] (10), with the state as it was, where an element is p or more.
 pub fn permute(state: &mut [u32; WIDTH]) -> Result<(), Refusal> {
     // SAFETY: the state is lent for the call.
     refusal::result(unsafe { ffi::tuilarder_permute(state) })

@@ -46,7 +46,8 @@ impl Call {
 /// A pattern that START accepts: the calls that a protocol declares.
 ///
 /// Two patterns are equal if they declare the same calls. The sponge sees merged patterns, in which neighbours of one kind are added
-/// together: compare [`Pattern::merged`] to know whether two protocols open the same session.
+/// together ([`Pattern::merged`]): with separators of one length, two protocols open the same session exactly if merged patterns and
+/// separators are both equal.
 #[derive(Clone, PartialEq, Eq, Hash)]
 pub struct Pattern {
     // unused words are 0
@@ -68,7 +69,7 @@ impl Pattern {
     ///
     /// # Errors
     ///
-    /// 1 to 5, the first that applies. A length above 2147483647 gets 5 where none of 1 to 4 applies.
+    /// [`Refusal`] 1 to 5, the first that applies. A length above 2147483647 gets 5 where none of 1 to 4 applies.
     pub fn new(calls: &[Call]) -> Result<Pattern, Refusal> {
         // one more than a pattern can have, so that the library sees that there are too many
         let mut words = [0; Pattern::MAX_WORDS + 1];
@@ -86,7 +87,7 @@ impl Pattern {
     ///
     /// # Errors
     ///
-    /// 1 to 5, the first that applies.
+    /// [`Refusal`] 1 to 5, the first that applies.
     pub fn from_words(words: &[u32]) -> Result<Pattern, Refusal> {
         write_tag(words, &[], &mut [0; 4 * Pattern::MAX_WORDS])?;
         let mut pattern = Pattern {
@@ -102,7 +103,7 @@ impl Pattern {
     ///
     /// # Errors
     ///
-    /// 6 (of the length given), then 13.
+    /// [`Refusal::SeparatorTooLong`] (6, of the length given), then [`Refusal::NotTagString`] (13).
     pub fn read(string: &[u8], separator_length: usize) -> Result<(Pattern, &[u8]), Refusal> {
         let mut pattern = Pattern {
             words: [0; Pattern::MAX_WORDS],
@@ -147,7 +148,7 @@ impl Pattern {
     ///
     /// # Errors
     ///
-    /// 6, then 12; nothing is written.
+    /// [`Refusal::SeparatorTooLong`] (6), then [`Refusal::BufferTooShort`] (12); nothing is written.
     pub fn tag_string<'a>(&self, separator: &[u8], buffer: &'a mut [u8]) -> Result<&'a [u8], Refusal> {
         let length = write_tag(self.words(), separator, buffer)?;
         Ok(&buffer[..length])

@@ -1,6 +1,6 @@
 use core::fmt;
 
-/// Why a call was turned away: document 01's conditions, each with its number.
+/// Why a call was turned away: the conditions of the specification, document 01, each with its number.
 #[derive(Clone, Copy, Debug, PartialEq, Eq, Hash)]
 #[repr(u32)]
 pub enum Refusal {
@@ -33,9 +33,29 @@ pub enum Refusal {
 }
 
 impl Refusal {
-    /// The number that document 01 and the C functions have for it, 1 to 13.
+    /// The number that document 01 and the functions of [`ffi`](crate::ffi) have for it, 1 to 13.
     pub const fn number(self) -> u32 {
         self as u32
+    }
+
+    /// The refusal that has this number, if one has.
+    pub const fn from_number(number: u32) -> Option<Refusal> {
+        Some(match number {
+            1 => Refusal::WordCountOutOfRange,
+            2 => Refusal::WordLengthZero,
+            3 => Refusal::FirstWordSqueeze,
+            4 => Refusal::LastWordAbsorb,
+            5 => Refusal::MergedLengthTooLong,
+            6 => Refusal::SeparatorTooLong,
+            7 => Refusal::RecordNotOpen,
+            8 => Refusal::RecordNotSound,
+            9 => Refusal::CallNotInPattern,
+            10 => Refusal::ElementNotReduced,
+            11 => Refusal::PatternNotDone,
+            12 => Refusal::BufferTooShort,
+            13 => Refusal::NotTagString,
+            _ => return None,
+        })
     }
 }
 
@@ -67,21 +87,8 @@ impl core::error::Error for Refusal {}
 ///
 /// On a number above 13, which no function of the library answers with.
 pub(crate) fn result(number: u32) -> Result<(), Refusal> {
-    Err(match number {
-        0 => return Ok(()),
-        1 => Refusal::WordCountOutOfRange,
-        2 => Refusal::WordLengthZero,
-        3 => Refusal::FirstWordSqueeze,
-        4 => Refusal::LastWordAbsorb,
-        5 => Refusal::MergedLengthTooLong,
-        6 => Refusal::SeparatorTooLong,
-        7 => Refusal::RecordNotOpen,
-        8 => Refusal::RecordNotSound,
-        9 => Refusal::CallNotInPattern,
-        10 => Refusal::ElementNotReduced,
-        11 => Refusal::PatternNotDone,
-        12 => Refusal::BufferTooShort,
-        13 => Refusal::NotTagString,
-        _ => unreachable!("the library answered {number}"),
-    })
+    if number == 0 {
+        return Ok(());
+    }
+    Err(Refusal::from_number(number).unwrap_or_else(|| unreachable!("the library answered {number}")))
 }

@@ -16,11 +16,12 @@ pub struct Session {
 }
 
 impl Session {
-    /// START: a session for a pattern and a separator, the byte string that names the protocol.
+    /// START: a session for a pattern and a separator, the byte string that names the protocol. All protocols of one verifier need
+    /// separators of one length: see the [crate's page](crate#separators).
     ///
     /// # Errors
     ///
-    /// 6; an accepted pattern has none of 1 to 5.
+    /// [`Refusal::SeparatorTooLong`] (6); an accepted pattern has none of 1 to 5.
     pub fn start(pattern: &Pattern, separator: &[u8]) -> Result<Session, Refusal> {
         let words = pattern.words();
         let mut session = Session { record: Record::WIPED };
@@ -42,7 +43,8 @@ impl Session {
     ///
     /// # Errors
     ///
-    /// 7, 8, 9, 10, the first that applies. 9 wipes the record, and later calls get 7; the others leave it.
+    /// [`Refusal::RecordNotOpen`] (7), [`Refusal::RecordNotSound`] (8), [`Refusal::CallNotInPattern`] (9), [`Refusal::ElementNotReduced`]
+    /// (10), the first that applies. 9 wipes the record, and later calls get 7; the others leave it.
     pub fn absorb(&mut self, elements: &[u32]) -> Result<(), Refusal> {
         // SAFETY: the slice is valid for its length, and `&mut self` keeps the record apart from it.
         result(unsafe { ffi::tuilarder_absorb(&mut self.record, elements.as_ptr(), elements.len()) })
@@ -52,7 +54,8 @@ impl Session {
     ///
     /// # Errors
     ///
-    /// 7, 8, 9, the first that applies, and the buffer is left. 9 wipes the record, and later calls get 7; the others leave it.
+    /// [`Refusal::RecordNotOpen`] (7), [`Refusal::RecordNotSound`] (8), [`Refusal::CallNotInPattern`] (9), the first that applies, and the
+    /// buffer is left. 9 wipes the record, and later calls get 7; the others leave it.
     pub fn squeeze(&mut self, buffer: &mut [u32]) -> Result<(), Refusal> {
         // SAFETY: the slice is valid for its length, and `&mut self` keeps the record apart from it.
         result(unsafe { ffi::tuilarder_squeeze(&mut self.record, buffer.as_mut_ptr(), buffer.len()) })
@@ -73,7 +76,7 @@ impl Session {
     ///
     /// # Errors
     ///
-    /// 7, 8, 11, the first that applies.
+    /// [`Refusal::RecordNotOpen`] (7), [`Refusal::RecordNotSound`] (8), [`Refusal::PatternNotDone`] (11), the first that applies.
     pub fn finish(mut self) -> Result<(), Refusal> {
         // SAFETY: the record is this session's own.
         result(unsafe { ffi::tuilarder_finish(&mut self.record) })

@@ -127,6 +127,7 @@ fn on_each_call(record: Record) -> Vec<Result<(), Refusal>> {
 fn each_refusal_is_given_with_its_number_and_words() {
     for (number, refusal, text) in REFUSALS {
         assert_eq!(refusal.number(), number);
+        assert_eq!(Refusal::from_number(number), Some(refusal));
         assert_eq!(refusal.to_string(), text);
         let error: &dyn std::error::Error = &refusal;
         assert_eq!(error.to_string(), text);
@@ -134,6 +135,13 @@ fn each_refusal_is_given_with_its_number_and_words() {
             assert_eq!(answer, Err(refusal), "number {number}, call {place}");
         }
     }
+}
+
+#[test]
+fn no_other_number_is_a_refusal() {
+    assert_eq!(Refusal::from_number(0), None);
+    assert_eq!(Refusal::from_number(14), None);
+    assert_eq!(Refusal::from_number(u32::MAX), None);
 }
 
 #[test]

@@ -585,7 +585,7 @@ fn open(run: &mut Run, record: &mut Record) {
     assert_eq!(run.call(record, Call::Start(words, separator)), 0);
 }
 
-/// One step with the sessions of a case: a fork, a call on a damaged copy, a new session, or the next call of one.
+/// One step with the sessions of a case: a fork, a call on a damaged copy, another START, or the next call of one.
 fn session_step(run: &mut Run, records: &mut Vec<Record>, any_once_in: u64) {
     let k = run.random.below(records.len() as u64) as usize;
     let mut copy = records[k];

@@ -1,11 +1,63 @@
-//! Lists longer than 32 bits can count. They take 16 GiB of address space, nearly all of it never touched, so that these
-//! tests run only when asked for: `cargo test --test long_lists -- --ignored --test-threads=1`, as the gate does.
+//! Lists longer than 32 bits can count: up to 16 GiB of address space, of which hardly a page is touched.
+
+use std::ffi::{c_int, c_void};
+use std::ops::{Deref, DerefMut};
+use std::{ptr, slice};
 
 use tuilarder::ffi::{self, Record};
 
 const LENGTH: usize = (1 << 32) + 5;
+
 /// ABSORB 9, SQUEEZE 9.
 const WORDS: [u32; 2] = [0x80000009, 0x00000009];
+
+extern "C" {
+    fn mmap(place: *mut c_void, size: usize, protection: c_int, flags: c_int, file: c_int, offset: i64) -> *mut c_void;
+    fn munmap(place: *mut c_void, size: usize) -> c_int;
+}
+
+// Linux on x86-64
+const PROT_READ_WRITE: c_int = 1 | 2;
+const MAP_PRIVATE_ANONYMOUS_NORESERVE: c_int = 0x2 | 0x20 | 0x4000;
+
+/// A list of zeros for which no memory is set aside, so that it may be longer than the machine has.
+struct Zeros<T> {
+    place: *mut T,
+    length: usize,
+}
+
+impl<T> Zeros<T> {
+    fn of(length: usize) -> Zeros<T> {
+        let (protection, flags) = (PROT_READ_WRITE, MAP_PRIVATE_ANONYMOUS_NORESERVE);
+        // SAFETY: the kernel picks a place that nothing else uses.
+        let place = unsafe { mmap(ptr::null_mut(), length * size_of::<T>(), protection, flags, -1, 0) };
+        assert_ne!(place as isize, -1, "no address space for {length} items");
+        let place = place.cast();
+        Zeros { place, length }
+    }
+}
+
+impl<T> Deref for Zeros<T> {
+    type Target = [T];
+    fn deref(&self) -> &[T] {
+        // SAFETY: so many zeros are there until this is dropped, and they are integers.
+        unsafe { slice::from_raw_parts(self.place, self.length) }
+    }
+}
+
+impl<T> DerefMut for Zeros<T> {
+    fn deref_mut(&mut self) -> &mut [T] {
+        // SAFETY: as in `deref`.
+        unsafe { slice::from_raw_parts_mut(self.place, self.length) }
+    }
+}
+
+impl<T> Drop for Zeros<T> {
+    fn drop(&mut self) {
+        // SAFETY: it is the whole of what was mapped, and nothing refers to it.
+        unsafe { munmap(self.place.cast(), self.length * size_of::<T>()) };
+    }
+}
 
 /// A session whose phase has room for five elements, but not for 2^32 and five.
 fn open() -> Record {
@@ -19,9 +71,8 @@ fn open() -> Record {
 }
 
 #[test]
-#[ignore = "needs 16 GiB of address space"]
 fn absorb_of_more_than_32_bits_is_past_the_end() {
-    let (elements, mut record) = (vec![0_u32; LENGTH], open());
+    let (elements, mut record) = (Zeros::<u32>::of(LENGTH), open());
     // SAFETY: the pointers are to that many cells, and the lists are apart.
     assert_eq!(
         unsafe { ffi::tuilarder_absorb(&mut record, elements.as_ptr(), LENGTH) },
@@ -31,9 +82,8 @@ fn absorb_of_more_than_32_bits_is_past_the_end() {
 }
 
 #[test]
-#[ignore = "needs 16 GiB of address space"]
 fn squeeze_of_more_than_32_bits_is_past_the_end() {
-    let (mut buffer, mut record) = (vec![0_u32; LENGTH], open());
+    let (mut buffer, mut record) = (Zeros::<u32>::of(LENGTH), open());
     // SAFETY: the pointers are to that many cells, and the lists are apart.
     unsafe {
         assert_eq!(ffi::tuilarder_absorb(&mut record, [1; 9].as_ptr(), 9), 0);
@@ -44,9 +94,8 @@ fn squeeze_of_more_than_32_bits_is_past_the_end() {
 }
 
 #[test]
-#[ignore = "needs 16 GiB of address space"]
 fn pattern_of_more_than_32_bits_is_too_long() {
-    let (mut words, mut record) = (vec![0_u32; (1 << 32) + 2], open());
+    let (mut words, mut record) = (Zeros::<u32>::of((1 << 32) + 2), open());
     words[..2].copy_from_slice(&WORDS);
     // SAFETY: the pointers are to that many cells, and the lists are apart.
     assert_eq!(
@@ -57,9 +106,8 @@ fn pattern_of_more_than_32_bits_is_too_long() {
 }
 
 #[test]
-#[ignore = "needs 4 GiB of address space"]
 fn separator_of_more_than_32_bits_is_too_long() {
-    let (separator, mut record) = (vec![0_u8; LENGTH], open());
+    let (separator, mut record) = (Zeros::<u8>::of(LENGTH), open());
     // SAFETY: the pointers are to that many cells, and the lists are apart.
     assert_eq!(
         unsafe { ffi::tuilarder_start(&mut record, WORDS.as_ptr(), 2, separator.as_ptr(), LENGTH) },
@@ -69,9 +117,8 @@ fn separator_of_more_than_32_bits_is_too_long() {
 }
 
 #[test]
-#[ignore = "needs 4 GiB of address space"]
 fn buffer_of_more_than_32_bits_is_long_enough() {
-    let (mut out, mut written) = (vec![0_u8; LENGTH], 0);
+    let (mut out, mut written) = (Zeros::<u8>::of(LENGTH), 0);
     // SAFETY: the pointers are to that many cells, and the lists are apart.
     let number = unsafe {
         ffi::tuilarder_write_tag(
@@ -89,9 +136,8 @@ fn buffer_of_more_than_32_bits_is_long_enough() {
 }
 
 #[test]
-#[ignore = "needs 4 GiB of address space"]
 fn string_of_more_than_32_bits_is_no_tag_string() {
-    let (mut string, mut words, mut count) = (vec![0_u8; (1 << 32) + 8], [77; 64], 77);
+    let (mut string, mut words, mut count) = (Zeros::<u8>::of((1 << 32) + 8), [77; 64], 77);
     string[..8].copy_from_slice(&[0x80, 0, 0, 9, 0, 0, 0, 9]);
     // SAFETY: the pointers are to that many cells, and the lists are apart.
     let number = unsafe { ffi::tuilarder_read_tag(string.as_ptr(), string.len(), 0, &mut words, &mut count) };

@@ -1,4 +1,4 @@
-// Sessions: START, ABSORB, SQUEEZE and FINISH over a record that goes from call to call by value.
+// Sessions: START, ABSORB, SQUEEZE and FINISH over a record that goes from call to call by value, or that stays with the caller.
 mod soundness;
 mod sponge;
 

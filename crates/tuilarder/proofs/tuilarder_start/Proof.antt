@@ -1,5 +1,5 @@
 -- `tuilarder_start` meets its contract: a walk of its MIR, by hand. A copy of each slice is passed to `Session::start`; the borrow is
--- opened, what the call returned is stored behind it, and it is closed at the new record.
+-- opened, what the call returned is stored behind it, and it is closed at that record.
 -- All that the proof knows of `Session::start` is that it meets its contract.
 -- Assumes nothing.
 use mathlib.Core.Path.{_≡_, refl, ap}
@@ -165,7 +165,7 @@ module _ {M : Type 1} (𝓤 : URA M) (H : Heap 𝓤) (A : Atoms 𝓤) (W : Given
         (store ! 0 refl (laws.lawful session.the-type session-laws.the-laws 𝓤 H A W .typed (r .session) _ (session-is r w is) .0)) $
         assigns ! (of-opd ! (load ! (from ! (fld ! refl (stop !))) (look-in ! 10 (sub ! 0 refl (whole !))))) (from ! (stop !))
         (init ! 18 refl (tt, record { fits = number-fits r w is })) $
-        -- the borrow is closed at the new record
+        -- the borrow is closed at that record
         move ! (1 ∷ []) $ drop ! $ closes-record ! tt b o (r .session) (session-is r w is) $
         -- [obs; the borrow; the token; what the answer owns; the slices' tokens; words; separator; true; _4; …; _3; …; _2; …; _1; …; _0; …]
         returns ! (look ! 16 refl) $ forget ! 8 refl $ forget ! 10 refl $ forget ! 12 refl $ forget ! 14 refl $ forget ! 16 refl $

@@ -1,5 +1,5 @@
 -- `Session::absorb` meets its contract: a walk of its MIR, by hand. The borrow is opened, the record is copied out and passed, with a copy
--- of the slice, to `absorb_step`, what that returns is stored behind the borrow, and the borrow is closed at the new record.
+-- of the slice, to `absorb_step`, what that returns is stored behind the borrow, and the borrow is closed at that record.
 -- All that the proof knows of `absorb_step` is that it meets its contract.
 -- Assumes nothing.
 use mathlib.Core.Path.{_≡_, refl, ap}
@@ -149,13 +149,13 @@ module _ {M : Type 1} (𝓤 : URA M) (H : Heap 𝓤) (A : Atoms 𝓤) (W : Given
         land ! (from ! (stop !)) (init ! 10 refl (laws.lawful answer.the-type answer-laws.the-laws 𝓤 H A W .typed r _ is .0)) $
         rewrite ! 10 (λ (u : Val). ‵ (fat fullShare answer-laws.mir l₃ 0 u))
         (ap only (laws.tells answer.the-type answer-laws.the-laws r _ is)) refl $
-        -- the new record is stored behind the borrow, and the number in the result
+        -- the record that the step leaves is stored behind the borrow, and the number in the result
         assigns ! (of-opd ! (load ! (from ! (fld ! refl (stop !))) (look-in ! 10 (sub ! 1 refl (whole !)))))
         (from ! (hop ! (look ! 14 refl) (stop !)))
         (store ! 2 refl (laws.lawful session.the-type session-laws.the-laws 𝓤 H A W .typed (r .session) _ (session-is r w is) .0)) $
         assigns ! (of-opd ! (load ! (from ! (fld ! refl (stop !))) (look-in ! 10 (sub ! 0 refl (whole !))))) (from ! (stop !))
         (init ! 16 refl (tt, record { fits = number-fits r w is })) $
-        -- the borrow is closed at the new record
+        -- the borrow is closed at that record
         drop ! $ move ! (1 ∷ 2 ∷ 3 ∷ 4 ∷ []) $ closes-record ! tt b o (r .session) (session-is r w is) $
         -- [obs; the borrow; the token; the slice's token; the slice; true; _4; …; _3; …; _2; …; _1; …; _0; …]
         returns ! (look ! 14 refl) $ forget ! 6 refl $ forget ! 8 refl $ forget ! 10 refl $ forget ! 12 refl $ forget ! 14 refl $

@@ -1,5 +1,5 @@
 -- `Session::finish` meets its contract: a walk of its MIR, by hand. The borrow is opened, the record is copied out and passed to
--- `finish_step`, what that returns is stored behind the borrow, and the borrow is closed at the new record.
+-- `finish_step`, what that returns is stored behind the borrow, and the borrow is closed at that record.
 -- All that the proof knows of `finish_step` is that it meets its contract.
 -- Assumes nothing.
 use mathlib.Core.Path.{_≡_, refl, ap}
@@ -127,13 +127,13 @@ module _ {M : Type 1} (𝓤 : URA M) (H : Heap 𝓤) (A : Atoms 𝓤) (W : Given
         land ! (from ! (stop !)) (init ! 9 refl (laws.lawful answer.the-type answer-laws.the-laws 𝓤 H A W .typed r _ is .0)) $
         rewrite ! 9 (λ (u : Val). ‵ (fat fullShare answer-laws.mir l₂ 0 u))
         (ap only (laws.tells answer.the-type answer-laws.the-laws r _ is)) refl $
-        -- the new record is stored behind the borrow, and the number in the result
+        -- the record that the step leaves is stored behind the borrow, and the number in the result
         assigns ! (of-opd ! (load ! (from ! (fld ! refl (stop !))) (look-in ! 9 (sub ! 1 refl (whole !)))))
         (from ! (hop ! (look ! 11 refl) (stop !)))
         (store ! 1 refl (laws.lawful session.the-type session-laws.the-laws 𝓤 H A W .typed (r .session) _ (session-is r w is) .0)) $
         assigns ! (of-opd ! (load ! (from ! (fld ! refl (stop !))) (look-in ! 9 (sub ! 0 refl (whole !))))) (from ! (stop !))
         (init ! 13 refl (tt, record { fits = number-fits r w is })) $
-        -- the borrow is closed at the new record
+        -- the borrow is closed at that record
         drop ! $ closes-record ! tt b o (r .session) (session-is r w is) $
         returns ! (look ! 11 refl) $ forget ! 5 refl $ forget ! 7 refl $ forget ! 9 refl $ forget ! 11 refl $
         move ! (11 ∷ 12 ∷ []) $ free1 ! $ move ! (9 ∷ 10 ∷ []) $ free1 ! $ move ! (7 ∷ 8 ∷ []) $ free1 ! $ move ! (5 ∷ 6 ∷ []) $ free1 ! $

@@ -1,5 +1,5 @@
 -- `Session::squeeze` meets its contract: a walk of its MIR, by hand. The borrow is opened, the record is copied out and passed, with the
--- slice, which is handed over, to `squeeze_step`, what that returns is stored behind the borrow, and the borrow is closed at the new
+-- slice, which is handed over, to `squeeze_step`, what that returns is stored behind the borrow, and the borrow is closed at that
 -- record.
 -- All that the proof knows of `squeeze_step` is that it meets its contract.
 -- Assumes nothing.
@@ -154,13 +154,13 @@ module _ {M : Type 1} (𝓤 : URA M) (H : Heap 𝓤) (A : Atoms 𝓤) (W : Given
         land ! (from ! (stop !)) (init ! 15 refl (laws.lawful answer.the-type answer-laws.the-laws 𝓤 H A W .typed r _ is .0)) $
         rewrite ! 15 (λ (u : Val). ‵ (fat fullShare answer-laws.mir l₃ 0 u))
         (ap only (laws.tells answer.the-type answer-laws.the-laws r _ is)) refl $
-        -- the new record is stored behind the borrow, and the number in the result
+        -- the record that the step leaves is stored behind the borrow, and the number in the result
         assigns ! (of-opd ! (load ! (from ! (fld ! refl (stop !))) (look-in ! 15 (sub ! 1 refl (whole !)))))
         (from ! (hop ! (look ! 19 refl) (stop !)))
         (store ! 4 refl (laws.lawful session.the-type session-laws.the-laws 𝓤 H A W .typed (r .session) _ (session-is r w is) .0)) $
         assigns ! (of-opd ! (load ! (from ! (fld ! refl (stop !))) (look-in ! 15 (sub ! 0 refl (whole !))))) (from ! (stop !))
         (init ! 21 refl (tt, record { fits = number-fits r w is })) $
-        -- the borrow is closed at the new record
+        -- the borrow is closed at that record
         drop ! $ move ! (3 ∷ 4 ∷ 5 ∷ 6 ∷ []) $ closes-record ! tt b o (r .session) (session-is r w is) $
         -- [obs; the borrow; the token; the slice's token; the last list; true; true; _6; …; _5; …; _4; …; _3; …; _2; …; _1; …; _0; …]
         returns ! (look ! 19 refl) $ forget ! 7 refl $ forget ! 9 refl $ forget ! 11 refl $ forget ! 13 refl $ forget ! 15 refl $
