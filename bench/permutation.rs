@@ -1,8 +1,12 @@
-// One permutation of the library beside three in Rust, in one run: a plain one, on field functions that each have their `%`; the
-// same, but with the sum of a row reduced once; and one that reduces neither products nor sums before the end of a row, as the
-// library does. All four must end in the same state.
+// One permutation of the library beside others in Rust, in one run: the independent implementation, with a `%` for every operation; one
+// that reduces neither products nor sums before the end of a row, as the library does; and the fastest that we could write, with SSE2
+// and, where there is one, with AVX2. All must give what the first gives, before they are timed and in the end.
+mod fast_permutation;
+#[path = "../bindings/rust/tests/independent/mod.rs"]
+mod independent;
 mod measure;
 
+use fast_permutation::FastTables;
 use measure::{compare, Way};
 use std::hint::black_box;
 
@@ -10,109 +14,31 @@ extern "C" {
     fn tuilarder_permute(state: *mut [u32; 24]) -> u32;
 }
 
-const P: u64 = 2013265921;
-
-struct Tables {
-    constants: Vec<u32>,
-    inverses: Vec<u32>,
-}
-
-fn power(mut base: u64, mut exponent: u64) -> u64 {
-    let mut result = 1;
-    while exponent > 0 {
-        if exponent & 1 == 1 {
-            result = result * base % P;
-        }
-        base = base * base % P;
-        exponent >>= 1;
-    }
-    result
-}
-
-// Poseidon's Grain generator, written anew from its description.
-fn constants() -> Vec<u32> {
-    let mut register: Vec<u8> = Vec::new();
-    for (value, size) in [(1u32, 2), (0, 4), (31, 12), (24, 12), (8, 10), (21, 10)] {
-        register.extend((0..size).rev().map(|k| (value >> k & 1) as u8));
-    }
-    register.extend([1; 30]);
-    let mut at = 0;
-    let mut next = move || {
-        let bit = [62, 51, 38, 23, 13, 0].iter().fold(0, |bit, tap| bit ^ register[(at + tap) % 80]);
-        register[at] = bit;
-        at = (at + 1) % 80;
-        bit
-    };
-    for _ in 0..160 {
-        next();
-    }
-    let mut found = Vec::new();
-    while found.len() < 696 {
-        let mut candidate = 0u64;
-        let mut size = 0;
-        while size < 31 {
-            let (first, second) = (next(), next());
-            if first == 1 {
-                candidate = candidate * 2 + second as u64;
-                size += 1;
-            }
-        }
-        if candidate < P {
-            found.push(candidate as u32);
-        }
-    }
-    found
-}
-
-fn add(a: u64, b: u64) -> u64 {
-    (a + b) % P
-}
-
-fn mul(a: u64, b: u64) -> u64 {
-    a * b % P
-}
+const P: u64 = independent::P as u64;
 
 fn seventh(x: u64) -> u64 {
-    let square = mul(x, x);
-    mul(mul(square, square), mul(square, x))
+    let square = x * x % P;
+    (square * square % P) * (square * x % P) % P
 }
 
-fn permute(tables: &Tables, state: &mut [u32; 24], row: fn(&[u32], &[u32; 24]) -> u32) {
-    for round in 0..29 {
-        let constants = &tables.constants[24 * round..24 * round + 24];
-        for i in 0..24 {
-            state[i] = add(state[i] as u64, constants[i] as u64) as u32;
+fn permute(constants: &[u32], inverses: &[u32], state: &mut [u32; 24]) {
+    for (round, constants) in constants.chunks(24).enumerate() {
+        for (x, constant) in state.iter_mut().zip(constants) {
+            *x = ((*x as u64 + *constant as u64) % P) as u32;
         }
         let raised = if (4..25).contains(&round) { 1 } else { 24 };
         for x in state.iter_mut().take(raised) {
             *x = seventh(*x as u64) as u32;
         }
-        let mut out = [0; 24];
-        for i in 0..24 {
-            out[i] = row(&tables.inverses[i..i + 24], state);
+        let before = *state;
+        for (i, x) in state.iter_mut().enumerate() {
+            *x = row(&inverses[i..i + 24], &before);
         }
-        *state = out;
     }
-}
-
-fn plain_row(row: &[u32], state: &[u32; 24]) -> u32 {
-    let mut sum = 0;
-    for j in 0..24 {
-        sum = add(sum, mul(row[j] as u64, state[j] as u64));
-    }
-    sum as u32
-}
-
-fn reduced_products_row(row: &[u32], state: &[u32; 24]) -> u32 {
-    let mut sum = 0;
-    for j in 0..24 {
-        sum += mul(row[j] as u64, state[j] as u64);
-    }
-    (sum % P) as u32
 }
 
 // Four products at a time, their halves summed apart, one remainder at the end.
-fn halves_row(row: &[u32], state: &[u32; 24]) -> u32 {
+fn row(row: &[u32], state: &[u32; 24]) -> u32 {
     let row: &[u32; 24] = row.try_into().unwrap();
     let (mut low, mut high) = (0u64, 0u64);
     for j in (0..24).step_by(4) {
@@ -126,21 +52,73 @@ fn halves_row(row: &[u32], state: &[u32; 24]) -> u32 {
     ((high * 268435454 + low) % P) as u32
 }
 
+type Permutation<'a> = Box<dyn Fn(&mut [u32; 24]) + 'a>;
+
+// The permutation of this state has 2 for all elements, for which the fast ones have to take P away at their end.
+#[rustfmt::skip]
+const BEFORE_TWOS: [u32; 24] = [
+    999482224, 1774723680, 387834909, 1959513775, 1377283019, 1412773592, 489128824, 1053706013,
+    589736630, 669090473, 1667457395, 1450282732, 257389184, 48856097, 1596321025, 1849469361,
+    588417038, 1568113902, 709713822, 1735952103, 62686187, 1465449350, 806016576, 1942862187,
+];
+
+// Stops unless all give what the first gives: on that state, zeros, the largest elements, and random ones.
+fn check(ways: &[(&str, Permutation)]) {
+    let mut random = 88172645463325252u64;
+    let random_states = (0..300).map(|_| {
+        [(); 24].map(|()| {
+            random ^= random << 13;
+            random ^= random >> 7;
+            random ^= random << 17;
+            ((random >> 16) % P) as u32
+        })
+    });
+    for state in [BEFORE_TWOS, [0; 24], [P as u32 - 1; 24]]
+        .into_iter()
+        .chain(random_states)
+    {
+        let mut plain = state;
+        ways[0].1(&mut plain);
+        for (name, permute) in &ways[1..] {
+            let mut other = state;
+            permute(&mut other);
+            assert_eq!(plain, other, "{name} of {state:?}");
+        }
+    }
+}
+
+// Each goes on from its own last state; in the end all must be in the same.
+fn time(ways: &[(&str, Permutation)]) {
+    let mut states = vec![[7; 24]; ways.len()];
+    let calls = ways.iter().zip(&mut states);
+    let mut calls: Vec<_> = calls
+        .map(|((_, permute), state)| || permute(black_box(state)))
+        .collect();
+    let timed = ways.iter().zip(&mut calls);
+    let mut timed: Vec<Way> = timed.map(|((name, _), call)| Way { name, call }).collect();
+    compare("one permutation", 200, &mut timed);
+    assert!(states.iter().all(|state| *state == states[0]));
+}
+
 fn main() {
-    let tables = Tables { constants: constants(), inverses: (24..71).map(|k| power(k, P - 2) as u32).collect() };
-    let [mut plain, mut reduced_products, mut halves, mut library] = [[7u32; 24]; 4];
-    compare(
-        "one permutation",
-        200,
-        &mut [
-            Way { name: "plain Rust, % for every operation", call: &mut || permute(&tables, black_box(&mut plain), plain_row) },
-            Way {
-                name: "Rust, sum of a row reduced once",
-                call: &mut || permute(&tables, black_box(&mut reduced_products), reduced_products_row),
-            },
-            Way { name: "Rust, one % for a row", call: &mut || permute(&tables, black_box(&mut halves), halves_row) },
-            Way { name: "library", call: &mut || assert_eq!(unsafe { tuilarder_permute(black_box(&mut library)) }, 0) },
-        ],
-    );
-    assert!([plain, reduced_products, halves].iter().all(|state| *state == library));
+    let (constants, _) = independent::round_constants();
+    let inverses: Vec<u32> = (24..71).map(independent::inverse).collect();
+    let fast = &FastTables::new(&constants, &inverses);
+    let plain: Permutation = Box::new(|state| assert_eq!(independent::permute(state), 0));
+    let one_remainder: Permutation = Box::new(|state| permute(&constants, &inverses, state));
+    let sse2: Permutation = Box::new(|state| fast_permutation::permute(fast, state));
+    // SAFETY: the state is lent for the call.
+    let library: Permutation = Box::new(|state| assert_eq!(unsafe { tuilarder_permute(state) }, 0));
+    let mut ways = vec![
+        ("independent Rust, % for every operation", plain),
+        ("Rust, one % for a row, as the library", one_remainder),
+        ("fast Rust, SSE2", sse2),
+    ];
+    if let Some(permute) = fast_permutation::avx2() {
+        let avx2: Permutation = Box::new(move |state| permute(fast, state));
+        ways.push(("fast Rust, AVX2", avx2));
+    }
+    ways.push(("library", library));
+    check(&ways);
+    time(&ways);
 }

@@ -27,18 +27,32 @@ fn library_absorb(record: &mut Record, elements: &[u32]) {
     assert_eq!(unsafe { ffi::tuilarder_absorb(record, elements.as_ptr(), elements.len()) }, 0);
 }
 
-fn record_of(session: &Session) -> Record {
-    Record {
-        status: session.status,
-        state: session.state,
-        words: session.words,
-        count: session.count,
-        phase: session.phase,
-        done: session.done,
-        absorb_position: session.absorb_position,
-        squeeze_position: session.squeeze_position,
-        permutations: session.permutations,
+fn session_of(record: &Record) -> Session {
+    Session {
+        status: record.status,
+        state: record.state,
+        words: record.words,
+        count: record.count,
+        phase: record.phase,
+        done: record.done,
+        absorb_position: record.absorb_position,
+        squeeze_position: record.squeeze_position,
+        permutations: record.permutations,
     }
+}
+
+// START, and the first phases of the pattern.
+fn library_reach(words: &[u32], phases: usize) -> Record {
+    let mut record = library_start(words, b"AB");
+    for word in &words[..phases] {
+        let mut list = vec![7; (word % ABSORB) as usize];
+        if *word >= ABSORB {
+            library_absorb(&mut record, &list);
+        } else {
+            assert_eq!(unsafe { ffi::tuilarder_squeeze(&mut record, list.as_mut_ptr(), list.len()) }, 0);
+        }
+    }
+    record
 }
 
 fn independent_start(words: &[u32], separator: &[u8]) -> Session {
@@ -73,7 +87,7 @@ fn independent_hash(elements: &[u32]) -> [u32; 8] {
 }
 
 fn start(job: &str, words: &[u32], separator: &[u8]) {
-    assert_eq!(record_of(&independent_start(words, separator)), library_start(words, separator));
+    assert_eq!(independent_start(words, separator), session_of(&library_start(words, separator)));
     compare(
         job,
         1000,
@@ -84,13 +98,14 @@ fn start(job: &str, words: &[u32], separator: &[u8]) {
     );
 }
 
-// Each call gets its own copy of the record that START gave, and permutes nothing.
-fn absorb_one(job: &str, words: &[u32]) {
-    let (independent, library) = (independent_start(words, b"AB"), library_start(words, b"AB"));
+// Each call gets its own copy of the record at that place, and permutes nothing.
+fn absorb_one(job: &str, words: &[u32], phases: usize) {
+    let library = library_reach(words, phases);
+    let independent = session_of(&library);
     let (mut by_independent, mut by_library) = (independent.clone(), library);
     independent_absorb(&mut by_independent, &[7]);
     library_absorb(&mut by_library, &[7]);
-    assert_eq!(record_of(&by_independent), by_library);
+    assert_eq!(by_independent, session_of(&by_library));
     compare(
         job,
         10_000,
@@ -142,8 +157,8 @@ fn main() {
     let longest: Vec<u32> = (0..64).map(|k| if k % 2 == 0 { ABSORB + 9 } else { 9 }).collect();
     start("START, 2 words, separator of 2 bytes", &[ABSORB + 8, 8], b"AB");
     start("START, 64 words, separator of 256 bytes", &longest, &[7; 256]);
-    absorb_one("ABSORB of 1 element, 2 words", &[ABSORB + 8, 8]);
-    absorb_one("ABSORB of 1 element, 64 words", &longest);
+    absorb_one("ABSORB of 1 element, 2 words", &[ABSORB + 8, 8], 0);
+    absorb_one("ABSORB of 1 element, in phase 62 of 64", &longest, 62);
     hash("a session that hashes 1,000 elements to 8", &(0..1000).collect::<Vec<u32>>());
     growth();
 }

@@ -49,7 +49,7 @@ fn multiply(a: u32, b: u32) -> u32 {
 /// "raises all elements (full) or element 0 alone (partial) to the seventh power", for any exponent.
 pub fn power(base: u32, exponent: u32) -> u32 {
     let mut result = 1;
-    for k in (0..u32::BITS).rev() {
+    for k in (0..u32::BITS - exponent.leading_zeros()).rev() {
         result = multiply(result, result);
         if exponent >> k & 1 == 1 {
             result = multiply(result, base);
