@@ -10,7 +10,7 @@
  *         return 0;                                                     turned away: there is no challenge
  *
  * ALL PROTOCOLS OF ONE VERIFIER NEED SEPARATORS OF ONE LENGTH. With separators of unequal length, two patterns can have the same tag
- * string, and then the two protocols get the same challenges.
+ * string, and then the two protocols get the same challenges for the same messages.
  *
  * What a list, a string or a record holds is free: the functions take every content, and answer with a number where they turn a call away.
  * What the functions cannot look at is the caller's duty:

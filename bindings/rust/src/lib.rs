@@ -7,9 +7,10 @@
 //!
 //! # Separators
 //!
-//! **All protocols of one verifier need separators of one length.** Then no two of them share a tag string, and so their challenges, unless
-//! merged patterns and separators are both equal. With separators of unequal length, two patterns can have the same tag string: it is
-//! the pattern's words in bytes with the separator behind them, and says nowhere where the separator begins.
+//! **All protocols of one verifier need separators of one length.** Then, as is proved, no two of them share a tag string unless merged
+//! patterns and separators are both equal. With separators of unequal length, two patterns can have the same tag string, and then the two
+//! protocols get the same challenges for the same messages: a tag string is the pattern's words in bytes with the separator behind them, and
+//! says nowhere where the separator begins.
 //!
 //! # A protocol of two rounds
 //!
