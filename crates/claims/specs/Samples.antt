@@ -19,7 +19,8 @@ use Rattle.tag.specs.Elements.{tagElements}
 use Rattle.session.specs.Sponge.{permute, tagState, readyToAbsorb, absorbElement, readyToSqueeze, squeezedElement, squeezeElement}
 use Rattle.session.specs.Record.{wiped, openRecord, spongeOf, moved, phaseWord, lastElement, nextPhase, nextDone}
 use Rattle.session.specs.Record.{absorbOne, squeezeOne, squeezedOne, absorbAll, squeezeAll}
-use Rattle.session.specs.Soundness.{blockCount, phasePermutations, permutationsAt, inLastBlock, positionsAfter, positionsAt, sound}
+use Rattle.tag.specs.Permutations.{blockCount, phasePermutations, permutationsAt}
+use Rattle.session.specs.Soundness.{inLastBlock, positionsAfter, positionsAt, sound}
 use Rattle.session.specs.Calls.{giving, inPattern, absorb, squeeze, finish}
 use Rattle.session.specs.declared.Session.{Session}
 use Rattle.runs.specs.Calls.{Call, ABSORB, SQUEEZE, answered, left, leftBy}

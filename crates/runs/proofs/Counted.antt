@@ -11,7 +11,7 @@ use Rattle.basics.proofs.Sums.{sum-same}
 use Rattle.basics.proofs.Zeros.{zeros-behind}
 use Rattle.tag.specs.Pattern.{lengthOf, mergedWords}
 use Rattle.session.specs.Record.{opened, openRecord}
-use Rattle.session.specs.Soundness.{phasePermutations, permutationsAt}
+use Rattle.tag.specs.Permutations.{phasePermutations, permutationsAt}
 use Rattle.session.specs.Calls.{startRecord, start}
 use Rattle.session.specs.declared.Session.{Session}
 use Rattle.runs.specs.Calls.{Call, leftBy}

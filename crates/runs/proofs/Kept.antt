@@ -14,10 +14,11 @@ use Rattle.field.specs.Field.{p}
 use Rattle.tag.specs.Pattern.{isAbsorb, lengthOf}
 use Rattle.session.specs.Sponge.{rate, Sponge, readyToAbsorb, absorbElement, readyToSqueeze, squeezeElement}
 use Rattle.session.specs.Record.{spongeOf, moved, phaseWord, nextPhase, nextDone, absorbOne, squeezeOne}
-use Rattle.session.specs.Soundness.{phasePermutations, permutationsAt, positionsAfter, positionsAt}
+use Rattle.tag.specs.Permutations.{phasePermutations, permutationsAt}
+use Rattle.session.specs.Soundness.{positionsAfter, positionsAt}
 use Rattle.session.specs.declared.Session.{Session}
 use Rattle.session.proofs.Elements.{sum-reduced}
-use Rattle.session.proofs.Counts.{wholePhase}
+use Rattle.tag.proofs.PermutationCounts.{wholePhase}
 use Rattle.runs.proofs.Positions.{position, no-permutations, positions-absorb, positions-squeeze, absorb-position, squeeze-position, squeeze-keeps-absorb}
 use Rattle.runs.proofs.ReadySponge.{Ready, ready-to-absorb, ready-to-squeeze}
 use Rattle.session.proofs.SoundRecord.{Sound, element-left}

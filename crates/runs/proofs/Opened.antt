@@ -20,7 +20,8 @@ use Rattle.tag.specs.Elements.{tagElements}
 use Rattle.tag.proofs.MergedWords.{merged-sound}
 use Rattle.session.specs.Sponge.{tagState}
 use Rattle.session.specs.Record.{opened, openRecord, phaseWord}
-use Rattle.session.specs.Soundness.{permutationsAt, positionsAt, sound}
+use Rattle.tag.specs.Permutations.{permutationsAt}
+use Rattle.session.specs.Soundness.{positionsAt, sound}
 use Rattle.session.specs.Calls.{giving, startRecord, start}
 use Rattle.session.specs.declared.Session.{Session}
 use Rattle.session.specs.declared.Answer.{Answer}

@@ -12,7 +12,8 @@ use Rattle.basics.proofs.Cases.{if-true, if-false, and-left, and-right, and-bot
 use Rattle.field.specs.Field.{p}
 use Rattle.tag.specs.Pattern.{lengthOf, soundWords}
 use Rattle.session.specs.Record.{phaseWord}
-use Rattle.session.specs.Soundness.{permutationsAt, positionsAt, sound}
+use Rattle.tag.specs.Permutations.{permutationsAt}
+use Rattle.session.specs.Soundness.{positionsAt, sound}
 use Rattle.session.specs.Steps.{wordsSound, placeSound}
 use Rattle.session.specs.declared.Session.{Session}
 

@@ -1,30 +1,17 @@
 -- Sound records. From document 01, "Session steps".
 use mathlib.Core.Bool.{Bool}
 use mathlib.Core.List.{List}
-use Prim.Native.Nat.{ℕ, zero, suc, _+_, _-_, _/_, _%_}
+use Prim.Native.Nat.{ℕ, zero, suc, _+_, _-_, _%_}
 use lib.Dec.{leb, ltb, eqb}
 use lib.ListN.{length, getD, take, drop}
 use Rattle.basics.specs.Logic.{if_then_else_, _and_, all}
-use Rattle.basics.specs.Lists.{sum}
 use Rattle.field.specs.Field.{p}
 use Rattle.tag.specs.Pattern.{isAbsorb, lengthOf, soundWords}
+use Rattle.tag.specs.Permutations.{permutationsAt}
 use Rattle.session.specs.Sponge.{rate}
 use Rattle.session.specs.Record.{phaseWord}
 use Rattle.session.specs.declared.Session.{Session}
 use Rattle.session.specs.declared.soundness.Positions.{Positions}
-
--- how many blocks of eight n elements fill or begin: ceil(n/8)
-unfoldable pub blockCount : ℕ → ℕ
-blockCount n = (n + 7) / 8
-
--- "Permutations for d elements done in a phase: absorb, 0 if d = 0, else ceil(d/8) − 1; squeeze, ceil(d/8)."
-unfoldable pub phasePermutations : ℕ → ℕ → ℕ
-phasePermutations word d = if isAbsorb word then (if eqb d 0 then 0 else blockCount d - 1) else blockCount d
-
--- "Their sum over phases is the count.": of all elements of the phases before, and of those done in this one
-unfoldable pub permutationsAt : List ℕ → ℕ → ℕ → ℕ
-permutationsAt ws phase done =
-    sum phase (λ k. phasePermutations (getD ws k 0) (lengthOf (getD ws k 0))) + phasePermutations (getD ws phase 0) done
 
 -- how many elements the last of the blocks of n elements has, n at least 1: 1 to 8
 unfoldable pub inLastBlock : ℕ → ℕ

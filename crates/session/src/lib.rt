@@ -214,7 +214,7 @@ impl Session {
         if !field::is_reduced(&state) {
             return false;
         }
-        if self.permutations != soundness::permutations_at(&words, self.phase, self.done) {
+        if self.permutations != tag::permutations::permutations_at(&words, self.phase, self.done) {
             return false;
         }
         let positions = soundness::positions_at(&words, self.phase, self.done);
@@ -232,7 +232,7 @@ impl Session {
             return false;
         }
         let words = self.words;
-        let word = soundness::word_at(&words, self.phase);
+        let word = tag::words::phase_word(&words, self.phase);
         if tag::words::is_absorb(word) != absorbs {
             return false;
         }
@@ -258,7 +258,7 @@ impl Session {
         let words = self.words;
         let phase = self.phase;
         let done = self.done + elements;
-        let last = done == tag::words::length_of(soundness::word_at(&words, phase));
+        let last = done == tag::words::length_of(tag::words::phase_word(&words, phase));
         Session {
             status: self.status,
             state,

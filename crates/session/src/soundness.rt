@@ -1,4 +1,4 @@
-// The parts of a record's soundness: its words, its place in the pattern, and the positions and the count that the steps give there.
+// The parts of a record's soundness: its words, its place in the pattern, and the positions that the steps give there.
 use crate::sponge::RATE;
 ghost use mathlib.Core.Path.{_≡_};
 ghost use mathlib.Core.Logic.{_≢_};
@@ -8,20 +8,12 @@ ghost use lib.ListN.{length, getD};
 ghost use Rattle.basics.specs.Logic.{all};
 ghost use Rattle.tag.specs.Pattern.{lengthOf};
 ghost use Rattle.session.specs.Steps.{wordsSound, placeSound};
-ghost use Rattle.session.specs.Soundness.{phasePermutations, permutationsAt, inLastBlock, positionsAfter, positionsAt};
+ghost use Rattle.session.specs.Soundness.{inLastBlock, positionsAfter, positionsAt};
 
 // An absorb and a squeeze position.
 pub(crate) struct Positions {
     pub absorb: u32,
     pub squeeze: u32,
-}
-
-// The word of a phase, and 0 behind the last place.
-pub(crate) fn word_at(words: &[u32], phase: u32) -> u32
-    requires { ⌜ length (now words) ≡ 64 ⌝ }
-    ensures { λ r. ⌜ r ≡ getD (now (words .entry)) phase 0 ⌝ }
-{
-    if phase < 64 { words[phase as usize] } else { 0 }
 }
 
 // Whether all are 0, as unused words have to be.
@@ -53,7 +45,6 @@ pub(crate) fn words_sound(words: &[u32], count: u32) -> bool
 
 // Whether the place is one in the pattern.
 pub(crate) fn place_sound(words: &[u32], count: u32, phase: u32, done: u32) -> bool
-    requires { ⌜ length (now words) ≡ 64 ⌝ }
     ensures { λ r. ⌜ r ≡ placeSound (now (words .entry)) count phase done ⌝ }
 {
     if phase > count {
@@ -62,34 +53,7 @@ pub(crate) fn place_sound(words: &[u32], count: u32, phase: u32, done: u32) -> b
     if phase == count {
         return done == 0;
     }
-    done < tag::words::length_of(word_at(words, phase))
-}
-
-// The permutations for so many elements of a phase.
-fn phase_permutations(word: u32, done: u32) -> u64
-    ensures { λ r. ⌜ r ≡ phasePermutations word done ⌝ }
-{
-    let blocks = (done as u64 + 7) / 8;
-    if !tag::words::is_absorb(word) {
-        return blocks;
-    }
-    if done == 0 {
-        return 0;
-    }
-    blocks - 1
-}
-
-// The permutations at a place: those of the phases before, and of the elements done in this one.
-pub(crate) fn permutations_at(words: &[u32], phase: u32, done: u32) -> u64
-    requires { ⌜ (length (now words) ≡ 64) × (phase ≤ 64) ⌝ }
-    ensures { λ r. ⌜ r ≡ permutationsAt (now (words .entry)) phase done ⌝ }
-{
-    let mut permutations: u64 = 0;
-    for k in 0..phase {
-        let word = word_at(words, k);
-        permutations += phase_permutations(word, tag::words::length_of(word));
-    }
-    permutations + phase_permutations(word_at(words, phase), done)
+    done < tag::words::length_of(tag::words::phase_word(words, phase))
 }
 
 // How many elements the last block of so many elements has.
@@ -121,12 +85,11 @@ fn positions_after(word: u32, element: u32) -> Positions
 
 // The positions at a place.
 pub(crate) fn positions_at(words: &[u32], phase: u32, done: u32) -> Positions
-    requires { ⌜ length (now words) ≡ 64 ⌝ }
     requires { ⌜ (phase ≢ 0 → 1 ≤ lengthOf (getD (now words) (phase - 1) 0)) ⌝ }
     ensures { λ r. ⌜ r ≡ positionsAt (now (words .entry)) phase done ⌝ }
 {
     if done > 0 {
-        return positions_after(word_at(words, phase), done);
+        return positions_after(tag::words::phase_word(words, phase), done);
     }
     if phase == 0 {
         return Positions {
@@ -134,6 +97,6 @@ pub(crate) fn positions_at(words: &[u32], phase: u32, done: u32) -> Positions
             squeeze: 0,
         };
     }
-    let word = word_at(words, phase - 1);
+    let word = tag::words::phase_word(words, phase - 1);
     positions_after(word, tag::words::length_of(word))
 }

@@ -1,4 +1,5 @@
 pub mod WordKinds
+pub mod PermutationCounts
 pub mod Given
 pub mod MergeStep
 pub mod Answers

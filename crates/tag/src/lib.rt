@@ -1,5 +1,6 @@
 // Patterns and tag strings: the check of a pattern, merging, and tag strings written, read back and cut to elements.
 mod merging;
+pub mod permutations;
 pub mod words;
 
 ghost use mathlib.Core.Path.{_≡_};

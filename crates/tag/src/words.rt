@@ -4,7 +4,7 @@ ghost use mathlib.Core.Bool.{true};
 ghost use mathlib.Core.List.{[], _∷_, _++_};
 ghost use Prim.Native.Nat.{_+_, _-_, _*_, _/_, _≤_};
 ghost use lib.Dec.{leb};
-ghost use lib.ListN.{length, take, drop, replicate};
+ghost use lib.ListN.{length, getD, take, drop, replicate};
 ghost use Rattle.basics.specs.Logic.{_and_, same, all};
 ghost use Rattle.basics.specs.Digits.{digits, number};
 ghost use Rattle.tag.specs.Pattern.{isAbsorb, lengthOf, alternate};
@@ -28,6 +28,14 @@ pub fn length_of(word: u32) -> u32
     ensures { λ r. ⌜ r ≡ lengthOf word ⌝ }
 {
     word % ABSORB
+}
+
+// The word of a phase, and 0 behind the last.
+pub fn phase_word(words: &[u32], phase: u32) -> u32
+    ensures { λ r. ⌜ r ≡ getD (now (words .entry)) phase 0 ⌝ }
+{
+    let k = phase as usize;
+    if k < words.len() { words[k] } else { 0 }
 }
 
 // Whether both are ABSORB, or both SQUEEZE.

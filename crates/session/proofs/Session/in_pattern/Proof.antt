@@ -14,7 +14,7 @@ returns c = sym (after-last _ _ _ (search needs))
 returns-2 : tie.Need-returns-2
 unfolding phaseWord
 returns-2 c =
-    let kind = ap isAbsorb (c .before .before .word-at .ensures) in
+    let kind = ap isAbsorb (c .before .before .phase-word .ensures) in
     let other = kinds-differ _ _ (c .if2 .taken) in
     sym (wrong-kind _ _ _ (search needs) (λ e. other (c .before .is-absorb .ensures ∙ kind ∙ e)))
 
@@ -22,7 +22,7 @@ returns-3 : tie.Need-returns-3
 unfolding phaseWord
 returns-3 c =
     let at-kind = c .before .before .before in
-    let word = at-kind .before .before .word-at .ensures in
+    let word = at-kind .before .before .phase-word .ensures in
     let kind = sym (at-kind .before .is-absorb .ensures ∙ ap isAbsorb word) ∙ kinds-agree _ _ (at-kind .if2 .left) in
     let length = c .before .before .length-of .ensures ∙ ap lengthOf word in
     sym (past-end _ _ _ (search needs) kind (rw (sym length) (search needs)))
@@ -31,7 +31,7 @@ returns-4 : tie.Need-returns-4
 unfolding phaseWord
 returns-4 c =
     let at-kind = c .before .before .before .before in
-    let word = at-kind .before .before .word-at .ensures in
+    let word = at-kind .before .before .phase-word .ensures in
     let kind = sym (at-kind .before .is-absorb .ensures ∙ ap isAbsorb word) ∙ kinds-agree _ _ (at-kind .if2 .left) in
     let length = c .before .before .before .length-of .ensures ∙ ap lengthOf word in
     rw length (sym (in-length _ _ _ (search needs) kind (rw (sym length) (search needs))))

@@ -48,21 +48,6 @@ returns-3 c =
     let e3 = sym (at-is-reduced .is-reduced .ensures) ∙ not-true _ (c .if3 .taken) in
     sym (fails-3 self e1 e2 e3)
 
-permutations-at-requires : tie.Need-permutations-at-requires
-unfolding wordsSound placeSound
-permutations-at-requires c κs =
-    let self = c .before .before .before .before .before .before .before .before .before .before .before .before .args .self in
-    let long : length (self .words) ≡ 64 = search needs in
-    let at-if2 = c .before .before .before .before .before in
-    let at-place-sound = at-if2 .before in
-    let at-if1 = at-place-sound .before .before in
-    let at-words-sound = at-if1 .before in
-    let e1 = sym (at-words-sound .words-sound .ensures) ∙ not-false _ (at-if1 .if1 .left) in
-    let e2 = sym (at-place-sound .place-sound .ensures) ∙ not-false _ (at-if2 .if2 .left) in
-    let count = leb-true (self .count) (length (self .words)) (and-left _ _ e1) in
-    let phase = leb-true (self .phase) (self .count) (and-left _ _ e2) in
-    (long, omega arith)
-
 returns-4 : tie.Need-returns-4
 returns-4 c =
     let at-permutations-at = c .before .before in
@@ -94,7 +79,7 @@ positions-at-requires c κs =
     let count = leb-true (self .count) (length (self .words)) (and-left _ _ e1) in
     let phase = leb-true (self .phase) (self .count) (and-left _ _ e2) in
     let pattern = and-left _ _ (and-right _ _ e1) in
-    (long, λ later. word-long (self .words) (self .count) count pattern (self .phase - 1) (omega arith))
+    λ later. word-long (self .words) (self .count) count pattern (self .phase - 1) (omega arith)
 
 returns-5 : tie.Need-returns-5
 returns-5 c =
@@ -152,7 +137,7 @@ is-sound-spec =
     (λ c κs. search needs)
     returns-3
     (λ c. search needs)
-    permutations-at-requires
+    (λ c κs. search needs)
     returns-4
     (λ c. search needs)
     positions-at-requires

@@ -16,7 +16,7 @@ add-done c =
 
 returns : tie.Need-returns
 unfolding moved phaseAfter doneAfter phaseWord
-returns c = rw (c .pick2 .ensures, c .before .pick .ensures, c .before .before .length-of .ensures, c .before .before .before .word-at .ensures) (simp add-one)
+returns c = rw (c .pick2 .ensures, c .before .pick .ensures, c .before .before .length-of .ensures, c .before .before .before .phase-word .ensures) (simp add-one)
 
 pub move-on-spec : {M : Type 1} → statement M
 move-on-spec =

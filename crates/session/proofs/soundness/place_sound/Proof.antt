@@ -28,7 +28,7 @@ returns-3 c =
     let at-entry = c .before .before .before .before .before in
     let phase = at-entry .args .phase in
     let count = at-entry .args .count in
-    let length = c .length-of .ensures ∙ ap lengthOf (c .before .word-at .ensures) in
+    let length = c .length-of .ensures ∙ ap lengthOf (c .before .phase-word .ensures) in
     ap (ltb (at-entry .args .done)) length ∙ sym (and-step _ _ (le-leb phase count (omega arith)) ∙ if-true _ _ _ (lt-ltb phase count (search needs)))
 
 pub place-sound-spec : {M : Type 1} → statement M

@@ -13,7 +13,7 @@ returns : tie.Need-returns
 returns c =
     let at-entry = c .before .before .before .before in
     c .positions-after .ensures
-    ∙ ap (λ (w : ℕ). positionsAfter w (at-entry .args .done)) (c .before .word-at .ensures)
+    ∙ ap (λ (w : ℕ). positionsAfter w (at-entry .args .done)) (c .before .phase-word .ensures)
     ∙ sym (inside-phase _ _ _ (search needs))
 
 returns-2 : tie.Need-returns-2
@@ -21,12 +21,12 @@ returns-2 c = sym (at-start _ _ _ (search needs) (search needs))
 
 positions-after-requires-2 : tie.Need-positions-after-requires-2
 positions-after-requires-2 c κs =
-    let long = c .before .before .before .before .before .pre .1 (search needs) in
-    rw (c .length-of .ensures, c .before .word-at2 .ensures) long
+    let long = c .before .before .before .before .before .pre (search needs) in
+    rw (c .length-of .ensures, c .before .phase-word2 .ensures) long
 
 returns-3 : tie.Need-returns-3
 returns-3 c =
-    let word = c .before .before .word-at2 .ensures in
+    let word = c .before .before .phase-word2 .ensures in
     c .positions-after2 .ensures
     ∙ ap (positionsAfter _) (c .before .length-of .ensures)
     ∙ ap (λ (w : ℕ). positionsAfter w (lengthOf w)) word

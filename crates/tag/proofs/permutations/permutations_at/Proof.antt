@@ -1,16 +1,16 @@
--- `session::soundness::permutations_at` meets its contract.
+-- `tag::permutations::permutations_at` meets its contract.
 -- Assumes nothing.
 use mathlib.Core.Path.{_≡_, refl, ap, ap₂, _∙_}
 use Prim.Native.Nat.{ℕ, _+_, _-_, _≤_}
 use native.Mathlib.Numerals.{add-one}
 use native.Mathlib.Omega.{arith}
 use Rattle.basics.specs.Lists.{sum}
 use Rattle.tag.specs.Pattern.{lengthOf}
-use Rattle.session.specs.Soundness.{phasePermutations, permutationsAt}
-use Rattle.session.proofs.Counts.{wholePhase, phase-bound, sum-bound}
+use Rattle.tag.specs.Permutations.{phasePermutations, permutationsAt}
+use Rattle.tag.proofs.PermutationCounts.{wholePhase, phase-bound, sum-bound}
 use borrow.Author.Needs.{needs}
-use Rattle.session.proofs.soundness.permutations_at.Statement.{statement}
-use Rattle.session.proofs.soundness.permutations_at.Tie as tie
+use Rattle.tag.proofs.permutations.permutations_at.Statement.{statement}
+use Rattle.tag.proofs.permutations.permutations_at.Tie as tie
 
 abbrev Inv-loop : tie.InvT-loop
 Inv-loop words phase done permutations₀ k₀ permutations k = (k ≤ phase) × (permutations ≡ sum k (wholePhase words))
@@ -22,30 +22,24 @@ loop-holds : tie.Need-loop-holds Inv-loop μ-loop
 unfolding sum
 loop-holds c = (search needs, refl)
 
-word-at-requires : tie.Need-word-at-requires Inv-loop μ-loop
-word-at-requires c κs = c .before .before .before .pre .0
-
 add-permutations : tie.Need-add-permutations Inv-loop μ-loop
 add-permutations c =
     let at-loop = c .before .before .before .before in
     let at-entry = at-loop .before .before in
     let words = at-entry .args .words .now in
-    let word = c .before .before .word-at .ensures in
+    let word = c .before .before .phase-word .ensures in
     let bound = sum-bound words (at-loop .loop .k) in
     let phase = c .phase-permutations .ensures in
-    let few = phase-bound (c .before .before .word-at .result) (c .before .length-of .result) in
+    let few = phase-bound (c .before .before .phase-word .result) (c .before .length-of .result) in
     search needs
 
 loop-again : tie.Need-loop-again Inv-loop μ-loop
 unfolding sum
 loop-again c =
     let at-loop = c .before .before .before .before in
-    let word = c .before .before .word-at .ensures in
+    let word = c .before .before .phase-word .ensures in
     let phase = c .phase-permutations .ensures ∙ ap₂ phasePermutations word (c .before .length-of .ensures ∙ ap lengthOf word) in
     (search needs, rw add-one (ap₂ (λ (a b : ℕ). a + b) (at-loop .loop .inv .1) phase))
-
-word-at-requires-2 : tie.Need-word-at-requires-2 Inv-loop μ-loop
-word-at-requires-2 c κs = c .before .before .before .pre .0
 
 add-result : tie.Need-add-result Inv-loop μ-loop
 add-result c =
@@ -54,7 +48,7 @@ add-result c =
     let words = at-entry .args .words .now in
     let bound = sum-bound words (at-loop .loop .k) in
     let phase = c .phase-permutations2 .ensures in
-    let few = phase-bound (c .before .word-at2 .result) (at-entry .args .done) in
+    let few = phase-bound (c .before .phase-word2 .result) (at-entry .args .done) in
     search needs
 
 returns : tie.Need-returns Inv-loop μ-loop
@@ -64,7 +58,7 @@ returns c =
     let at-entry = at-loop .before .before in
     let all-phases : at-loop .loop .k ≡ at-entry .args .phase = omega arith in
     let before = at-loop .loop .inv .1 ∙ ap (λ (k : ℕ). sum k (wholePhase (at-entry .args .words .now))) all-phases in
-    let now = c .phase-permutations2 .ensures ∙ ap (λ (w : ℕ). phasePermutations w (at-entry .args .done)) (c .before .word-at2 .ensures) in
+    let now = c .phase-permutations2 .ensures ∙ ap (λ (w : ℕ). phasePermutations w (at-entry .args .done)) (c .before .phase-word2 .ensures) in
     ap₂ (λ (a b : ℕ). a + b) before now
 
 pub permutations-at-spec : {M : Type 1} → statement M
@@ -74,14 +68,14 @@ permutations-at-spec =
     Inv-loop
     μ-loop
     loop-holds
-    word-at-requires
+    (λ c κs. search needs)
     (λ c κs. search needs)
     (λ c κs. search needs)
     add-permutations
     (λ c. search needs)
     (λ c. search needs)
     loop-again
-    word-at-requires-2
+    (λ c κs. search needs)
     (λ c κs. search needs)
     add-result
     returns)
