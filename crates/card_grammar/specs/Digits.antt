@@ -1,0 +1,107 @@
+-- Digits: what is printed reads back, and a byte that reads as a digit was printed so. Proofs, which a reader of the statements may pass over.
+use mathlib.Core.Bool.{false}
+use mathlib.Core.List.{List, [], _∷_, _++_}
+use mathlib.Core.Path.{_≡_, refl, sym, ap, _∙_}
+use Prim.Native.Nat.{ℕ, zero, suc, _+_, _-_, _*_, _/_, _%_, _<_, _≤_}
+use native.Mathlib.Omega.{arith}
+use lib.Dec.{ltb, leb}
+use borrow.Author.Tests.{lt-ltb, le-ltb, ltb-true, ltb-false, le-leb, lt-leb, leb-true}
+use Rattle.basics.specs.Logic.{if_then_else_}
+use Rattle.basics.proofs.Cases.{cases}
+use Rattle.card_grammar.specs.Text.{hexDigit, decimalUpTo, decimal}
+use Rattle.card_grammar.specs.Machine.{hexValue, decimalValue}
+
+pub hex-printed : (d : ℕ) → d < 16 → hexValue (hexDigit d) ≡ d
+unfolding hexValue hexDigit if_then_else_
+hex-printed d h =
+    cases (ltb d 10)
+    (λ e. let small : d < 10 = ltb-true d 10 e in
+    let back : d ≡ d + 48 - 48 = omega arith in
+    simp (e, le-ltb (d + 48) 48 (omega arith), le-leb (d + 48) 57 (omega arith)) (sym back))
+    (λ e. let large : 10 ≤ d = ltb-false d 10 e in
+    let back : d ≡ d + 87 - 97 + 10 = omega arith in
+    let above : leb (d + 87) 57 ≡ false = lt-leb (d + 87) 57 (omega arith) in
+    simp (e, le-ltb (d + 87) 48 (omega arith), above, le-ltb (d + 87) 97 (omega arith), le-leb (d + 87) 102 (omega arith)) (sym back))
+
+pub hex-read : (b : ℕ) → hexValue b < 16 → b ≡ hexDigit (hexValue b)
+unfolding hexValue hexDigit if_then_else_
+hex-read b h =
+    cases (ltb b 48)
+    (λ e₁. absurd (let k : 16 < 16 = simp e₁ at h in omega arith))
+    (λ e₁. cases (leb b 57)
+    (λ e₂. let low : 48 ≤ b = ltb-false b 48 e₁ in
+    let high : b ≤ 57 = leb-true b 57 e₂ in
+    simp (e₁, e₂, lt-ltb (b - 48) 10 (omega arith)) (omega arith))
+    (λ e₂. cases (ltb b 97)
+    (λ e₃. absurd (let k : 16 < 16 = simp (e₁, e₂, e₃) at h in omega arith))
+    (λ e₃. cases (leb b 102)
+    (λ e₄. let low : 97 ≤ b = ltb-false b 97 e₃ in
+    let high : b ≤ 102 = leb-true b 102 e₄ in
+    simp (e₁, e₂, e₃, e₄, le-ltb (b - 97 + 10) 10 (omega arith)) (omega arith))
+    (λ e₄. absurd (let k : 16 < 16 = simp (e₁, e₂, e₃, e₄) at h in omega arith)))))
+
+-- a hexadecimal digit is not the closing bracket
+pub hex-no-bracket : (d : ℕ) → d < 16 → hexDigit d ≡ 41 → ⊥
+unfolding hexDigit if_then_else_
+hex-no-bracket d h e =
+    cases (ltb d 10)
+    (λ t. let k : d + 48 ≡ 41 = simp t at e in omega arith)
+    (λ t. let k : d + 87 ≡ 41 = simp t at e in omega arith)
+
+pub decimal-printed : (d : ℕ) → d < 10 → decimalValue (d + 48) ≡ d
+unfolding decimalValue if_then_else_
+decimal-printed d h =
+    let back : d ≡ d + 48 - 48 = omega arith in
+    simp (le-ltb (d + 48) 48 (omega arith), le-leb (d + 48) 57 (omega arith)) (sym back)
+
+pub decimal-read : (b : ℕ) → decimalValue b < 10 → b ≡ decimalValue b + 48
+unfolding decimalValue if_then_else_
+decimal-read b h =
+    cases (ltb b 48)
+    (λ e₁. absurd (let k : 10 < 10 = simp e₁ at h in omega arith))
+    (λ e₁. cases (leb b 57)
+    (λ e₂. let low : 48 ≤ b = ltb-false b 48 e₁ in
+    simp (e₁, e₂) (omega arith))
+    (λ e₂. absurd (let k : 10 < 10 = simp (e₁, e₂) at h in omega arith)))
+
+up-to-small : (k n : ℕ) → n < 10 → decimalUpTo k n ≡ (n + 48) ∷ []
+unfolding decimalUpTo
+up-to-small zero n h = refl
+up-to-small (suc k) n h = rw (lt-ltb n 10 h, decimalUpTo)
+
+up-to-more : (k n : ℕ) → 10 ≤ n → decimalUpTo (suc k) n ≡ decimalUpTo k (n / 10) ++ ((n % 10 + 48) ∷ [])
+unfolding decimalUpTo
+up-to-more k n h = rw (le-ltb n 10 h, decimalUpTo)
+
+-- any bound that is large enough gives the same digits
+up-to-any : (k j n : ℕ) → n ≤ k → n ≤ j → decimalUpTo k n ≡ decimalUpTo j n
+up-to-any zero j n p q = up-to-small zero n (omega arith) ∙ sym (up-to-small j n (omega arith))
+up-to-any (suc k) zero n p q = up-to-small (suc k) n (omega arith) ∙ sym (up-to-small zero n (omega arith))
+up-to-any (suc k) (suc j) n p q =
+    cases (ltb n 10)
+    (λ e. let small : n < 10 = ltb-true n 10 e in up-to-small (suc k) n small ∙ sym (up-to-small (suc j) n small))
+    (λ e. let large : 10 ≤ n = ltb-false n 10 e in
+    up-to-more k n large
+    ∙ ap (λ (digits : List ℕ). digits ++ ((n % 10 + 48) ∷ [])) (up-to-any k j (n / 10) (omega arith) (omega arith))
+    ∙ sym (up-to-more j n large))
+
+pub decimal-small : (n : ℕ) → n < 10 → decimal n ≡ (n + 48) ∷ []
+unfolding decimal
+decimal-small n h = up-to-small n n h
+
+pub decimal-more : (n : ℕ) → 10 ≤ n → decimal n ≡ decimal (n / 10) ++ ((n % 10 + 48) ∷ [])
+unfolding decimal
+decimal-more n h =
+    let less : n ≡ suc (n - 1) = omega arith in
+    ap (λ (k : ℕ). decimalUpTo k n) less
+    ∙ up-to-more (n - 1) n h
+    ∙ ap (λ (digits : List ℕ). digits ++ ((n % 10 + 48) ∷ [])) (up-to-any (n - 1) (n / 10) (n / 10) (omega arith) (omega arith))
+
+-- a number with one digit more
+pub decimal-push : (v d : ℕ) → 0 < v → d < 10 → decimal (v * 10 + d) ≡ decimal v ++ ((d + 48) ∷ [])
+decimal-push v d p q =
+    let quotient : (v * 10 + d) / 10 ≡ v = omega arith in
+    let remainder : (v * 10 + d) % 10 ≡ d = omega arith in
+    decimal-more (v * 10 + d) (omega arith)
+    ∙ ap (λ (x : ℕ). decimal x ++ (((v * 10 + d) % 10 + 48) ∷ [])) quotient
+    ∙ ap (λ (x : ℕ). decimal v ++ ((x + 48) ∷ [])) remainder
