@@ -1,24 +1,27 @@
 -- Cards as text, in ASCII. From document 01, "Cards".
 use mathlib.Core.Bool.{true, false}
 use mathlib.Core.List.{List, [], _∷_, _++_}
+use Prim.Native.Char.{code}
+use Prim.Native.String.{String}
 use Prim.Native.Nat.{ℕ, zero, suc, _+_, _/_, _%_}
 use lib.Dec.{ltb}
 use Rattle.basics.specs.Logic.{if_then_else_}
 use Rattle.tag.specs.Pattern.{isAbsorb, lengthOf}
 
--- "(card (domain"
+-- a text's bytes
+abbrev pub ascii : String → List ℕ
+ascii text = elim text [ String.[] ↦ [] | String._∷_ c (rest → bytes) ↦ code c ∷ bytes ]
+
 abbrev pub headText : List ℕ
-headText = 40 ∷ 99 ∷ 97 ∷ 114 ∷ 100 ∷ 32 ∷ 40 ∷ 100 ∷ 111 ∷ 109 ∷ 97 ∷ 105 ∷ 110 ∷ []
+headText = ascii "(card (domain"
 
--- ") (calls"
 abbrev pub middleText : List ℕ
-middleText = 41 ∷ 32 ∷ 40 ∷ 99 ∷ 97 ∷ 108 ∷ 108 ∷ 115 ∷ []
+middleText = ascii ") (calls"
 
--- "))"
 abbrev pub endText : List ℕ
-endText = 41 ∷ 41 ∷ []
+endText = ascii "))"
 
--- a digit, "lower-case": 0 to 9 are 48 to 57, a to f are 97 to 102
+-- a digit, "lower-case": 0 to 9 are the bytes 48 to 57, a to f the bytes 97 to 102
 unfoldable pub hexDigit : ℕ → ℕ
 hexDigit d = if ltb d 10 then d + 48 else d + 87
 
@@ -30,7 +33,7 @@ hex (b ∷ bs) = hexDigit (b / 16) ∷ hexDigit (b % 16) ∷ hex bs
 -- "separator in lower-case hexadecimal pairs, (domain) if empty": what follows "(domain"
 unfoldable pub separatorText : List ℕ → List ℕ
 separatorText [] = []
-separatorText (b ∷ bs) = 32 ∷ hex (b ∷ bs)
+separatorText (b ∷ bs) = ascii " " ++ hex (b ∷ bs)
 
 -- "decimal", "no leading zero but 0 itself": the digits of n, of which there are at most k + 1
 unfoldable pub decimalUpTo : ℕ → ℕ → List ℕ
@@ -42,7 +45,7 @@ decimal n = decimalUpTo n n
 
 -- a call: " (a 3)" for ABSORB of 3 elements, " (s 3)" for SQUEEZE
 unfoldable pub callText : ℕ → List ℕ
-callText w = 32 ∷ 40 ∷ (if isAbsorb w then 97 else 115) ∷ 32 ∷ (decimal (lengthOf w) ++ (41 ∷ []))
+callText w = ascii " (" ++ ((if isAbsorb w then code "a" else code "s") ∷ (ascii " " ++ (decimal (lengthOf w) ++ ascii ")")))
 
 unfoldable pub callsText : List ℕ → List ℕ
 callsText [] = []

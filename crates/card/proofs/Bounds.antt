@@ -1,0 +1,119 @@
+-- How long an answer and its parts are.
+-- Assumes nothing.
+use mathlib.Core.Path.{_≡_, refl, ap, _∙_}
+use mathlib.Core.List.{List, [], _∷_, _++_}
+use Prim.Native.Nat.{ℕ, zero, suc, _+_, _*_, _/_, _%_, _^_, _≤_, _<_}
+use native.Mathlib.Nat.{pow-suc, div-lt-iff-lt-mul}
+use native.Mathlib.Omega.{arith}
+use borrow.Author.Tests.{ltb-true, ltb-false, eqb-true}
+use lib.Dec.{ltb}
+use lib.ListN.{length, getD, length-append}
+use Rattle.basics.specs.Numbers.{accepted, notCard}
+use Rattle.basics.proofs.Cases.{by, cases}
+use Rattle.tag.specs.Pattern.{mergedWords}
+use Rattle.tag.specs.Start.{startNumber}
+use Rattle.tag.specs.TagString.{tagString}
+use Rattle.tag.specs.Permutations.{permutationsAt}
+use Rattle.tag.proofs.StartCheck.{rows, few-words}
+use Rattle.tag.proofs.Writing.{length-tag-string}
+use Rattle.tag.proofs.PermutationCounts.{phase-bound, sum-bound}
+use Rattle.card_grammar.specs.Text.{hex, decimal}
+use Rattle.card_grammar.specs.Grammar.{Reading, card, none}
+use Rattle.card_grammar.specs.Card.{cardOf}
+use Rattle.card_grammar.specs.Digits.{decimal-small, decimal-more}
+use Rattle.card.specs.Answer.{fullPermutations, okText, noText, cardAnswer, answer}
+use Rattle.card.proofs.Laws.{answer-card, answer-none}
+
+-- ---- numerals
+
+pub length-hex : (bytes : List ℕ) → length (hex bytes) ≡ 2 * length bytes
+unfolding hex
+length-hex [] = refl
+length-hex (b ∷ bs) = omega (arith, length-hex bs)
+
+pub length-decimal-small : (n : ℕ) → n < 10 → length (decimal n) ≡ 1
+length-decimal-small n h = ap length (decimal-small n h)
+
+pub length-decimal-more : (n : ℕ) → 10 ≤ n → length (decimal n) ≡ length (decimal (n / 10)) + 1
+length-decimal-more n h = ap length (decimal-more n h) ∙ length-append (decimal (n / 10)) ((n % 10 + 48) ∷ [])
+
+-- a number below 10 ^ k has at most k digits, where k is at least 1
+pub few-digits : (k n : ℕ) → n < 10 ^ suc k → length (decimal n) ≤ suc k
+few-digits zero n h = let one = length-decimal-small n h in omega arith
+few-digits (suc k) n h =
+    cases (ltb n 10)
+    (λ e. let one = length-decimal-small n (ltb-true n 10 e) in omega arith)
+    λ e.
+    let large = ltb-false n 10 e in
+    let q : n / 10 < 10 ^ suc k = div-lt-iff-lt-mul {k = 10} (omega arith) .1 (rw (pow-suc 10 (suc k)) at h) in
+    let one-more = length-decimal-more n large in
+    omega (arith, few-digits k (n / 10) q)
+
+pub number-digits : (n : ℕ) → n ≤ 14 → length (decimal n) ≤ 2
+number-digits n h = few-digits 1 n (omega arith)
+
+pub count-digits : (n : ℕ) → n ≤ 99999999999 → length (decimal n) ≤ 11
+count-digits n h = few-digits 10 n (omega arith)
+
+-- ---- an accepted pattern
+
+module _ (ws separator : List ℕ) (e : startNumber ws separator ≡ accepted) where
+  pub tag-string-short : length (tagString ws separator) ≤ 512
+  tag-string-short =
+      let few = few-words ws separator e in
+      let short = ltb-false 256 (length separator) (rows ws separator e .e6) in
+      omega (arith, length-tag-string ws separator)
+
+  pub few-permutations : fullPermutations ws ≤ 99999999999
+  unfolding fullPermutations permutationsAt
+  few-permutations =
+      let few = few-words ws separator e in
+      let count = length (mergedWords ws) in
+      let before = sum-bound (mergedWords ws) count in
+      let behind = phase-bound (getD (mergedWords ws) count 0) 0 in
+      omega arith
+
+pub small-number : (ws separator : List ℕ) → startNumber ws separator ≤ 14
+unfolding startNumber
+small-number ws separator =
+    by (λ (n : ℕ). n ≤ 14) _ _ _ (λ _. omega arith) λ _.
+    by (λ (n : ℕ). n ≤ 14) _ _ _ (λ _. omega arith) λ _.
+    by (λ (n : ℕ). n ≤ 14) _ _ _ (λ _. omega arith) λ _.
+    by (λ (n : ℕ). n ≤ 14) _ _ _ (λ _. omega arith) λ _.
+    by (λ (n : ℕ). n ≤ 14) _ _ _ (λ _. omega arith) λ _.
+    by (λ (n : ℕ). n ≤ 14) _ _ _ (λ _. omega arith) λ _. omega arith
+
+-- ---- answers
+
+pub length-ok : (string : List ℕ) (permutations : ℕ)
+    → length (okText string permutations) ≡ 4 + 2 * length string + 1 + length (decimal permutations) + 1
+unfolding okText
+length-ok string permutations =
+    let rest = decimal permutations ++ (41 ∷ []) in
+    omega (arith, length-append (hex string) (32 ∷ rest), length-append (decimal permutations) (41 ∷ []), length-hex string)
+
+pub length-no : (number : ℕ) → length (noText number) ≡ 4 + length (decimal number) + 1
+unfolding noText
+length-no number = omega (arith, length-append (decimal number) (41 ∷ []))
+
+no-short : (number : ℕ) → number ≤ 14 → length (noText number) ≤ 1041
+no-short number h = omega (arith, length-no number, number-digits number h)
+
+card-answer-short : (ws separator : List ℕ) → length (cardAnswer ws separator) ≤ 1041
+unfolding cardAnswer
+card-answer-short ws separator =
+    by (λ (text : List ℕ). length text ≤ 1041) _ _ _
+    (λ t.
+    let e = eqb-true (startNumber ws separator) accepted t in
+    let string = tag-string-short ws separator e in
+    let digits = count-digits (fullPermutations ws) (few-permutations ws separator e) in
+    omega (arith, length-ok (tagString ws separator) (fullPermutations ws)))
+    λ _. no-short (startNumber ws separator) (small-number ws separator)
+
+-- every answer, without its newline
+pub answer-short : (line : List ℕ) → length (answer line) ≤ 1041
+answer-short line = short (cardOf line) refl
+  where
+    short : (r : Reading) → cardOf line ≡ r → length (answer line) ≤ 1041
+    short (card separator ws) e = rw (answer-card line separator ws e) (card-answer-short ws separator)
+    short none e = rw (answer-none line e) (no-short notCard (omega arith))

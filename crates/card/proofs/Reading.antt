@@ -1,0 +1,78 @@
+-- From the record c that reading a line gives to the line's answer.
+-- Assumes nothing.
+use mathlib.Core.Path.{_≡_, refl, sym, ap, ap₂, subst, _∙_}
+use mathlib.Core.Bool.{true, false, true≢false}
+use mathlib.Core.List.{List, []}
+use Prim.Native.Nat.{ℕ, _-_, _≤_, _<_}
+use native.Mathlib.Omega.{arith}
+use borrow.Author.Tests.{le-leb, lt-leb}
+use lib.ListN.{length, take, replicate, length-append}
+use lib.Seq.{take-append-seam}
+use Rattle.basics.specs.Numbers.{notCard}
+use Rattle.basics.proofs.Cases.{if-true, if-false}
+use Rattle.card_grammar.specs.Grammar.{Reading, card, none}
+use Rattle.card_grammar.specs.Card.{cardOf, places, reading}
+use Rattle.card_grammar.specs.declared.Card.{Card}
+use Rattle.card.specs.Answer.{noText, cardAnswer, answer, hasRoom, answerInto}
+use Rattle.card.proofs.Cut.{cut-answer}
+use Rattle.card.proofs.Laws.{answer-card, answer-none}
+
+-- a record holds a card, each list cut to its places
+pub record Holds (r : Reading) (c : Card) : Type 0 where
+  pub separator : List ℕ
+  pub words : List ℕ
+  pub is : r ≡ card separator words
+  pub separator-inside : c .«separator_length» ≤ length (c .separator)
+  pub words-inside : c .«word_count» ≤ length (c .words)
+  pub separator-used : take (c .«separator_length») (c .separator) ≡ take 257 separator
+  pub words-used : take (c .«word_count») (c .words) ≡ take 65 words
+
+places-inside : (n : ℕ) (xs : List ℕ) → length (take n xs) ≤ length (places n xs)
+unfolding places
+places-inside n xs = omega (arith, length-append (take n xs) (replicate (n - length xs) 0))
+
+places-used : (n : ℕ) (xs : List ℕ) → take (length (take n xs)) (places n xs) ≡ take n xs
+unfolding places
+places-used n xs = take-append-seam (take n xs) (replicate (n - length xs) 0)
+
+reading-holds : (r : Reading) → reading r .«is_card» ≡ true → Holds r (reading r)
+unfolding reading
+reading-holds (card s ws) t =
+    record {
+      separator = s;
+      words = ws;
+      is = refl;
+      separator-inside = places-inside 257 s;
+      words-inside = places-inside 65 ws;
+      separator-used = places-used 257 s;
+      words-used = places-used 65 ws;
+    }
+reading-holds none t = absurd (true≢false (sym t))
+
+reading-none : (r : Reading) → reading r .«is_card» ≡ false → r ≡ none
+unfolding reading
+reading-none (card s ws) t = absurd (true≢false t)
+reading-none none t = refl
+
+module _ (line : List ℕ) (c : Card) (e : c ≡ reading (cardOf line)) where
+  pub holds : c .«is_card» ≡ true → Holds (cardOf line) c
+  holds t = subst (Holds (cardOf line)) (sym e) (reading-holds (cardOf line) (sym (ap (λ (d : Card). d .«is_card») e) ∙ t))
+
+  pub answers-none : c .«is_card» ≡ false → answer line ≡ noText notCard
+  answers-none t = answer-none line (reading-none (cardOf line) (sym (ap (λ (d : Card). d .«is_card») e) ∙ t))
+
+  pub answers-card : c .«is_card» ≡ true → answer line ≡ cardAnswer (take (c .«word_count») (c .words)) (take (c .«separator_length») (c .separator))
+  answers-card t =
+      let h = holds t in
+      answer-card line (h .separator) (h .words) (h .is)
+      ∙ sym (cut-answer (h .words) (h .separator))
+      ∙ sym (ap₂ cardAnswer (h .words-used) (h .separator-used))
+
+-- what is written to a buffer
+pub into-room : (line buffer : List ℕ) → 1042 ≤ length buffer → answerInto line buffer ≡ answer line
+unfolding answerInto hasRoom
+into-room line buffer h = if-true _ _ _ (le-leb 1042 (length buffer) h)
+
+pub into-short : (line buffer : List ℕ) → length buffer < 1042 → answerInto line buffer ≡ []
+unfolding answerInto hasRoom
+into-short line buffer h = if-false _ _ _ (lt-leb 1042 (length buffer) h)

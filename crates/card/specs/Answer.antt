@@ -1,0 +1,58 @@
+-- The answer to a line. From document 01, "Cards".
+use mathlib.Core.Bool.{Bool}
+use mathlib.Core.List.{List, [], _++_}
+use Prim.Native.Nat.{ℕ, _+_}
+use lib.Dec.{leb, eqb}
+use lib.ListN.{length, take, drop}
+use Rattle.basics.specs.Logic.{if_then_else_}
+use Rattle.basics.specs.Numbers.{accepted, notCard}
+use Rattle.tag.specs.Pattern.{mergedWords}
+use Rattle.tag.specs.Start.{startNumber}
+use Rattle.tag.specs.TagString.{tagString}
+use Rattle.tag.specs.Permutations.{permutationsAt}
+use Rattle.card_grammar.specs.Text.{ascii, hex, decimal}
+use Rattle.card_grammar.specs.Grammar.{Reading, card, none}
+use Rattle.card_grammar.specs.Card.{cardOf}
+
+-- "permutations of a full session": behind the last phase of the merged pattern
+unfoldable pub fullPermutations : List ℕ → ℕ
+fullPermutations ws = permutationsAt (mergedWords ws) (length (mergedWords ws)) 0
+
+-- "in brackets, ok, tag string in lower-case hexadecimal, permutations of a full session": "(ok 80000006000000034142 1)"
+unfoldable pub okText : List ℕ → ℕ → List ℕ
+okText string permutations = ascii "(ok " ++ (hex string ++ (ascii " " ++ (decimal permutations ++ ascii ")")))
+
+-- "or no and the number": "(no 3)"
+unfoldable pub noText : ℕ → List ℕ
+noText number = ascii "(no " ++ (decimal number ++ ascii ")")
+
+-- the answer to a card: START's numbers 1 to 6
+unfoldable pub cardAnswer : List ℕ → List ℕ → List ℕ
+cardAnswer ws separator =
+    if eqb (startNumber ws separator) accepted then okText (tagString ws separator) (fullPermutations ws)
+    else noText (startNumber ws separator)
+
+-- "14 before 1 to 6"
+unfoldable pub readingAnswer : Reading → List ℕ
+readingAnswer (card separator ws) = cardAnswer ws separator
+readingAnswer none = noText notCard
+
+-- the answer to a line
+unfoldable pub answer : List ℕ → List ℕ
+answer line = readingAnswer (cardOf line)
+
+-- a buffer has room for any answer with its newline: "(ok ", 1,024 digits, a space, 11 digits, a bracket, the newline
+unfoldable pub hasRoom : List ℕ → Bool
+hasRoom buffer = leb 1042 (length buffer)
+
+-- what is written to a buffer: the answer, or nothing if the buffer is too short
+unfoldable pub answerInto : List ℕ → List ℕ → List ℕ
+answerInto line buffer = if hasRoom buffer then answer line else []
+
+-- a buffer with a text at its start, and the rest as it was
+unfoldable pub beginning : List ℕ → List ℕ → List ℕ
+beginning text buffer = text ++ drop (length text) buffer
+
+-- a buffer with a text from a place on, and the rest as it was
+unfoldable pub placed : List ℕ → ℕ → List ℕ → List ℕ
+placed buffer at text = take at buffer ++ text ++ drop (at + length text) buffer

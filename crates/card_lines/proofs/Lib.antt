@@ -1,0 +1,6 @@
+pub mod OutputLines
+pub mod Pieces
+pub mod HeldLine
+pub mod FeedCases
+pub mod Progress
+pub mod Cutting

@@ -1,0 +1,121 @@
+-- Cards. `answer` and `fed` are those that the contracts of `card` and `card_lines` cite; `output` is what document 01 has the card program
+-- print for a whole input.
+use mathlib.Core.Path.{_≡_, refl, sym, ap, ap₂, _∙_}
+use mathlib.Core.Bool.{true}
+use mathlib.Core.List.{List, [], _∷_, _++_}
+use Prim.Native.Nat.{ℕ, _<_}
+use lib.Dec.{lit<, lit≤}
+use lib.ListN.{length, take}
+use Rattle.basics.specs.Logic.{if_then_else_, _or_, same, any}
+use Rattle.basics.specs.Digits.{digits}
+use Rattle.basics.specs.Lists.{sum}
+use Rattle.basics.specs.Numbers.{notCard}
+use Rattle.tag.specs.Pattern.{isAbsorb, lengthOf, phaseOf, wordOf, join, merge, phases, mergedWords}
+use Rattle.tag.specs.Start.{tooLong, startNumber}
+use Rattle.tag.specs.TagString.{wordBytes, tagString}
+use Rattle.tag.specs.Permutations.{blockCount, phasePermutations, permutationsAt}
+use Rattle.card_grammar.specs.Text.{ascii, hexDigit, hex, separatorText, decimalUpTo, decimal, callText, callsText, cardText}
+use Rattle.card_grammar.specs.Grammar.{Below, CardOf, card, none, NoCard}
+use Rattle.card_grammar.specs.Card.{cardOf}
+use Rattle.card_grammar.proofs.Laws as grammar
+use Rattle.card.specs.Answer.{fullPermutations, okText, noText, cardAnswer, answer, hasRoom}
+use Rattle.card.proofs.Laws.{answer-card, answer-none}
+use Rattle.card_lines.specs.Lines.{newline, before, lines, answers, output}
+use Rattle.card_lines.specs.Stream.{takes}
+use Rattle.card_lines.specs.Calls.{Call, taken, written}
+use Rattle.card_lines.proofs.Progress.{takes-some, takes-first}
+use Rattle.card_lines.proofs.Cutting.{written-output, start-holds}
+use Rattle.runs.specs.Runs.{Run, permutationsOf}
+use Rattle.claims.specs.Sessions.{count-of-session}
+
+-- A line is read as a card exactly if it is the text of a separator and words, byte for byte; and as no card exactly if it is not.
+pub cards-are-their-text : (line separator ws : List ℕ)
+    → (CardOf line separator ws → cardOf line ≡ card separator ws) × (cardOf line ≡ card separator ws → CardOf line separator ws)
+cards-are-their-text line separator ws = (grammar.card-of line separator ws, grammar.of-card line separator ws)
+
+pub other-lines-are-no-card : (line : List ℕ) → (NoCard line → cardOf line ≡ none) × (cardOf line ≡ none → NoCard line)
+other-lines-are-no-card line = (grammar.none-of line, grammar.of-none line)
+
+-- No two cards have the same text.
+pub cards-are-unambiguous : (s w s′ w′ : List ℕ) → Below 256 s → Below 4294967296 w → Below 256 s′ → Below 4294967296 w′
+    → cardText s w ≡ cardText s′ w′ → (s ≡ s′) × (w ≡ w′)
+cards-are-unambiguous = grammar.unambiguous
+
+-- The answer to a card is by START's numbers; "14 before 1 to 6": what is no card gets 14, whatever else is wrong with it.
+pub answer-to-card : (line separator ws : List ℕ) → CardOf line separator ws → answer line ≡ cardAnswer ws separator
+answer-to-card line separator ws c = answer-card line separator ws (grammar.card-of line separator ws c)
+
+pub answer-to-no-card : (line : List ℕ) → NoCard line → answer line ≡ noText notCard
+answer-to-no-card line n = answer-none line (grammar.none-of line n)
+
+-- "permutations of a full session": the count on a card is that of every finished session of its words.
+pub count-on-card : (a : Run) → permutationsOf a ≡ fullPermutations (a .words)
+unfolding fullPermutations
+count-on-card a = count-of-session a
+
+-- However an input is cut: calls of `feed` in turn, each with any piece and any output, and then `end`, with an output that has room, write
+-- the output of what the calls took. `line` is the 2,049 places for the line in progress, which may hold anything at the start.
+pub output-however-cut : (line : List ℕ) (cs : List Call) (last : List ℕ) → length line ≡ 2049 → hasRoom last ≡ true
+    → written (record { line = line; held = 0 }) cs last ≡ output (taken cs)
+output-however-cut line cs last long room = written-output cs (record { line = line; held = 0 }) [] last (start-holds line long) room
+
+-- So two ways of cutting the same input give the same output.
+pub two-ways-of-cutting : (line line′ : List ℕ) (cs cs′ : List Call) (last last′ : List ℕ) → length line ≡ 2049 → length line′ ≡ 2049
+    → hasRoom last ≡ true → hasRoom last′ ≡ true → taken cs ≡ taken cs′
+    → written (record { line = line; held = 0 }) cs last ≡ written (record { line = line′; held = 0 }) cs′ last′
+two-ways-of-cutting line line′ cs cs′ last last′ l l′ r r′ e =
+    output-however-cut line cs last l r ∙ ap output e ∙ sym (output-however-cut line′ cs′ last′ l′ r′)
+
+-- What a call takes are the first bytes of its piece; and at least one, if there is one and the output has room. So a caller that goes on
+-- with the rest has all of its input taken.
+pub taken-from-the-front : (piece room : List ℕ) → takes piece room ≡ take (length (takes piece room)) piece
+taken-from-the-front = takes-first
+
+pub something-is-taken : (piece room : List ℕ) → hasRoom room ≡ true → 0 < length piece → 0 < length (takes piece room)
+something-is-taken = takes-some
+
+-- document 01's three lines
+line1 : List ℕ
+line1 = ascii "(card (domain 4142) (calls (a 3) (a 3) (s 3)))"
+
+line2 : List ℕ
+line2 = ascii "(card (domain) (calls (s 1)))"
+
+line3 : List ℕ
+line3 = ascii "(card (domain) (calls (a 0)))"
+
+card1 : CardOf line1 (0x41 ∷ 0x42 ∷ []) (0x80000003 ∷ 0x80000003 ∷ 3 ∷ [])
+unfolding line1 Below hexDigit hex separatorText decimalUpTo decimal callText callsText cardText isAbsorb lengthOf if_then_else_
+card1 = record { short = lit≤ tt; bytes = (lit< tt, (lit< tt, tt)); words = (lit< tt, (lit< tt, (lit< tt, tt))); text = refl }
+
+card2 : CardOf line2 [] (1 ∷ [])
+unfolding line2 Below hexDigit hex separatorText decimalUpTo decimal callText callsText cardText isAbsorb lengthOf if_then_else_
+card2 = record { short = lit≤ tt; bytes = tt; words = (lit< tt, tt); text = refl }
+
+card3 : CardOf line3 [] (0x80000000 ∷ [])
+unfolding line3 Below hexDigit hex separatorText decimalUpTo decimal callText callsText cardText isAbsorb lengthOf if_then_else_
+card3 = record { short = lit≤ tt; bytes = tt; words = (lit< tt, tt); text = refl }
+
+answer1 : answer line1 ≡ ascii "(ok 80000006000000034142 1)"
+unfolding cardAnswer okText startNumber tagString wordBytes digits mergedWords phases merge join phaseOf wordOf isAbsorb lengthOf tooLong fullPermutations permutationsAt phasePermutations blockCount sum hexDigit hex decimalUpTo decimal if_then_else_ _or_ same any
+answer1 = answer-to-card _ _ _ card1 ∙ refl
+
+answer2 : answer line2 ≡ ascii "(no 3)"
+unfolding cardAnswer noText startNumber isAbsorb lengthOf decimalUpTo decimal if_then_else_ _or_ any
+answer2 = answer-to-card _ _ _ card2 ∙ refl
+
+answer3 : answer line3 ≡ ascii "(no 2)"
+unfolding cardAnswer noText startNumber isAbsorb lengthOf decimalUpTo decimal if_then_else_ _or_ any
+answer3 = answer-to-card _ _ _ card3 ∙ refl
+
+three-lines : (a b c : List ℕ) → answer line1 ≡ a → answer line2 ≡ b → answer line3 ≡ c
+    → answers (line1 ∷ line2 ∷ line3 ∷ []) ≡ a ++ (newline ∷ (b ++ (newline ∷ (c ++ (newline ∷ [])))))
+unfolding answers
+three-lines a b c e f g =
+    ap₂ (λ (x y : List ℕ). x ++ (newline ∷ y)) e (ap₂ (λ (x y : List ℕ). x ++ (newline ∷ y)) f (ap (λ (x : List ℕ). x ++ (newline ∷ [])) g))
+
+-- "Whole input and output"
+pub whole-example : output (ascii "(card (domain 4142) (calls (a 3) (a 3) (s 3)))\n(card (domain) (calls (s 1)))\n(card (domain) (calls (a 0)))\n")
+    ≡ ascii "(ok 80000006000000034142 1)\n(no 3)\n(no 2)\n"
+unfolding output lines before line1 line2 line3 if_then_else_
+whole-example = three-lines _ _ _ answer1 answer2 answer3

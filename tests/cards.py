@@ -1,0 +1,255 @@
+#!/usr/bin/env python3
+"""What the program cards is run on, what it must print, and a test on random lines.
+
+  tests/cards.py book > crates/cards/stdin
+  safe_oracle.py cards < crates/cards/stdin > crates/cards/stdout
+  tests/cards.py fuzz target/bin/cards [SEED [LINES]]
+  tests/cards.py compare target/bin/cards safe_oracle.py
+
+The stored answers are those of another implementation: safe_oracle.py, in Python, written from document 01 by other hands. `fuzz` needs
+no other file: it has document 01's rule once more, as `answer` below, and compares the program with it on mutated cards, which it sends
+through a pipe in pieces of random size. `compare` gives the same lines to the program and to safe_oracle.py.
+"""
+import random
+import re
+import subprocess
+import sys
+import threading
+
+ABSORB = 1 << 31
+LONGEST = ABSORB - 1
+
+
+# ---- document 01's rule
+
+CARD = re.compile(rb"\(card \(domain(?: ((?:[0-9a-f]{2})+))?\) \(calls((?: \([as] (?:0|[1-9][0-9]*)\))*)\)\)", re.DOTALL)
+
+
+def start_number(calls, separator):
+    """1 to 6 in number order, with the merged lengths; a call is its letter and its length."""
+    merged = []
+    for kind, length in calls:
+        if merged and merged[-1][0] == kind:
+            merged[-1] = (kind, merged[-1][1] + length)
+        else:
+            merged.append((kind, length))
+    rows = [
+        not 1 <= len(calls) <= 64,
+        any(length == 0 for _, length in calls),
+        calls[:1] and calls[0][0] == b"s",
+        calls[-1:] and calls[-1][0] == b"a",
+        any(length > LONGEST for _, length in merged),
+        len(separator) > 256,
+    ]
+    return next((number for number, row in enumerate(rows, 1) if row), 0), merged
+
+
+def answer(line):
+    card = CARD.fullmatch(line)
+    if len(line) > 2048 or not card:
+        return b"(no 14)"
+    calls = [(kind, int(length)) for kind, length in re.findall(rb"\(([as]) ([0-9]+)\)", card[2])]
+    if any(length > LONGEST for _, length in calls):
+        return b"(no 14)"
+    separator = bytes.fromhex((card[1] or b"").decode())
+    number, merged = start_number(calls, separator)
+    if number:
+        return b"(no %d)" % number
+    words = b"".join((length + (ABSORB if kind == b"a" else 0)).to_bytes(4, "big") for kind, length in merged)
+    count = sum(-(-length // 8) - (kind == b"a") for kind, length in merged)
+    return b"(ok %s %d)" % ((words + separator).hex().encode(), count)
+
+
+# ---- cards
+
+def card(calls, separator=b""):
+    domain = b" " + separator.hex().encode() if separator else b""
+    return b"(card (domain%s) (calls%s))" % (domain, b"".join(b" (%c %d)" % (ord(kind), length) for kind, length in calls))
+
+
+PAIR = [("a", 3), ("s", 3)]
+
+
+def refused():
+    """Document 01's example of each number that a card can get, and one card that two numbers fit."""
+    yield card([])
+    yield card([("a", 3), ("s", 0)])
+    yield card([("s", 1)])
+    yield card([("a", 1)])
+    yield card([("a", LONGEST), ("a", 1), ("s", 1)])
+    yield card(PAIR, bytes(257))
+    yield card([("s", 0)], bytes(300))
+    yield card([("s", 1), ("a", LONGEST), ("a", LONGEST)], bytes(300))
+    yield card([("a", LONGEST), ("a", 1), ("s", 1)], bytes(257))
+
+
+def limits():
+    for count in (63, 64, 65, 66, 200):
+        yield card([("as"[k % 2], k + 1) for k in range(count)])
+        yield card([("a", 1)] * (count - 1) + [("s", 1)])
+    for length in (255, 256, 257, 258, 500):
+        yield card(PAIR, bytes(k % 256 for k in range(length)))
+    for length in (0, 1, 7, 8, 9, 10, 99, 100, LONGEST - 1, LONGEST, LONGEST + 1, 10 * LONGEST, 2**32 - 1, 2**32, 2**32 + 3, 2**64 + 3, 10**40):
+        yield card([("a", length), ("s", 1)])
+        yield card([("a", 1), ("s", length)])
+    yield card([("a", LONGEST - 1), ("a", 1), ("s", LONGEST)])
+    # the longest answer: 1,041 bytes
+    yield card([("as"[k % 2], LONGEST) for k in range(64)], bytes(range(256)))
+
+
+def exact(length):
+    """A card of so many bytes."""
+    text = card([("a", 1), ("s", 1)])
+    calls = (length - len(text)) // 6 - 2
+    text = card([("a", 1)] * (calls + 1) + [("s", 1)])
+    wider = length - len(text)
+    assert 0 <= wider <= 20
+    first, second = 10 ** min(wider, 9), 10 ** max(wider - 9, 0)
+    return card([("a", first), ("a", second)] + [("a", 1)] * (calls - 1) + [("s", 1)])
+
+
+def lengths():
+    for length in (2047, 2048, 2049, 2050):
+        assert len(exact(length)) == length
+        yield exact(length)
+        yield b" " * length
+        yield card(PAIR, bytes(200)) + b")" * (length - len(card(PAIR, bytes(200))))
+    yield b"(" * 70000
+    yield card(PAIR)
+    yield exact(2048) * 3
+    yield card(PAIR)
+
+
+def off_by_one_byte():
+    """A card with each byte left out, doubled, and made another one."""
+    text = card([("a", 10), ("s", 2)], b"\xa0\x9f")
+    for k in range(len(text)):
+        yield text[:k] + text[k + 1:]
+        yield text[:k] + text[k:k + 1] + text[k:]
+        for byte in (0, 9, 13, 32, 40, 41, 48, 49, 57, 65, 70, 97, 102, 103, 115, 127, 128, 255, text[k] ^ 32, (text[k] + 1) % 256):
+            if byte != 10 and byte != text[k]:
+                yield text[:k] + bytes([byte]) + text[k + 1:]
+    for byte in range(256):
+        if byte != 10:
+            yield text + bytes([byte])
+            yield bytes([byte]) + text
+
+
+def spelled():
+    pair = b" (a 3) (s 3)))"
+    for domain in (b"", b" ", b" 4", b" 41", b" 414", b" 4142", b"  4142", b" 4142 ", b" 41 42", b" AB", b" aB", b" Ab", b" ab", b" 0x41", b" g0", b"4142", b" 00", b" ff"):
+        yield b"(card (domain" + domain + b") (calls" + pair
+    for length in (b"00", b"01", b"03", b"+3", b"-3", b"3 ", b" 3", b"", b"3.", b"3e1", b"0x3", b"0", b"3\0", b"\x0b3", b"2147483647", b"2147483648", b"02147483647"):
+        yield b"(card (domain) (calls (a " + length + b") (s 3)))"
+    for line in (b"(card)", b"", b" ", b"()", b"card", b"(card (domain) (calls))", b"(card (domain) (calls ))", b"(card (domain) (calls)) ", b" (card (domain) (calls))",
+                 b"(card (domain)(calls" + pair, b"(card  (domain) (calls" + pair, b"(card (domain) (calls  (a 3) (s 3)))", b"(card (domain) (calls (a 3)  (s 3)))",
+                 b"(card (domain) (calls (a 3)(s 3)))", b"(card (domain) (calls (a  3) (s 3)))", b"(card (domain) (calls (a 3 ) (s 3)))", b"(card (domain) (calls (A 3) (s 3)))",
+                 b"(card (domain) (calls (b 3) (s 3)))", b"(card (domain) (calls (a3) (s 3)))", b"(card (calls (a 3) (s 3)) (domain))", b"(card (domain) (calls (a 3) (s 3))",
+                 b"(card (domain) (calls (a 3) (s 3))))", b"(CARD (domain) (calls (a 3) (s 3)))", b"(card (domain) (calls (a 3) (s 3)))\r", b"\0", b"\0" * 2048, b"\xff" * 2049,
+                 b"(card 2 (form 1) (field 1) (domain 4142) (phases (a 6) (s 3)))", b"\xef\xbb\xbf(card (domain) (calls (a 3) (s 3)))"):
+        yield line
+
+
+def good(source, count):
+    for _ in range(count):
+        calls = [(kind, source.choice([1, 2, 7, 8, 9, 16, source.randint(1, 300), source.randint(1, LONGEST)]))
+                 for _ in range(source.randint(1, 4)) for kind in "as" for _ in range(source.randint(1, 3))]
+        yield card(calls, source.randbytes(source.choice([0, 0, 1, 2, 8, 32, source.randint(0, 40)])))
+
+
+def book():
+    """Document 01's whole input, then the rest; the last line has no newline."""
+    yield card([("a", 3), ("a", 3), ("s", 3)], b"AB")
+    yield card([("s", 1)])
+    yield card([("a", 0)])
+    for lines in (refused(), limits(), lengths(), off_by_one_byte(), spelled(), good(random.Random(7), 60)):
+        yield from lines
+
+
+# ---- random lines
+
+ALPHABET = b"()()  0123456789abcdefABCDEFagslmnordi\0\r\xff\x80+-_.xX"
+
+
+def mutated(source, line):
+    for _ in range(source.choice([0, 1, 1, 1, 2, 3])):
+        k, n = source.randint(0, len(line)), source.choice([1, 1, 1, 2, 5])
+        kind = source.randint(0, 4)
+        if kind == 0:
+            line = line[:k] + line[k + n:]
+        elif kind == 1:
+            line = line[:k] + bytes(source.choices(ALPHABET, k=n)) + line[k:]
+        elif kind == 2:
+            line = line[:k] + bytes(source.choices(ALPHABET, k=n)) + line[k + n:]
+        elif kind == 3:
+            line = line[:k] + line[max(0, k - 7):k] * source.choice([1, 1, 2, 70, 400]) + line[k:]
+        else:
+            line = re.sub(rb"[0-9]+", lambda m: source.choice([m[0], b"0", b"00", b"0" + m[0], b"2147483647", b"2147483648", m[0] + b"0"]), line)
+    return line.replace(b"\n", b" ")
+
+
+def random_lines(source, count):
+    stock = list(refused()) + list(limits()) + list(lengths()) + list(spelled())
+    for _ in range(count):
+        if source.random() < 0.12:
+            yield mutated(source, source.choice(stock))
+        else:
+            yield mutated(source, next(good(source, 1)))
+
+
+def through(command, text, source):
+    """What a program prints for an input that comes in pieces."""
+    process = subprocess.Popen(command, stdin=subprocess.PIPE, stdout=subprocess.PIPE)
+
+    def send():
+        at = 0
+        while at < len(text):
+            size = source.choice([1, 2, 60, 1000, 4096, 65535, 65536, 65537, 200000])
+            process.stdin.write(text[at:at + size])
+            process.stdin.flush()
+            at += size
+        process.stdin.close()
+
+    sender = threading.Thread(target=send)
+    sender.start()
+    printed = process.stdout.read()
+    sender.join()
+    assert process.wait() == 0
+    return printed
+
+
+def fuzz(program, seed, count):
+    source = random.Random(seed)
+    lines = list(random_lines(source, count))
+    for ending in (b"\n", b"", b"\n\n"):
+        some = lines if ending == b"\n" else lines[:1000]
+        printed = through([program], b"\n".join(some) + ending, source).split(b"\n")
+        wanted = [answer(line) for line in some] + ([b"(no 14)"] if ending == b"\n\n" else []) + [b""]
+        if ending == b"" and some[-1] == b"":
+            wanted.pop(-2)
+        for number, (line, got, want) in enumerate(zip(some + [b"", b""], printed, wanted), 1):
+            if got != want:
+                sys.exit(f"seed {seed}, line {number}: {line!r}\n  printed {got!r}\n  wanted  {want!r}")
+        assert len(printed) == len(wanted), (seed, len(printed), len(wanted))
+    assert through([program], b"", source) == b""
+    numbers = {want.split(b" ")[0] + want.split(b" ")[1].rstrip(b")") if want.startswith(b"(no") else b"(ok" for want in map(answer, lines)}
+    assert len(numbers) == 8, sorted(numbers)
+    accepted = sum(answer(line).startswith(b"(ok") for line in lines)
+    print(f"cards: {len(lines)} random lines agree (seed {seed}; {accepted} accepted; numbers 1 to 6 and 14 all reached)")
+
+
+def compare(program, oracle):
+    text = b"\n".join(list(random_lines(random.Random(2), 100000)))
+    printed = subprocess.run([program], input=text, stdout=subprocess.PIPE, check=True).stdout
+    wanted = subprocess.run([sys.executable, oracle, "cards"], input=text, stdout=subprocess.PIPE, check=True).stdout
+    assert printed == wanted
+    assert printed == b"".join(answer(line) + b"\n" for line in text.split(b"\n"))
+    print(f"cards: {text.count(10) + 1} random lines agree with {oracle}, and with the rule of this file")
+
+
+if sys.argv[1] == "book":
+    sys.stdout.buffer.write(b"\n".join(book()))
+elif sys.argv[1] == "fuzz":
+    fuzz(sys.argv[2], int((sys.argv[3:] or ["1"])[0]), int((sys.argv[4:] or ["100000"])[0]))
+else:
+    compare(*sys.argv[2:])
