@@ -3,15 +3,20 @@
 
   tests/cards.py book > crates/cards/stdin
   safe_oracle.py cards < crates/cards/stdin > crates/cards/stdout
-  tests/cards.py fuzz target/bin/cards [SEED [LINES]]
+  tests/cards.py test target/bin/cards [SEED [LINES]]
   tests/cards.py compare target/bin/cards safe_oracle.py
+  tests/cards.py answers < BOOK
 
-The stored answers are those of another implementation: safe_oracle.py, in Python, written from document 01 by other hands. `fuzz` needs
+The stored answers are those of another implementation: safe_oracle.py, in Python, written from document 01 by other hands. `test` needs
 no other file: it has document 01's rule once more, as `answer` below, and compares the program with it on mutated cards, which it sends
-through a pipe in pieces of random size. `compare` gives the same lines to the program and to safe_oracle.py.
+through a pipe in pieces of random size; then it tries input and output that fail, a line of 64 MB with little memory, and docs/sample.cards
+with what the README says of it. `compare` gives random lines to the program and to safe_oracle.py. `answers` does the program's job by the
+rule of this file.
 """
+import os
 import random
 import re
+import resource
 import subprocess
 import sys
 import threading
@@ -218,7 +223,7 @@ def through(command, text, source):
     return printed
 
 
-def fuzz(program, seed, count):
+def random_cards(program, seed, count):
     source = random.Random(seed)
     lines = list(random_lines(source, count))
     for ending in (b"\n", b"", b"\n\n"):
@@ -238,8 +243,44 @@ def fuzz(program, seed, count):
     print(f"cards: {len(lines)} random lines agree (seed {seed}; {accepted} accepted; numbers 1 to 6 and 14 all reached)")
 
 
+def failures(program):
+    """A write that fails stops the program, and a read that fails ends it with no further answer."""
+    with open("/dev/full", "wb") as full:
+        process = subprocess.Popen([program], stdin=subprocess.PIPE, stdout=full, stderr=subprocess.PIPE)
+        try:
+            for _ in range(1000):
+                process.stdin.write((card(PAIR) + b"\n") * 2000)
+            sys.exit("cards: goes on though its output cannot be written")
+        except BrokenPipeError:
+            pass
+        assert process.stderr.read() == b"cards: output could not be written\n"
+        process.stderr.close()
+        process.wait()
+    folder = os.open("/", os.O_RDONLY)
+    unread = subprocess.run([program], stdin=folder, capture_output=True)
+    assert (unread.stdout, unread.stderr) == (b"", b"cards: input could not be read\n")
+
+
+def long_line(program):
+    """A line of 64 MB and a card behind it, in 16 MB of memory."""
+    def little():
+        resource.setrlimit(resource.RLIMIT_AS, (1 << 24, 1 << 24))
+
+    text = card(PAIR) * (1 << 21) + b"\n" + card(PAIR)
+    done = subprocess.run([program], input=text, stdout=subprocess.PIPE, preexec_fn=little, check=True)
+    assert done.stdout == b"(no 14)\n(ok 8000000300000003 1)\n", done.stdout[:100]
+
+
+def sample(program):
+    """The README shows what the program prints for docs/sample.cards."""
+    root = os.path.dirname(os.path.dirname(os.path.abspath(__file__)))
+    with open(os.path.join(root, "docs", "sample.cards"), "rb") as book, open(os.path.join(root, "README.md")) as readme:
+        printed = subprocess.run([program], stdin=book, stdout=subprocess.PIPE, check=True).stdout.decode()
+        assert "".join("    " + line for line in printed.splitlines(True)) in readme.read(), printed
+
+
 def compare(program, oracle):
-    text = b"\n".join(list(random_lines(random.Random(2), 100000)))
+    text = b"\n".join(random_lines(random.Random(2), 100000))
     printed = subprocess.run([program], input=text, stdout=subprocess.PIPE, check=True).stdout
     wanted = subprocess.run([sys.executable, oracle, "cards"], input=text, stdout=subprocess.PIPE, check=True).stdout
     assert printed == wanted
@@ -247,9 +288,17 @@ def compare(program, oracle):
     print(f"cards: {text.count(10) + 1} random lines agree with {oracle}, and with the rule of this file")
 
 
-if sys.argv[1] == "book":
-    sys.stdout.buffer.write(b"\n".join(book()))
-elif sys.argv[1] == "fuzz":
-    fuzz(sys.argv[2], int((sys.argv[3:] or ["1"])[0]), int((sys.argv[4:] or ["100000"])[0]))
-else:
-    compare(*sys.argv[2:])
+if __name__ == "__main__":
+    job, words = sys.argv[1], sys.argv[2:]
+    if job == "book":
+        sys.stdout.buffer.write(b"\n".join(book()))
+    elif job == "test":
+        failures(words[0])
+        long_line(words[0])
+        sample(words[0])
+        random_cards(words[0], int(words[1]) if words[1:] else 1, int(words[2]) if words[2:] else 100000)
+    elif job == "compare":
+        compare(*words)
+    else:
+        for line in sys.stdin.buffer:
+            sys.stdout.buffer.write(answer(line.removesuffix(b"\n")) + b"\n")
