@@ -237,6 +237,7 @@ def random_cards(program, seed, count):
                 sys.exit(f"seed {seed}, line {number}: {line!r}\n  printed {got!r}\n  wanted  {want!r}")
         assert len(printed) == len(wanted), (seed, len(printed), len(wanted))
     assert through([program], b"", source) == b""
+    assert through([program], b"\n", source) == b"(no 14)\n"
     numbers = {want.split(b" ")[0] + want.split(b" ")[1].rstrip(b")") if want.startswith(b"(no") else b"(ok" for want in map(answer, lines)}
     assert len(numbers) == 8, sorted(numbers)
     accepted = sum(answer(line).startswith(b"(ok") for line in lines)

@@ -35,7 +35,8 @@ unfoldable pub separatorText : List ℕ → List ℕ
 separatorText [] = []
 separatorText (b ∷ bs) = ascii " " ++ hex (b ∷ bs)
 
--- "decimal", "no leading zero but 0 itself": the digits of n, of which there are at most k + 1
+-- "decimal", "no leading zero but 0 itself": the last digit, and before it the digits of n / 10 while these are left. The first argument
+-- bounds how often; n is enough.
 unfoldable pub decimalUpTo : ℕ → ℕ → List ℕ
 decimalUpTo zero n = (n + 48) ∷ []
 decimalUpTo (suc k) n = elim (ltb n 10) [ true ↦ (n + 48) ∷ [] | false ↦ decimalUpTo k (n / 10) ++ ((n % 10 + 48) ∷ []) ]
