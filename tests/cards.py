@@ -8,15 +8,16 @@
   tests/cards.py answers < BOOK
 
 The stored answers are those of another implementation: safe_oracle.py, in Python, written from document 01 by other hands. `test` needs
-no other file: it has document 01's rule once more, as `answer` below, and compares the program with it on mutated cards, which it sends
-through a pipe in pieces of random size; then it tries input and output that fail, a line of 64 MB with little memory, and docs/sample.cards
-with what the README says of it. `compare` gives random lines to the program and to safe_oracle.py. `answers` does the program's job by the
+no other file: it has document 01's rule once more, as `answer` below, and compares the program with it on mutated cards; then on books of
+short lines, whose answers fill the program's output many times in a piece, and on the stored book, cut into pieces of given sizes; then it
+tries input and output that fail, a line of 64 MB with little memory, and docs/sample.cards with what the README says of it. `compare` gives random lines to the program and to safe_oracle.py. `answers` does the program's job by the
 rule of this file.
 """
 import os
 import random
 import re
 import resource
+import socket
 import subprocess
 import sys
 import threading
@@ -76,7 +77,7 @@ PAIR = [("a", 3), ("s", 3)]
 
 
 def refused():
-    """Document 01's example of each number that a card can get, and one card that two numbers fit."""
+    """Document 01's example of each number that a card can get, and cards that more than one number fits."""
     yield card([])
     yield card([("a", 3), ("s", 0)])
     yield card([("s", 1)])
@@ -202,18 +203,16 @@ def random_lines(source, count):
             yield mutated(source, next(good(source, 1)))
 
 
-def through(command, text, source):
-    """What a program prints for an input that comes in pieces."""
-    process = subprocess.Popen(command, stdin=subprocess.PIPE, stdout=subprocess.PIPE)
+def through(program, text, size=1 << 16):
+    """What a program prints for an input that comes in pieces of a size: a message on such a socket is one read."""
+    ours, theirs = socket.socketpair(socket.AF_UNIX, socket.SOCK_SEQPACKET)
+    process = subprocess.Popen([program], stdin=theirs, stdout=subprocess.PIPE)
+    theirs.close()
 
     def send():
-        at = 0
-        while at < len(text):
-            size = source.choice([1, 2, 60, 1000, 4096, 65535, 65536, 65537, 200000])
-            process.stdin.write(text[at:at + size])
-            process.stdin.flush()
-            at += size
-        process.stdin.close()
+        for at in range(0, len(text), size):
+            ours.sendall(text[at:at + size])
+        ours.close()
 
     sender = threading.Thread(target=send)
     sender.start()
@@ -228,7 +227,7 @@ def random_cards(program, seed, count):
     lines = list(random_lines(source, count))
     for ending in (b"\n", b"", b"\n\n"):
         some = lines if ending == b"\n" else lines[:1000]
-        printed = through([program], b"\n".join(some) + ending, source).split(b"\n")
+        printed = through(program, b"\n".join(some) + ending).split(b"\n")
         wanted = [answer(line) for line in some] + ([b"(no 14)"] if ending == b"\n\n" else []) + [b""]
         if ending == b"" and some[-1] == b"":
             wanted.pop(-2)
@@ -236,12 +235,25 @@ def random_cards(program, seed, count):
             if got != want:
                 sys.exit(f"seed {seed}, line {number}: {line!r}\n  printed {got!r}\n  wanted  {want!r}")
         assert len(printed) == len(wanted), (seed, len(printed), len(wanted))
-    assert through([program], b"", source) == b""
-    assert through([program], b"\n", source) == b"(no 14)\n"
+    assert through(program, b"") == b""
+    assert through(program, b"\n") == b"(no 14)\n"
     numbers = {want.split(b" ")[0] + want.split(b" ")[1].rstrip(b")") if want.startswith(b"(no") else b"(ok" for want in map(answer, lines)}
     assert len(numbers) == 8, sorted(numbers)
     accepted = sum(answer(line).startswith(b"(ok") for line in lines)
     print(f"cards: {len(lines)} random lines agree (seed {seed}; {accepted} accepted; numbers 1 to 6 and 14 all reached)")
+
+
+def pieces(program):
+    """The same output, however the input is cut; and answers that are longer than their lines."""
+    stored = b"\n".join(book())
+    wanted = b"".join(answer(line) + b"\n" for line in stored.split(b"\n"))
+    for size in (1, 2, 3, 47, 2047, 2048, 2049, 2050, 4096, 65535, 65536):
+        assert through(program, stored, size) == wanted, size
+    source = random.Random(5)
+    short = source.choices([b"", b"", b"a", b"()", card(PAIR)], weights=[6, 6, 3, 2, 1], k=60000)
+    wanted = b"".join(answer(line) + b"\n" for line in short)
+    for size in (100, 65536):
+        assert through(program, b"\n".join(short) + b"\n", size) == wanted, size
 
 
 def failures(program):
@@ -294,6 +306,7 @@ if __name__ == "__main__":
     if job == "book":
         sys.stdout.buffer.write(b"\n".join(book()))
     elif job == "test":
+        pieces(words[0])
         failures(words[0])
         long_line(words[0])
         sample(words[0])
