@@ -10,8 +10,8 @@
 The stored answers are those of another implementation: safe_oracle.py, in Python, written from document 01 by other hands. `test` needs
 no other file: it has document 01's rule once more, as `answer` below, and compares the program with it on mutated cards; then on books of
 short lines, whose answers fill the program's output many times in a piece, and on the stored book, cut into pieces of given sizes; then it
-tries input and output that fail, a line of 64 MB with little memory, and docs/sample.cards with what the README says of it. `compare` gives random lines to the program and to safe_oracle.py. `answers` does the program's job by the
-rule of this file.
+tries input and output that fail, a line of 64 MB with little memory, and docs/sample.cards with what the README says of it. `compare` gives
+random lines to the program and to safe_oracle.py. `answers` does the program's job by the rule of this file.
 """
 import os
 import random
@@ -141,19 +141,26 @@ def off_by_one_byte():
             yield bytes([byte]) + text
 
 
+DOMAINS = (b"", b" ", b" 4", b" 41", b" 414", b" 4142", b"  4142", b" 4142 ", b" 41 42", b" AB", b" aB", b" Ab", b" ab", b" 0x41", b" g0",
+           b"4142", b" 00", b" ff")
+LENGTHS = (b"00", b"01", b"03", b"+3", b"-3", b"3 ", b" 3", b"", b"3.", b"3e1", b"0x3", b"0", b"3\0", b"\x0b3", b"2147483647", b"2147483648",
+           b"02147483647")
+LINES = (b"(card)", b"", b" ", b"()", b"card", b"(card (domain) (calls))", b"(card (domain) (calls ))", b"(card (domain) (calls)) ",
+         b" (card (domain) (calls))", b"(card (domain)(calls (a 3) (s 3)))", b"(card  (domain) (calls (a 3) (s 3)))",
+         b"(card (domain) (calls  (a 3) (s 3)))", b"(card (domain) (calls (a 3)  (s 3)))", b"(card (domain) (calls (a 3)(s 3)))",
+         b"(card (domain) (calls (a  3) (s 3)))", b"(card (domain) (calls (a 3 ) (s 3)))", b"(card (domain) (calls (A 3) (s 3)))",
+         b"(card (domain) (calls (b 3) (s 3)))", b"(card (domain) (calls (a3) (s 3)))", b"(card (calls (a 3) (s 3)) (domain))",
+         b"(card (domain) (calls (a 3) (s 3))", b"(card (domain) (calls (a 3) (s 3))))", b"(CARD (domain) (calls (a 3) (s 3)))",
+         b"(card (domain) (calls (a 3) (s 3)))\r", b"\0", b"\0" * 2048, b"\xff" * 2049,
+         b"(card 2 (form 1) (field 1) (domain 4142) (phases (a 6) (s 3)))", b"\xef\xbb\xbf(card (domain) (calls (a 3) (s 3)))")
+
+
 def spelled():
-    pair = b" (a 3) (s 3)))"
-    for domain in (b"", b" ", b" 4", b" 41", b" 414", b" 4142", b"  4142", b" 4142 ", b" 41 42", b" AB", b" aB", b" Ab", b" ab", b" 0x41", b" g0", b"4142", b" 00", b" ff"):
-        yield b"(card (domain" + domain + b") (calls" + pair
-    for length in (b"00", b"01", b"03", b"+3", b"-3", b"3 ", b" 3", b"", b"3.", b"3e1", b"0x3", b"0", b"3\0", b"\x0b3", b"2147483647", b"2147483648", b"02147483647"):
+    for domain in DOMAINS:
+        yield b"(card (domain" + domain + b") (calls (a 3) (s 3)))"
+    for length in LENGTHS:
         yield b"(card (domain) (calls (a " + length + b") (s 3)))"
-    for line in (b"(card)", b"", b" ", b"()", b"card", b"(card (domain) (calls))", b"(card (domain) (calls ))", b"(card (domain) (calls)) ", b" (card (domain) (calls))",
-                 b"(card (domain)(calls" + pair, b"(card  (domain) (calls" + pair, b"(card (domain) (calls  (a 3) (s 3)))", b"(card (domain) (calls (a 3)  (s 3)))",
-                 b"(card (domain) (calls (a 3)(s 3)))", b"(card (domain) (calls (a  3) (s 3)))", b"(card (domain) (calls (a 3 ) (s 3)))", b"(card (domain) (calls (A 3) (s 3)))",
-                 b"(card (domain) (calls (b 3) (s 3)))", b"(card (domain) (calls (a3) (s 3)))", b"(card (calls (a 3) (s 3)) (domain))", b"(card (domain) (calls (a 3) (s 3))",
-                 b"(card (domain) (calls (a 3) (s 3))))", b"(CARD (domain) (calls (a 3) (s 3)))", b"(card (domain) (calls (a 3) (s 3)))\r", b"\0", b"\0" * 2048, b"\xff" * 2049,
-                 b"(card 2 (form 1) (field 1) (domain 4142) (phases (a 6) (s 3)))", b"\xef\xbb\xbf(card (domain) (calls (a 3) (s 3)))"):
-        yield line
+    yield from LINES
 
 
 def good(source, count):

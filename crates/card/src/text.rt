@@ -31,7 +31,8 @@ fn hex_digit(digit: u8) -> u8
 // Writes bytes in hexadecimal, two digits each, and gives the place behind them.
 pub(crate) fn put_hex(buffer: &mut [u8], at: usize, bytes: &[u8]) -> usize
     requires { ⌜ at + 2 * length (now bytes) ≤ length (now buffer) ⌝ }
-    ensures { λ r. ⌜ (r ≡ at + length (hex (now (bytes .entry)))) × (now (buffer .exit) ≡ placed (now (buffer .entry)) at (hex (now (bytes .entry)))) ⌝ }
+    ensures { λ r. ⌜ (r ≡ at + length (hex (now (bytes .entry)))) ×
+        (now (buffer .exit) ≡ placed (now (buffer .entry)) at (hex (now (bytes .entry)))) ⌝ }
 {
     for i in 0..bytes.len() {
         let byte = bytes[i];

@@ -1,4 +1,5 @@
--- What the private functions give: the machine that reads a line byte by byte. No public contract rests on it.
+-- What the private functions give: the machine that reads a line byte by byte. `cardOf` is computed by it; the type of `decided` fixes the
+-- outcome, whatever the machine.
 use mathlib.Core.List.{List, [], _∷_, _++_}
 use Prim.Native.Nat.{ℕ, _+_, _-_, _*_}
 use lib.Dec.{ltb, leb, eqb}

@@ -12,6 +12,7 @@ use Rattle.tag.specs.Pattern.{isAbsorb, lengthOf}
 abbrev pub ascii : String → List ℕ
 ascii text = elim text [ String.[] ↦ [] | String._∷_ c (rest → bytes) ↦ code c ∷ bytes ]
 
+-- what stands before and behind the separator, and behind the calls: "A card is as below"
 abbrev pub headText : List ℕ
 headText = ascii "(card (domain"
 
@@ -48,6 +49,7 @@ decimal n = decimalUpTo n n
 unfoldable pub callText : ℕ → List ℕ
 callText w = ascii " (" ++ ((if isAbsorb w then code "a" else code "s") ∷ (ascii " " ++ (decimal (lengthOf w) ++ ascii ")")))
 
+-- "(calls) if none": what follows "(calls"
 unfoldable pub callsText : List ℕ → List ℕ
 callsText [] = []
 callsText (w ∷ ws) = callText w ++ callsText ws

@@ -4,6 +4,8 @@ mod machine;
 use machine::Mode;
 use machine::Move;
 ghost use mathlib.Core.Path.{_≡_};
+ghost use Prim.Native.Nat.{_≤_};
+ghost use lib.ListN.{length};
 ghost use Rattle.card_grammar.specs.Grammar.{none};
 ghost use Rattle.card_grammar.specs.Card.{cardOf, reading};
 
@@ -32,13 +34,11 @@ fn no_card() -> Card
     }
 }
 
-// Reads a line byte by byte.
-pub fn read(line: &[u8]) -> Card
+// Reads a line of at most 2,048 bytes, byte by byte.
+fn read_short(line: &[u8]) -> Card
+    requires { ⌜ length (now line) ≤ 2048 ⌝ }
     ensures { λ r. ⌜ r ≡ reading (cardOf (now (line .entry))) ⌝ }
 {
-    if line.len() > MAX_LINE {
-        return no_card();
-    }
     let mut separator = [0u8; 257];
     let mut separator_length: usize = 0;
     let mut words = [0u32; 65];
@@ -78,4 +78,14 @@ pub fn read(line: &[u8]) -> Card
         words,
         word_count,
     }
+}
+
+// What a line is read as.
+pub fn read(line: &[u8]) -> Card
+    ensures { λ r. ⌜ r ≡ reading (cardOf (now (line .entry))) ⌝ }
+{
+    if line.len() > MAX_LINE {
+        return no_card();
+    }
+    read_short(line)
 }

@@ -3,21 +3,21 @@
 use mathlib.Core.Path.{_≡_, refl, sym, ap, ap₂, subst, _∙_}
 use mathlib.Core.Bool.{true, false}
 use mathlib.Core.List.{List, [], _∷_, _++_, append-assoc, append-nil}
-use Prim.Native.Nat.{ℕ, zero, suc, _+_, _-_, _≤_, _<_, min}
+use Prim.Native.Nat.{ℕ, _+_, _-_, min}
 use native.Mathlib.Omega.{arith}
-use borrow.Author.Tests.{leb-true, leb-false, eqb-true, eqb-false, eq-eqb, ne-eqb}
-use lib.Dec.{leb, eqb}
-use lib.ListN.{length, take, drop, length-append, length-take}
+use borrow.Author.Tests.{leb-true, leb-false, eq-eqb, ne-eqb}
+use lib.Dec.{leb}
+use lib.ListN.{length, take, length-append, length-take}
 use lib.Seq.{take-all, take-at, take-append-le, take-append-add, length-take-le}
 use Rattle.basics.proofs.Cases.{cases, if-true, if-false}
 use Rattle.card.specs.Answer.{answer, hasRoom, placed}
 use Rattle.card.proofs.Laws.{answer-long}
 use Rattle.card.proofs.Placed.{placed-length}
 use Rattle.card_lines.specs.Lines.{output}
-use Rattle.card_lines.specs.Stream.{firstLine, endsLine, extendedLength, extended, heldAnswer, writes, takes, lengthAfter, lineAfter, lastAnswer}
+use Rattle.card_lines.specs.Stream.{firstLine, endsLine, extendedLength, extended, heldAnswer, writes, lastAnswer}
 use Rattle.card_lines.specs.Calls.{Call, Held, after, taken, written}
-use Rattle.card_lines.proofs.OutputLines.{NoNewline, join-free, output-newline, output-none, output-last}
-use Rattle.card_lines.proofs.Pieces.{first-free, all-first}
+use Rattle.card_lines.proofs.OutputLines.{NoNewline, join-no-newline, output-newline, output-none, output-last}
+use Rattle.card_lines.proofs.Pieces.{first-no-newline, all-first}
 use Rattle.card_lines.proofs.FeedCases.{no-room-line, no-room-length, no-room-writes, no-room-takes, room-line}
 use Rattle.card_lines.proofs.FeedCases.{open-length, open-writes, open-takes, newline-length, newline-writes, newline-takes}
 
@@ -36,7 +36,7 @@ pub record Holds (h : Held) (q : List ℕ) : Type 0 where
   pub long : length (h .line) ≡ 2049
   pub count : h .held ≡ min (length q) 2049
   pub bytes : take (h .held) (h .line) ≡ take 2049 q
-  pub free : NoNewline q
+  pub no-newline : NoNewline q
 
 module _ (h : Held) (q : List ℕ) (holds : Holds h q) (bytes : List ℕ) where
   longer : length (placed (h .line) (h .held) (take (2049 - h .held) bytes)) ≡ 2049
@@ -76,18 +76,18 @@ module _ (h : Held) (c : Call) (q : List ℕ) (holds : Holds h q) where
   abbrev first : List ℕ
   first = firstLine (c .piece)
 
-  idle-left : hasRoom (c .output) ≡ false → after h c ≡ h
+  no-room-left : hasRoom (c .output) ≡ false → after h c ≡ h
   unfolding after
-  idle-left e =
+  no-room-left e =
       λ i. record {
         line = no-room-line (h .line) (h .held) (c .piece) (c .output) e i;
         held = no-room-length (h .line) (h .held) (c .piece) (c .output) e i;
       }
 
   module _ (e : hasRoom (c .output) ≡ true) where
-    busy-long : length (after h c .line) ≡ 2049
+    room-long : length (after h c .line) ≡ 2049
     unfolding after extended
-    busy-long = ap length (room-line (h .line) (h .held) (c .piece) (c .output) e) ∙ longer h q holds first
+    room-long = ap length (room-line (h .line) (h .held) (c .piece) (c .output) e) ∙ longer h q holds first
 
     open-holds : endsLine (c .piece) ≡ false → Holds (after h c) (q ++ c .piece)
     unfolding after
@@ -95,20 +95,20 @@ module _ (h : Held) (c : Call) (q : List ℕ) (holds : Holds h q) where
         let all = all-first (c .piece) f in
         let count = open-length (h .line) (h .held) (c .piece) (c .output) e f in
         record {
-          long = busy-long;
+          long = room-long;
           count = count ∙ more-count h q holds first ∙ ap (λ (l : List ℕ). min (length (q ++ l)) 2049) all;
           bytes =
               ap₂ (λ (n : ℕ) (l : List ℕ). take n l) count (room-line (h .line) (h .held) (c .piece) (c .output) e)
               ∙ more-bytes h q holds first
               ∙ ap (λ (l : List ℕ). take 2049 (q ++ l)) all;
-          free = join-free q (c .piece) (holds .free) (subst NoNewline all (first-free (c .piece)));
+          no-newline = join-no-newline q (c .piece) (holds .no-newline) (subst NoNewline all (first-no-newline (c .piece)));
         }
 
     newline-holds : endsLine (c .piece) ≡ true → Holds (after h c) []
     unfolding after NoNewline
     newline-holds f =
         let none = newline-length (h .line) (h .held) (c .piece) (c .output) e f in
-        record { long = busy-long; count = none; bytes = ap (λ (n : ℕ). take n (after h c .line)) none; free = tt }
+        record { long = room-long; count = none; bytes = ap (λ (n : ℕ). take n (after h c .line)) none; no-newline = tt }
 
     newline-answer : endsLine (c .piece) ≡ true → writes (h .line) (h .held) (c .piece) (c .output) ≡ answer (q ++ first) ++ (10 ∷ [])
     unfolding heldAnswer
@@ -130,15 +130,16 @@ last-line h (b ∷ q) last holds e =
     if-false _ _ _ (ne-eqb (h .held) 0 (omega (arith, holds .count)))
     ∙ if-true _ _ _ e
     ∙ held-line h (b ∷ q) holds
-    ∙ sym (output-last b q (holds .free))
+    ∙ sym (output-last b q (holds .no-newline))
 
 -- one call, and what is true of the calls behind it
-module _ (h : Held) (c : Call) (cs : List Call) (q last : List ℕ) (holds : Holds h q) (later : (r : List ℕ) → Holds (after h c) r → written (after h c) cs last ≡ output (r ++ taken cs)) where
+module _ (h : Held) (c : Call) (cs : List Call) (q last : List ℕ) (holds : Holds h q)
+    (later : (r : List ℕ) → Holds (after h c) r → written (after h c) cs last ≡ output (r ++ taken cs)) where
   with-no-room : hasRoom (c .output) ≡ false → written h (c ∷ cs) last ≡ output (q ++ taken (c ∷ cs))
   unfolding written taken
   with-no-room e =
       ap (λ (l : List ℕ). l ++ written (after h c) cs last) (no-room-writes (h .line) (h .held) (c .piece) (c .output) e)
-      ∙ later q (subst (λ (k : Held). Holds k q) (sym (idle-left h c q holds e)) holds)
+      ∙ later q (subst (λ (k : Held). Holds k q) (sym (no-room-left h c q holds e)) holds)
       ∙ ap (λ (l : List ℕ). output (q ++ (l ++ taken cs))) (sym (no-room-takes (h .line) (h .held) (c .piece) (c .output) e))
 
   with-no-newline : hasRoom (c .output) ≡ true → endsLine (c .piece) ≡ false → written h (c ∷ cs) last ≡ output (q ++ taken (c ∷ cs))
@@ -152,12 +153,13 @@ module _ (h : Held) (c : Call) (cs : List Call) (q last : List ℕ) (holds : Hol
   with-newline : hasRoom (c .output) ≡ true → endsLine (c .piece) ≡ true → written h (c ∷ cs) last ≡ output (q ++ taken (c ∷ cs))
   unfolding written taken
   with-newline e f =
-      let line = q ++ firstLine (c .piece) in
+      let first = firstLine (c .piece) in
+      let line = q ++ first in
       ap (λ (l : List ℕ). l ++ written (after h c) cs last) (newline-answer h c q holds e f)
       ∙ append-assoc (answer line) (10 ∷ []) (written (after h c) cs last)
       ∙ ap (λ (l : List ℕ). answer line ++ (10 ∷ l)) (later [] (newline-holds h c q holds e f))
-      ∙ sym (output-newline line (taken cs) (join-free q (firstLine (c .piece)) (holds .free) (first-free (c .piece))))
-      ∙ ap output (append-assoc q (firstLine (c .piece)) (10 ∷ taken cs) ∙ ap (λ (l : List ℕ). q ++ l) (sym (append-assoc (firstLine (c .piece)) (10 ∷ []) (taken cs))))
+      ∙ sym (output-newline line (taken cs) (join-no-newline q first (holds .no-newline) (first-no-newline (c .piece))))
+      ∙ ap output (append-assoc q first (10 ∷ taken cs) ∙ ap (λ (l : List ℕ). q ++ l) (sym (append-assoc first (10 ∷ []) (taken cs))))
       ∙ ap (λ (l : List ℕ). output (q ++ (l ++ taken cs))) (sym (newline-takes (h .line) (h .held) (c .piece) (c .output) e f))
 
 -- no call is left
@@ -178,4 +180,4 @@ written-output (c ∷ cs) h q last holds e =
 -- at the start, when nothing is held
 pub start-holds : (line : List ℕ) → length line ≡ 2049 → Holds (record { line = line; held = 0 }) []
 unfolding NoNewline
-start-holds line e = record { long = e; count = refl; bytes = refl; free = tt }
+start-holds line e = record { long = e; count = refl; bytes = refl; no-newline = tt }

@@ -9,7 +9,6 @@ use Rattle.basics.proofs.Cases.{if-true, if-false}
 use Rattle.card.specs.Answer.{hasRoom, beginning}
 use Rattle.card_lines.specs.Stream.{firstLine, endsLine, extendedLength, extended, heldAnswer}
 use Rattle.card_lines.specs.Stream.{writes, takes, lengthAfter, lineAfter, fed, outputAfter}
-use Rattle.card_lines.specs.declared.Fed.{Fed}
 use Rattle.card_lines.proofs.Pieces.{taken-newline, taken-all}
 
 module _ (line : List ℕ) (n : ℕ) (piece output : List ℕ) where

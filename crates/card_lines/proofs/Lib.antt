@@ -3,4 +3,5 @@ pub mod Pieces
 pub mod HeldLine
 pub mod FeedCases
 pub mod Progress
+pub mod AllTaken
 pub mod Cutting

@@ -14,10 +14,10 @@ unfoldable pub NoNewline : List ℕ → Type 0
 NoNewline [] = Unit {0}
 NoNewline (b ∷ bs) = (eqb b 10 ≡ false) × NoNewline bs
 
-pub join-free : (a b : List ℕ) → NoNewline a → NoNewline b → NoNewline (a ++ b)
+pub join-no-newline : (a b : List ℕ) → NoNewline a → NoNewline b → NoNewline (a ++ b)
 unfolding NoNewline
-join-free [] b h k = k
-join-free (x ∷ a) b h k = (h .0, join-free a b (h .1) k)
+join-no-newline [] b h k = k
+join-no-newline (x ∷ a) b h k = (h .0, join-no-newline a b (h .1) k)
 
 lines-newline : (a rest : List ℕ) → NoNewline a → lines (a ++ (10 ∷ rest)) ≡ a ∷ lines rest
 unfolding NoNewline lines before

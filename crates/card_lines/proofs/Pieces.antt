@@ -1,24 +1,23 @@
 -- A piece up to its first newline.
 -- Assumes nothing.
-use mathlib.Core.Path.{_≡_, refl, sym, ap, _∙_}
-use mathlib.Core.Bool.{true, false, true≢false}
+use mathlib.Core.Path.{_≡_, refl, ap, _∙_}
+use mathlib.Core.Bool.{true, false}
 use mathlib.Core.List.{List, [], _∷_, _++_}
 use Prim.Native.Nat.{ℕ, suc, _+_, _≤_, _<_}
 use native.Mathlib.Numerals.{add-one}
 use native.Mathlib.Omega.{arith}
 use borrow.Author.Tests.{ltb-true, ltb-false, eqb-true}
-use lib.Dec.{ltb, eqb}
+use lib.Dec.{eqb}
 use lib.ListN.{length, take}
 use lib.Seq.{take-all}
-use Rattle.basics.specs.Logic.{if_then_else_}
 use Rattle.basics.proofs.Cases.{by, cases, if-true, if-false}
 use Rattle.card_lines.specs.Stream.{firstLine, endsLine}
 use Rattle.card_lines.proofs.OutputLines.{NoNewline}
 
-pub first-free : (piece : List ℕ) → NoNewline (firstLine piece)
+pub first-no-newline : (piece : List ℕ) → NoNewline (firstLine piece)
 unfolding firstLine NoNewline
-first-free [] = tt
-first-free (b ∷ bs) = by NoNewline (eqb b 10) _ _ (λ e. tt) λ e. (e, first-free bs)
+first-no-newline [] = tt
+first-no-newline (b ∷ bs) = by NoNewline (eqb b 10) _ _ (λ e. tt) λ e. (e, first-no-newline bs)
 
 pub first-short : (piece : List ℕ) → length (firstLine piece) ≤ length piece
 unfolding firstLine

@@ -51,7 +51,9 @@ pub writes-within : (line : List ℕ) (n : ℕ) (piece output : List ℕ) → le
 unfolding writes
 writes-within line n piece output =
     by (λ (l : List ℕ). length l ≤ length output) (hasRoom output) _ _
-    (λ e. by (λ (l : List ℕ). length l ≤ length output) _ _ _ (λ f. within e _ (answer-within (extended line n (firstLine piece)) (extendedLength n (firstLine piece)))) λ f. omega arith)
+    (λ e. by (λ (l : List ℕ). length l ≤ length output) _ _ _
+    (λ f. within e _ (answer-within (extended line n (firstLine piece)) (extendedLength n (firstLine piece))))
+    λ f. omega arith)
     λ e. omega arith
   where
     within : hasRoom output ≡ true → (k : ℕ) → k ≤ 1042 → k ≤ length output

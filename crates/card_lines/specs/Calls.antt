@@ -1,6 +1,7 @@
 -- Calls of `feed` in turn, each on the line in progress that the one before it left.
 use mathlib.Core.List.{List, [], _∷_, _++_}
-use Prim.Native.Nat.{ℕ}
+use Prim.Native.Nat.{ℕ, zero, suc}
+use lib.ListN.{length, drop}
 use Rattle.card_lines.specs.Stream.{writes, takes, lengthAfter, lineAfter, lastAnswer}
 
 -- the piece and the output that a call is lent
@@ -30,3 +31,21 @@ taken (c ∷ cs) = takes (c .piece) (c .output) ++ taken cs
 unfoldable pub written : Held → List Call → List ℕ → List ℕ
 written h [] last = lastAnswer (h .line) (h .held) last
 written h (c ∷ cs) last = writes (h .line) (h .held) (c .piece) (c .output) ++ written (after h c) cs last
+
+-- pieces one behind the other
+unfoldable pub joined : List (List ℕ) → List ℕ
+joined [] = []
+joined (piece ∷ pieces) = piece ++ joined pieces
+
+-- The calls of a caller that lends a piece, then what the call left of it, and so on until none is left, always with the same output. The
+-- first argument bounds how often; the length of the piece is enough.
+unfoldable pub callsOf : ℕ → List ℕ → List ℕ → List Call
+callsOf zero output piece = []
+callsOf (suc k) output [] = []
+callsOf (suc k) output (b ∷ bs) =
+    record { piece = b ∷ bs; output = output } ∷ callsOf k output (drop (length (takes (b ∷ bs) output)) (b ∷ bs))
+
+-- and so for piece after piece
+unfoldable pub callsOfAll : List ℕ → List (List ℕ) → List Call
+callsOfAll output [] = []
+callsOfAll output (piece ∷ pieces) = callsOf (length piece) output piece ++ callsOfAll output pieces

@@ -1,5 +1,5 @@
--- The input in pieces: what one call takes and writes. Between calls the caller keeps the line in progress, which no newline has ended
--- yet: its bytes, up to 2,049 of them, and how many these are. With 2,049 bytes it is too long, whatever follows.
+-- The input in pieces: what one call takes and writes. `line` is the 2,049 places of the line in progress, which no newline has ended yet,
+-- and n how many bytes it has; one of 2,049 bytes is too long, whatever follows.
 use mathlib.Core.Bool.{Bool}
 use mathlib.Core.List.{List, [], _∷_, _++_}
 use Prim.Native.Nat.{ℕ, _+_, _-_, min}

@@ -1,5 +1,5 @@
--- Cards. `answer` and `fed` are those that the contracts of `card` and `card_lines` cite; `output` is what document 01 has the card program
--- print for a whole input.
+-- Cards. `cardOf`, `answer`, `fed` and `outputAfter` are those that the contracts of `card_grammar`, `card` and `card_lines` cite; `output` is
+-- what document 01 has the card program print for a whole input.
 use mathlib.Core.Path.{_≡_, refl, sym, ap, ap₂, _∙_}
 use mathlib.Core.Bool.{true}
 use mathlib.Core.List.{List, [], _∷_, _++_}
@@ -19,13 +19,16 @@ use Rattle.card_grammar.specs.Grammar.{Below, CardOf, card, none, NoCard}
 use Rattle.card_grammar.specs.Card.{cardOf}
 use Rattle.card_grammar.proofs.Laws as grammar
 use Rattle.card.specs.Answer.{fullPermutations, okText, noText, cardAnswer, answer, hasRoom}
-use Rattle.card.proofs.Laws.{answer-card, answer-none}
+use Rattle.card.proofs.Laws.{answer-card, answer-none, answer-long}
+use Rattle.card.proofs.CardAnswer.{accepted-answer}
 use Rattle.card_lines.specs.Lines.{newline, before, lines, answers, output}
-use Rattle.card_lines.specs.Stream.{takes}
-use Rattle.card_lines.specs.Calls.{Call, taken, written}
-use Rattle.card_lines.proofs.Progress.{takes-some, takes-first}
+use Rattle.card_lines.specs.Stream.{writes, takes, fed, outputAfter}
+use Rattle.card_lines.specs.Calls.{Call, taken, written, joined, callsOfAll}
+use Rattle.card_lines.proofs.Progress.{takes-some}
+use Rattle.card_lines.proofs.AllTaken.{all-taken, written-bytes, used-bytes}
 use Rattle.card_lines.proofs.Cutting.{written-output, start-holds}
-use Rattle.runs.specs.Runs.{Run, permutationsOf}
+use Rattle.runs.specs.Runs.{Run, tagOf, permutationsOf}
+use Rattle.runs.proofs.Opened.{start-accepted}
 use Rattle.claims.specs.Sessions.{count-of-session}
 
 -- A line is read as a card exactly if it is the text of a separator and words, byte for byte; and as no card exactly if it is not.
@@ -48,10 +51,24 @@ answer-to-card line separator ws c = answer-card line separator ws (grammar.card
 pub answer-to-no-card : (line : List ℕ) → NoCard line → answer line ≡ noText notCard
 answer-to-no-card line n = answer-none line (grammar.none-of line n)
 
--- "permutations of a full session": the count on a card is that of every finished session of its words.
-pub count-on-card : (a : Run) → permutationsOf a ≡ fullPermutations (a .words)
+-- "a longer line gets 14"
+pub answer-to-long-line : (line : List ℕ) → 2048 < length line → answer line ≡ noText notCard
+answer-to-long-line = answer-long
+
+-- "tag string .. permutations of a full session": what a card is answered with is the tag string and the count of every finished session of
+-- its words and separator.
+pub answer-is-of-session : (a : Run) (line : List ℕ) → CardOf line (a .separator) (a .words) → answer line ≡ okText (tagOf a) (permutationsOf a)
 unfolding fullPermutations
-count-on-card a = count-of-session a
+answer-is-of-session a line c =
+    answer-to-card line (a .separator) (a .words) c
+    ∙ accepted-answer (a .words) (a .separator) (start-accepted (a .words) (a .separator) (a .opens))
+    ∙ ap (okText (tagOf a)) (sym (count-of-session a))
+
+-- The bytes that a call of `feed` wrote and took, by the numbers of its answer, are `writes` and `takes`.
+pub written-and-used : (line : List ℕ) (n : ℕ) (piece buffer : List ℕ)
+    → (take (fed line n piece buffer .written) (outputAfter line n piece buffer) ≡ writes line n piece buffer)
+    × (take (fed line n piece buffer .used) piece ≡ takes piece buffer)
+written-and-used line n piece buffer = (written-bytes line n piece buffer, used-bytes line n piece buffer)
 
 -- However an input is cut: calls of `feed` in turn, each with any piece and any output, and then `end`, with an output that has room, write
 -- the output of what the calls took. `line` is the 2,049 places for the line in progress, which may hold anything at the start.
@@ -59,20 +76,23 @@ pub output-however-cut : (line : List ℕ) (cs : List Call) (last : List ℕ) �
     → written (record { line = line; held = 0 }) cs last ≡ output (taken cs)
 output-however-cut line cs last long room = written-output cs (record { line = line; held = 0 }) [] last (start-holds line long) room
 
--- So two ways of cutting the same input give the same output.
-pub two-ways-of-cutting : (line line′ : List ℕ) (cs cs′ : List Call) (last last′ : List ℕ) → length line ≡ 2049 → length line′ ≡ 2049
-    → hasRoom last ≡ true → hasRoom last′ ≡ true → taken cs ≡ taken cs′
-    → written (record { line = line; held = 0 }) cs last ≡ written (record { line = line′; held = 0 }) cs′ last′
-two-ways-of-cutting line line′ cs cs′ last last′ l l′ r r′ e =
-    output-however-cut line cs last l r ∙ ap output e ∙ sym (output-however-cut line′ cs′ last′ l′ r′)
-
--- What a call takes are the first bytes of its piece; and at least one, if there is one and the output has room. So a caller that goes on
--- with the rest has all of its input taken.
-pub taken-from-the-front : (piece room : List ℕ) → takes piece room ≡ take (length (takes piece room)) piece
-taken-from-the-front = takes-first
-
-pub something-is-taken : (piece room : List ℕ) → hasRoom room ≡ true → 0 < length piece → 0 < length (takes piece room)
+-- A call takes at least one byte, if there is one and the output has room.
+pub something-is-taken : (piece buffer : List ℕ) → hasRoom buffer ≡ true → 0 < length piece → 0 < length (takes piece buffer)
 something-is-taken = takes-some
+
+-- So a caller that lends what is left of each piece has all of its input answered, whatever the pieces;
+pub output-of-pieces : (line buffer : List ℕ) (pieces : List (List ℕ)) → length line ≡ 2049 → hasRoom buffer ≡ true
+    → written (record { line = line; held = 0 }) (callsOfAll buffer pieces) buffer ≡ output (joined pieces)
+output-of-pieces line buffer pieces long room =
+    output-however-cut line (callsOfAll buffer pieces) buffer long room ∙ ap output (all-taken buffer pieces room)
+
+-- and two ways of cutting the same input into pieces give the same output.
+pub two-ways-of-cutting : (line buffer : List ℕ) (pieces pieces′ : List (List ℕ)) → length line ≡ 2049 → hasRoom buffer ≡ true
+    → joined pieces ≡ joined pieces′
+    → written (record { line = line; held = 0 }) (callsOfAll buffer pieces) buffer
+    ≡ written (record { line = line; held = 0 }) (callsOfAll buffer pieces′) buffer
+two-ways-of-cutting line buffer pieces pieces′ long room e =
+    output-of-pieces line buffer pieces long room ∙ ap output e ∙ sym (output-of-pieces line buffer pieces′ long room)
 
 -- document 01's three lines
 line1 : List ℕ
@@ -97,7 +117,8 @@ unfolding line3 Below hexDigit hex separatorText decimalUpTo decimal callText ca
 card3 = record { short = lit≤ tt; bytes = tt; words = (lit< tt, tt); text = refl }
 
 answer1 : answer line1 ≡ ascii "(ok 80000006000000034142 1)"
-unfolding cardAnswer okText startNumber tagString wordBytes digits mergedWords phases merge join phaseOf wordOf isAbsorb lengthOf tooLong fullPermutations permutationsAt phasePermutations blockCount sum hexDigit hex decimalUpTo decimal if_then_else_ _or_ same any
+unfolding cardAnswer okText startNumber tooLong tagString wordBytes digits mergedWords phases merge join phaseOf wordOf isAbsorb lengthOf
+    fullPermutations permutationsAt phasePermutations blockCount sum hexDigit hex decimalUpTo decimal if_then_else_ _or_ same any
 answer1 = answer-to-card _ _ _ card1 ∙ refl
 
 answer2 : answer line2 ≡ ascii "(no 3)"

@@ -22,8 +22,9 @@ abbrev μ-loop : tie.MeasureT-loop
 
 add-at : tie.Need-add-at Inv-loop μ-loop
 add-at c =
-    let piece = c .before .before .before .before .before .before .before .before .before .before .before .before .before .before .before .args .piece .now in
-    let at = c .before .before .before .before .before .before .before .before .before .before .before .before .loop .at in
+    let at-loop = c .before .before .before .before .before .before .before .before .before .before .before .before in
+    let piece = at-loop .before .before .before .args .piece .now in
+    let at = at-loop .loop .at in
     let part = part-length at piece in
     let used = c .before .before .before .take-line .ensures in
     search needs
@@ -38,21 +39,25 @@ add-filled c =
 
 loop-less : tie.Need-loop-less Inv-loop μ-loop
 loop-less c =
-    let piece = c .before .before .before .before .before .before .before .before .before .before .before .before .before .before .before .before .args .piece .now in
-    let at = c .before .before .before .before .before .before .before .before .before .before .before .before .before .loop .at in
+    let at-loop = c .before .before .before .before .before .before .before .before .before .before .before .before .before in
+    let piece = at-loop .before .before .before .args .piece .now in
+    let at = at-loop .loop .at in
     let part = part-length at piece in
     let used = c .before .before .before .before .take-line .ensures in
     omega arith
 
 loop-again : tie.Need-loop-again Inv-loop μ-loop
 loop-again c =
-    let piece = c .before .before .before .before .before .before .before .before .before .before .before .before .before .before .before .before .args .piece .now in
-    let at-loop = c .before .before .before .before .before .before .before .before .before .before .before .before .before .loop in
+    let in-loop = c .before .before .before .before .before .before .before .before .before .before .before .before .before in
+    let piece = in-loop .before .before .before .args .piece .now in
+    let at-loop = in-loop .loop in
     let from = c .before .before .before .before .before .before .before .before .before .before .make-room .result .count in
     let part = part-length (at-loop .at) piece in
     let room = part-length from (at-loop .output) in
-    let taken = c .before .before .before .before .take-line .ensures in
-    let kept = same-len-mid from (length (at-loop .output) - from) (at-loop .output) (c .before .before .before .before .take-line .last .1 .1 .1 .0) (c .before .before .before .before .take-line .kept .1 .1 .1 .0) in
+    let take-line = c .before .before .before .before .take-line in
+    let taken = take-line .ensures in
+    let output = at-loop .output in
+    let kept = same-len-mid from (length output - from) output (take-line .last .1 .1 .1 .0) (take-line .kept .1 .1 .1 .0) in
     (kept ∙ at-loop .inv .0, omega arith, omega arith)
 
 pub answer-piece-spec : {M : Type 1} → statement M
