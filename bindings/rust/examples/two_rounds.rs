@@ -1,37 +1,15 @@
-//! A protocol of two rounds. Prover and verifier each derive the challenges from the messages, and print them.
+//! A protocol of two rounds: the prover commits and gets a challenge, responds and gets another.
 
-use tuilarder::{Call, Pattern, Refusal, Session};
-
-/// What the prover sends.
-pub struct Messages {
-    pub commitment: [u32; 4],
-    pub response: [u32; 2],
-}
-
-/// The challenges of both rounds: one after the commitment, one after the response.
-pub fn challenges(messages: &Messages) -> Result<[u32; 2], Refusal> {
-    let pattern = Pattern::new(&[Call::Absorb(4), Call::Squeeze(1), Call::Absorb(2), Call::Squeeze(1)])?;
-    let mut session = Session::start(&pattern, b"two rounds")?;
-    session.absorb(&messages.commitment)?;
-    let [first] = session.challenge()?;
-    session.absorb(&messages.response)?;
-    let [second] = session.challenge()?;
-    session.finish()?;
-    Ok([first, second])
-}
-
-/// What the program prints.
-pub fn report() -> Result<String, Refusal> {
-    let messages = Messages {
-        commitment: [11, 22, 33, 44],
-        response: [55, 66],
-    };
-    let by_prover = challenges(&messages)?;
-    let by_verifier = challenges(&messages)?;
-    Ok(format!("prover {by_prover:?}\nverifier {by_verifier:?}\n"))
-}
+use tuilarder::{Call::*, Pattern, Refusal, Session};
 
 fn main() -> Result<(), Refusal> {
-    print!("{}", report()?);
+    let pattern = Pattern::new(&[Absorb(4), Squeeze(1), Absorb(2), Squeeze(1)])?;
+    let mut session = Session::start(&pattern, b"two rounds")?;
+    session.absorb(&[11, 22, 33, 44])?; // the commitment
+    let [first] = session.challenge()?;
+    session.absorb(&[55, 66])?; // the response
+    let [second] = session.challenge()?;
+    session.finish()?;
+    println!("challenges {first} and {second}");
     Ok(())
 }

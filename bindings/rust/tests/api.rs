@@ -10,10 +10,6 @@ use tuilarder::ffi::Record;
 use tuilarder::{permute, sha3_256, Call, Pattern, Refusal, Session, CAPACITY, PRIME, RATE, WIDTH};
 use Call::{Absorb, Squeeze};
 
-#[allow(dead_code)]
-#[path = "../examples/two_rounds.rs"]
-mod two_rounds;
-
 const ABSORB_BIT: u32 = 1 << 31;
 const MAX_LENGTH: u32 = 2147483647;
 
@@ -246,12 +242,6 @@ fn sessions_of_b4_to_b7_squeeze_what_the_second_implementation_does() {
     assert_eq!(run(&[9, 1]), (vec![774647143], 2));
     assert_eq!(run(&[1, 9]), (b6.to_vec(), 2));
     assert_eq!(run(&[8, 8, 1, 1]), (b7.to_vec(), 2));
-}
-
-#[test]
-fn the_example_prints_the_second_implementations_challenges() {
-    let expected = "prover [1230312087, 687121981]\nverifier [1230312087, 687121981]\n";
-    assert_eq!(two_rounds::report().unwrap(), expected);
 }
 
 fn two_rounds_session() -> Session {

@@ -1,0 +1,13 @@
+//! What the examples do first.
+
+use tuilarder::{Call, Pattern, Refusal, Session};
+
+/// Opens a session, and prints its tag string. Sessions of one tag string are the same session until they absorb different elements.
+pub fn open(calls: &[Call], separator: &[u8]) -> Result<Session, Refusal> {
+    let pattern = Pattern::new(calls)?;
+    let mut buffer = [0; Pattern::MAX_TAG_STRING];
+    let string = pattern.tag_string(separator, &mut buffer)?;
+    let hexadecimal: String = string.iter().map(|byte| format!("{byte:02x}")).collect();
+    println!("tag string {hexadecimal}");
+    Session::start(&pattern, separator)
+}

@@ -1,0 +1,289 @@
+#!/usr/bin/env python3
+"""What README.md and docs/GUIDE.md show of the examples in bindings/rust/examples.
+
+  tests/docs.py test
+  tests/docs.py oracle safe_oracle.py
+
+`test` runs every example and compares what it prints with the documents, looks for the code that they show in the examples, and draws
+docs/session.svg again. What the documents show is from another implementation: safe_oracle.py, in Python, written from document 01 by other
+hands. `oracle` does every example once more over that, and compares.
+"""
+import glob
+import importlib.util
+import os
+import re
+import subprocess
+import sys
+
+ROOT = os.path.dirname(os.path.dirname(os.path.abspath(__file__)))
+EXAMPLES = os.path.join(ROOT, "bindings", "rust", "examples")
+ABSORB = 1 << 31
+REFUSALS = {
+    2: "a word of length 0",
+    3: "first word is SQUEEZE",
+    4: "last word is ABSORB",
+    7: "record not open",
+    8: "open record not sound",
+    9: "call of the wrong kind, past the phase's end, or after the last phase",
+    10: "an element of 2013265921 or more",
+    13: "no tag string of that separator length",
+}
+
+
+def read(*path):
+    with open(os.path.join(ROOT, *path)) as file:
+        return file.read()
+
+
+def blocks(language):
+    """The blocks of a language that the documents show."""
+    for document in (["README.md"], ["docs", "GUIDE.md"]):
+        yield from re.findall(rf"^```{language}\n(.*?)^```$", read(*document), re.DOTALL | re.MULTILINE)
+
+
+def shown():
+    """What the documents show of each example."""
+    runs = (re.fullmatch(r"\$ cargo run -q --example (\w+)\n(.*)", block, re.DOTALL) for block in blocks("console"))
+    return {run[1]: run[2] for run in runs if run}
+
+
+# ---- the examples, run
+
+def printed(example):
+    command = ["cargo", "run", "-q", "--offline", "--locked", "--example", example]
+    return subprocess.run(command, cwd=os.path.dirname(EXAMPLES), stdout=subprocess.PIPE, text=True, check=True).stdout
+
+
+def test():
+    examples = {os.path.basename(path)[:-3]: open(path).read() for path in glob.glob(os.path.join(EXAMPLES, "*.rs"))}
+    outputs = shown()
+    assert set(outputs) == set(examples) - {"states"}, set(outputs) ^ set(examples)
+    for example, output in outputs.items():
+        assert printed(example) == output, example
+    for code in blocks("rust"):
+        assert any(code in text for text in examples.values()), code
+    picture = os.path.join(ROOT, "docs", "session_picture.py")
+    drawn = subprocess.run([picture], input=printed("states"), stdout=subprocess.PIPE, text=True, check=True).stdout
+    assert drawn == read("docs", "session.svg"), "docs/session.svg is not what docs/session_picture.py draws"
+    print(f"docs: {len(outputs)} examples print what is shown")
+
+
+# ---- the examples over the second implementation
+
+class Session:
+    """A session of the second implementation. A refused call raises its number."""
+
+    def __init__(self, record):
+        self.record = record
+
+    def absorb(self, elements):
+        number, self.record = oracle.absorb(self.record, elements)
+        refuse(number)
+
+    def squeeze(self, length):
+        number, self.record, elements = oracle.squeeze(self.record, [0] * length)
+        refuse(number)
+        return elements
+
+    def finish(self):
+        number, self.record = oracle.finish(self.record)
+        refuse(number)
+
+    def __str__(self):
+        record = self.record
+        place = ", ".join(f"{name}: {record[name]}" for name in ("phase", "done", "permutations"))
+        return f"Session {{ open: {'true' if record['status'] == 1 else 'false'}, {place}, .. }}"
+
+
+class Refused(Exception):
+    def __str__(self):
+        return f"refused with {self.args[0]}: {REFUSALS[self.args[0]]}"
+
+
+def refuse(number):
+    if number:
+        raise Refused(number)
+
+
+def refusal(call, *arguments):
+    try:
+        call(*arguments)
+    except Refused as refused:
+        return refused
+
+
+def words(calls):
+    """Calls as "a3 s1"."""
+    return [(ABSORB if call[0] == "a" else 0) + int(call[1:]) for call in calls.split()]
+
+
+def opened(out, calls, separator):
+    out.append(f"tag string {oracle.tag_string(words(calls), separator).hex()}")
+    number, record = oracle.start(words(calls), separator)
+    refuse(number)
+    return Session(record)
+
+
+def whole(out, calls, separator, *messages):
+    """All that a session squeezes that takes a message for each ABSORB."""
+    session, messages, squeezed = opened(out, calls, separator), list(messages), []
+    for call in calls.split():
+        if call[0] == "a":
+            session.absorb(messages.pop(0))
+        else:
+            squeezed += session.squeeze(int(call[1:]))
+    session.finish()
+    return squeezed
+
+
+def element(out):
+    session = opened(out, "a2 s1", b"element")
+    session.absorb([oracle.P - 1])
+    out += ["2013265920 is absorbed", f"2013265921 is {refusal(session.absorb, [oracle.P])}"]
+    session.absorb([7])
+    out.append(f"challenge {session.squeeze(1)[0]}")
+    session.finish()
+
+
+def pattern(out):
+    declared = words("a3 a3 s3")
+    out += [f"{name} [{', '.join('%08x' % w for w in ws)}]" for name, ws in (("declared", declared), ("merged", oracle.merged(declared)))]
+    for calls, name in (("s1", "[Squeeze(1)]"), ("a1", "[Absorb(1)]"), ("a3 s0", "[Absorb(3), Squeeze(0)]")):
+        out.append(f"{name} is {Refused(oracle.start_number(words(calls), b''))}")
+
+
+def tag_string(out):
+    def bytes_of(string):
+        return f"[{', '.join('%02x' % byte for byte in string)}]"
+    string = oracle.tag_string(words("a3 a3 s3"), b"AB")
+    number, merged, count, separator = oracle.read_tag(string, 2)
+    assert (number, merged[:count]) == (0, words("a6 s3"))
+    out += [f"tag string {bytes_of(string)}", f"read with length 2: Pattern [Absorb(6), Squeeze(3)], separator {bytes_of(separator)}",
+            f"read with length 3: {Refused(oracle.read_tag(string, 3)[0])}"]
+
+
+def session(out):
+    first = opened(out, "a3 s2", b"session")
+    out.append(str(first))
+    for elements in ([1, 2], [3]):
+        first.absorb(elements)
+        out.append(str(first))
+    challenges = first.squeeze(2)
+    out += [str(first), f"challenges {challenges}"]
+    first.finish()
+    second = opened(out, "a3 s2", b"session")
+    second.absorb([1, 2])
+    out.append(f"SQUEEZE before the third element is {refusal(second.squeeze, 2)}")
+    out.append(f"and the record is wiped: ABSORB is {refusal(second.absorb, [3])}")
+
+
+def block(out):
+    for message in ([*range(1, 9)], [*range(1, 10)], [*range(1, 10), 0]):
+        taken = opened(out, f"a{len(message)} s1", b"block")
+        taken.absorb(message)
+        count = taken.record["permutations"]
+        out.append(f"{count} permutations to absorb {message}, challenge {taken.squeeze(1)[0]}")
+        taken.finish()
+
+
+def fixed_length_hash(out):
+    for message in ([1, 2, 3, 4, 5], [1, 2, 3, 4, 6]):
+        out.append(str(whole(out, "a5 s8", b"hash5", message)))
+
+
+def merkle_node(out):
+    def parent(left, right):
+        return whole(out, "a8 a8 s8", b"node", left, right)
+    a, b, c, d = ([k] * 8 for k in (1, 2, 3, 4))
+    out.append(f"root {parent(parent(a, b), parent(c, d))}")
+
+
+def commitment(out):
+    out.append(str(whole(out, "a2 a2 a2 s8", b"3 pairs", [1, 2], [3, 4], [5, 6])))
+    out.append(str(whole(out, "a3 a3 s8", b"2 trios", [1, 2, 3], [4, 5, 6])))
+
+
+def sigma_protocol(out):
+    for name, last in (("prover", 33), ("verifier", 33), ("third message changed", 34)):
+        messages = [1, 2], [11, 12, 13, 14], [21, 22], [31, 32, last]
+        out.append(f"{name} {whole(out, 'a2 a4 a2 s1 a3 s1 s1', b'sigma', *messages)}")
+
+
+def stream(out):
+    elements, plain = whole(out, "a8 a2 s5", b"cipher", [*range(1, 9)], [0, 1]), [100, 200, 300, 400, 500]
+    out += [f"cipher {[(x + y) % oracle.P for x, y in zip(elements, plain)]}", f"plain {plain}"]
+    random = whole(out, "a8 s3 a8 s2", b"random", [9] * 8, [10] * 8)
+    out.append(f"random {random[:3]}, reseeded {random[3:]}")
+
+
+def shared_separator(out):
+    for payment, refund in ((b"house", b"house"), (b"house/p", b"house/r")):
+        out.append(f"payment {whole(out, 'a4 s1', payment, [5, 6, 7, 8])[0]}")
+        out.append(f"refund {whole(out, 'a1 a3 s1', refund, [5], [6, 7, 8])[0]}")
+
+
+def unequal_separators(out):
+    short, long = opened(out, "a1 s1", bytes.fromhex("8000000200000002")), opened(out, "a1 s1 a2 s2", b"")
+    short.absorb([5])
+    long.absorb([5])
+    out.append(f"{short.squeeze(1)} {long.squeeze(1)}")
+    short.finish()
+
+
+def cut_differently(out):
+    out.append(str(whole(out, "a6 s2", b"cut", [1, 2, 3, 4, 5, 6])))
+    cut = opened(out, "a3 a3 s2", b"cut")
+    for piece in ([1, 2], [], [3, 4, 5, 6]):
+        cut.absorb(piece)
+    out.append(f"{cut.squeeze(1)} {cut.squeeze(1)}")
+    other = opened(out, "a3 s1 a3 s1", b"cut")
+    other.absorb([1, 2, 3])
+    out.append(str(other.squeeze(1)))
+    past = opened(out, "a6 s2", b"cut")
+    past.absorb([1, 2, 3, 4])
+    out.append(f"a call past the sixth element is {refusal(past.absorb, [5, 6, 7])}")
+
+
+def copied_record(out):
+    original = opened(out, "a2 s1 a1 s1", b"fork")
+    original.absorb([1, 2])
+    copy = Session(oracle.copy(original.record))
+    out.append(f"first challenges {original.squeeze(1)} {copy.squeeze(1)}")
+    original.absorb([3])
+    copy.absorb([4])
+    out.append(f"second challenges {original.squeeze(1)} {copy.squeeze(1)}")
+    original.finish()
+    out.append(f"after the original's FINISH: {copy}")
+
+
+def foreign_record(out):
+    ours = opened(out, "a2 s1", b"ours").record
+    out.append(f"absorb position 9 is {refusal(Session({**ours, 'absorb_at': 9}).absorb, [1, 2])}")
+    for record in (ours, {**ours, "state": [0] * 24}):
+        taken = Session(oracle.copy(record))
+        taken.absorb([1, 2])
+        out.append(f"challenge {taken.squeeze(1)[0]}")
+        taken.finish()
+
+
+def two_rounds(out):
+    first, second = whole([], "a4 s1 a2 s1", b"two rounds", [11, 22, 33, 44], [55, 66])
+    out.append(f"challenges {first} and {second}")
+
+
+def compare():
+    for example, output in shown().items():
+        out = []
+        globals()[example](out)
+        assert "\n".join(out) + "\n" == output, example
+    print(f"docs: {len(shown())} examples are shown with what the second implementation gives")
+
+
+if __name__ == "__main__":
+    if sys.argv[1] == "test":
+        test()
+    else:
+        specification = importlib.util.spec_from_file_location("oracle", sys.argv[2])
+        oracle = importlib.util.module_from_spec(specification)
+        specification.loader.exec_module(oracle)
+        compare()
