@@ -6,6 +6,9 @@ mod ffi;
 #[path = "../bindings/rust/tests/independent/mod.rs"]
 mod independent;
 mod measure;
+#[macro_use]
+#[path = "../bindings/rust/tests/same_fields/mod.rs"]
+mod same_fields;
 
 use ffi::Record;
 use independent::Session;
@@ -28,17 +31,7 @@ fn library_absorb(record: &mut Record, elements: &[u32]) {
 }
 
 fn session_of(record: &Record) -> Session {
-    Session {
-        status: record.status,
-        state: record.state,
-        words: record.words,
-        count: record.count,
-        phase: record.phase,
-        done: record.done,
-        absorb_position: record.absorb_position,
-        squeeze_position: record.squeeze_position,
-        permutations: record.permutations,
-    }
+    same_fields!(Session, record)
 }
 
 // START, and the first phases of the pattern.

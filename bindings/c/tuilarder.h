@@ -9,8 +9,9 @@
  *         || tuilarder_finish(&session) != TUILARDER_ACCEPTED)
  *         return 0;                                                     turned away: there is no challenge
  *
- * ALL PROTOCOLS OF ONE VERIFIER NEED SEPARATORS OF ONE LENGTH. With separators of unequal length, two patterns can have the same tag
- * string, and then the two protocols get the same challenges for the same messages.
+ * EVERY PROTOCOL OF A VERIFIER NEEDS A SEPARATOR OF ITS OWN, AND ALL OF THEM ONE LENGTH. Two protocols with one separator and one merged
+ * pattern have the same tag string (calls of 3 and 3 elements merge to one of 6), and with separators of unequal length other patterns can
+ * have it too. Then the two protocols get the same challenges for the same messages. docs/GUIDE.md shows both.
  *
  * What a list, a string or a record holds is free: the functions take every content, and answer with a number where they turn a call away.
  * What the functions cannot look at is the caller's duty:
@@ -138,7 +139,8 @@ TUILARDER_ASSERT(sizeof(size_t) == 8 && sizeof(void *) == 8);
 
 /*
  * START: opens a session for a pattern and a separator in the record, whatever that held. Checks 1 to 6 in number order, whichever word is
- * at fault. Refused, it leaves a wiped record. The separator names the protocol, by as many bytes as in every other one of the verifier.
+ * at fault. Refused, it leaves a wiped record. The separator names the protocol: no two of a verifier have the same, and all of them have
+ * one length.
  */
 TUILARDER_ANSWER tuilarder_start(struct tuilarder_session *record, const uint32_t *words, size_t words_length,
                                  const uint8_t *separator, size_t separator_length);

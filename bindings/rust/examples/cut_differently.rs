@@ -26,6 +26,9 @@ fn main() -> Result<(), Refusal> {
 
     // No call reaches past its phase.
     let refusal = absorbed(&[Absorb(6), Squeeze(2)], &[&[1, 2, 3, 4], &[5, 6, 7]]).unwrap_err();
-    println!("a call past the sixth element is refused with {}: {refusal}", refusal.number());
+    println!(
+        "a call past the sixth element is refused with {}: {refusal}",
+        refusal.number()
+    );
     Ok(())
 }

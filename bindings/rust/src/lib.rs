@@ -7,10 +7,11 @@
 //!
 //! # Separators
 //!
-//! **All protocols of one verifier need separators of one length.** Then, as is proved, no two of them share a tag string unless merged
-//! patterns and separators are both equal. With separators of unequal length, two patterns can have the same tag string, and then the two
-//! protocols get the same challenges for the same messages: a tag string is the pattern's words in bytes with the separator behind them, and
-//! says nowhere where the separator begins.
+//! **Every protocol of a verifier needs a separator of its own, and all of them one length.** Then, as is proved, no two of them share a tag
+//! string. Sessions of one tag string get the same challenges for the same messages, so a proof made for one protocol passes in the other.
+//! With one separator, two protocols share it where their merged patterns are equal: calls of 3 and 3 elements merge to one of 6. With
+//! separators of unequal length, other patterns can share it too: a tag string is the merged pattern's words in bytes with the separator
+//! behind them, and says nowhere where the separator begins.
 //!
 //! # A protocol of two rounds
 //!
@@ -35,7 +36,7 @@
 //! let by_verifier = challenges([11, 22, 33, 44], [55, 66])?;
 //! assert_eq!(by_prover, by_verifier);
 //!
-//! // Another response changes the second challenge alone.
+//! // Here another response changes the second challenge alone.
 //! let other = challenges([11, 22, 33, 44], [55, 67])?;
 //! assert_eq!(other[0], by_prover[0]);
 //! assert_ne!(other[1], by_prover[1]);

@@ -46,7 +46,7 @@ impl Call {
 /// A pattern that START accepts: the calls that a protocol declares.
 ///
 /// Two patterns are equal if they declare the same calls. The sponge sees merged patterns, in which neighbours of one kind are added
-/// together ([`Pattern::merged`]): with separators of one length, two protocols open the same session exactly if merged patterns and
+/// together ([`Pattern::merged`]): with separators of one length, two protocols have the same tag string exactly if merged patterns and
 /// separators are both equal.
 #[derive(Clone, PartialEq, Eq, Hash)]
 pub struct Pattern {

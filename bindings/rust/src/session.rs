@@ -9,15 +9,15 @@ use crate::refusal::{result, Refusal};
 /// One use of the sponge, from START to FINISH.
 ///
 /// A session is neither `Clone` nor `Copy`, so that no second one is made by accident: [`Session::fork`] makes one. When it is dropped, its
-/// record is wiped. As all moves in Rust, that of a session leaves its bytes behind in the old place, and so do the library's own copies on
-/// the stack: no secrecy is claimed.
+/// record is wiped. As all moves in Rust, that of a session may leave its bytes behind in the old place, and so may the library's own copies
+/// on the stack: no secrecy is claimed.
 pub struct Session {
     record: Record,
 }
 
 impl Session {
-    /// START: a session for a pattern and a separator, the byte string that names the protocol. All protocols of one verifier need
-    /// separators of one length: see the [crate's page](crate#separators).
+    /// START: a session for a pattern and a separator, the byte string that names the protocol. Each protocol of a verifier needs one of its
+    /// own, and all of them one length: see the [crate's page](crate#separators).
     ///
     /// # Errors
     ///

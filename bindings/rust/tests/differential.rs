@@ -6,6 +6,8 @@
 
 mod guarded;
 mod independent;
+#[macro_use]
+mod same_fields;
 
 use guarded::{Any, Random};
 use independent::{length, Session, ABSORB, LONGEST, MOST_WORDS, P};
@@ -140,34 +142,6 @@ enum Call {
     Finish,
 }
 
-fn session_of(record: &Record) -> Session {
-    Session {
-        status: record.status,
-        state: record.state,
-        words: record.words,
-        count: record.count,
-        phase: record.phase,
-        done: record.done,
-        absorb_position: record.absorb_position,
-        squeeze_position: record.squeeze_position,
-        permutations: record.permutations,
-    }
-}
-
-fn record_of(session: &Session) -> Record {
-    Record {
-        status: session.status,
-        state: session.state,
-        words: session.words,
-        count: session.count,
-        phase: session.phase,
-        done: session.done,
-        absorb_position: session.absorb_position,
-        squeeze_position: session.squeeze_position,
-        permutations: session.permutations,
-    }
-}
-
 /// The call by the library: its name, the number, and the buffer it left.
 fn by_library(noise: &mut Random, record: &mut Record, call: &Call) -> (&'static str, u32, Vec<u32>) {
     match call {
@@ -183,7 +157,7 @@ fn by_library(noise: &mut Random, record: &mut Record, call: &Call) -> (&'static
 
 /// The call by the independent implementation: the number, the record and the buffer it left.
 fn by_independent(record: &Record, call: &Call) -> (u32, Record, Vec<u32>) {
-    let mut session = session_of(record);
+    let mut session = same_fields!(Session, record);
     let mut left = vec![];
     let number = match call {
         Call::Start(words, separator) => {
@@ -198,7 +172,7 @@ fn by_independent(record: &Record, call: &Call) -> (u32, Record, Vec<u32>) {
         }
         Call::Finish => independent::finish(&mut session),
     };
-    (number, record_of(&session), left)
+    (number, same_fields!(Record, session), left)
 }
 
 impl Run {
