@@ -5,8 +5,8 @@
   tests/claims.py papers FOLDER
 
 `test` fails where a name that a document cites is not in the tree, where docs/CLAIMS.md does not name a public function with two of the wrong
-answers that its contract rules out, and where it leaves out a must-fail edit. `papers` prints the sentences of documents 00 and 01, in
-FOLDER, that docs/CLAIMS.md does not quote.
+answers that its contract rules out, where it leaves out a must-fail edit, and where the README shows another closing line of the gate. `papers`
+prints the sentences of documents 00 and 01, in FOLDER, that docs/CLAIMS.md does not quote.
 """
 import glob
 import os
@@ -119,6 +119,10 @@ def test():
         if len(table.get(function, set()) & edits()) < 2:
             missing.append(f"{CLAIMS}: two edits for {function}")
     missing += [f"{CLAIMS}: the edit {edit}" for edit in sorted(edits() - set(cited(CLAIMS)))]
+    # the gate counts a crate and an edit as one each
+    closing = f"{len(crates()) + len(edits())} passed, 0 failed"
+    if f"\n{closing}\n" not in read("README.md"):
+        missing.append(f"README.md: {closing}")
     if missing:
         sys.exit("not found:\n" + "\n".join(missing))
     print(f"claims: {sum(len(cited(document)) for document in DOCUMENTS)} names, {len(items(True))} public functions, {len(edits())} edits")
