@@ -1,9 +1,8 @@
 // Arithmetic modulo p on any numbers of 32 bits, reduced or not.
 ghost use mathlib.Core.Path.{_≡_};
 ghost use Prim.Native.Nat.{_+_, _*_, _%_, _^_};
-ghost use lib.Dec.{ltb};
 ghost use Rattle.basics.specs.Logic.{all};
-ghost use Rattle.field.specs.Field.{p};
+ghost use Rattle.field.specs.Field.{p, isElement};
 
 // The modulus p.
 pub const P: u32 = 2013265921;
@@ -43,7 +42,7 @@ pub fn seventh_power(a: u32) -> u32
 
 // Whether every number is below p.
 pub fn is_reduced(elements: &[u32]) -> bool
-    ensures { λ r. ⌜ r ≡ all (λ x. ltb x p) (now (elements .entry)) ⌝ }
+    ensures { λ r. ⌜ r ≡ all isElement (now (elements .entry)) ⌝ }
 {
     for i in 0..elements.len() {
         if P <= elements[i] {

@@ -6,7 +6,7 @@ use lib.ListN.{getD, set}
 use Rattle.basics.specs.Logic.{if_then_else_, all}
 use Rattle.basics.specs.Lists.{tabulate, sum}
 use Rattle.basics.specs.Numbers.{accepted, elementNotReduced}
-use Rattle.field.specs.Field.{p}
+use Rattle.field.specs.Field.{p, isElement}
 use Rattle.poseidon.specs.Tables.{constants, inverses}
 use Rattle.poseidon.specs.declared.Permuted.{Permuted}
 
@@ -60,5 +60,5 @@ babyBear = record { modulus = p; power = 7; partialRounds = 21; constants = cons
 -- "The permutation gives 10 and its input back" where an element is p or more.
 unfoldable pub permuted : List ℕ → Permuted
 permuted s =
-    if all (λ x. ltb x p) s then record { number = accepted; state = permutation babyBear s }
+    if all isElement s then record { number = accepted; state = permutation babyBear s }
     else record { number = elementNotReduced; state = s }
