@@ -1,4 +1,4 @@
-// Arithmetic modulo p on any numbers of 32 bits, reduced or not.
+// Arithmetic modulo p. Every function takes all numbers of its type, below p or not.
 ghost use mathlib.Core.Path.{_≡_};
 ghost use Prim.Native.Nat.{_+_, _*_, _%_, _^_};
 ghost use Rattle.basics.specs.Logic.{all};
@@ -7,6 +7,7 @@ ghost use Rattle.field.specs.Field.{p, isElement};
 // The modulus p.
 pub const P: u32 = 2013265921;
 
+// The remainder modulo p of a number of 64 bits.
 pub fn reduce(x: u64) -> u32
     ensures { λ r. ⌜ r ≡ x % p ⌝ }
 {
@@ -20,18 +21,21 @@ pub fn wide_mul(a: u32, b: u32) -> u64
     (a as u64) * (b as u64)
 }
 
+// The sum modulo p.
 pub fn add(a: u32, b: u32) -> u32
     ensures { λ r. ⌜ r ≡ (a + b) % p ⌝ }
 {
     reduce(a as u64 + b as u64)
 }
 
+// The product modulo p.
 pub fn mul(a: u32, b: u32) -> u32
     ensures { λ r. ⌜ r ≡ (a * b) % p ⌝ }
 {
     reduce(wide_mul(a, b))
 }
 
+// The seventh power modulo p, in four products.
 pub fn seventh_power(a: u32) -> u32
     ensures { λ r. ⌜ r ≡ a ^ 7 % p ⌝ }
 {

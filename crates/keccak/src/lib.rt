@@ -81,6 +81,7 @@ fn padding_lane(data: &[u8], k: usize) -> u64
     )
 }
 
+// The lane that begins at the byte k of the padded message, by the quicker of the two ways.
 fn padded_lane(data: &[u8], k: usize) -> u64
     requires { ⌜ k ≤ length (now «data») + 136 ⌝ }
     ensures { λ r. ⌜ r ≡ laneAt (padded (now («data» .entry))) k ⌝ }
@@ -102,6 +103,7 @@ fn added_lane(a: &[u64; 25], data: &[u8], n: usize, i: usize) -> u64
     a[i]
 }
 
+// The state with the block n of the padded message added.
 fn add_block(a: [u64; 25], data: &[u8], n: usize) -> [u64; 25]
     requires { ⌜ 136 * n ≤ length (now «data») ⌝ }
     ensures { λ r. ⌜ r ≡ addBlock a (block (padded (now («data» .entry))) n) ⌝ }
@@ -113,6 +115,7 @@ fn add_block(a: [u64; 25], data: &[u8], n: usize) -> [u64; 25]
     out
 }
 
+// The byte i of the state, the lowest byte of a lane first.
 fn byte_of(a: &[u64; 25], i: usize) -> u8
     requires { ⌜ i < 32 ⌝ }
     ensures { λ r. ⌜ r ≡ byteOf (now (a .entry)) i ⌝ }
@@ -121,6 +124,7 @@ fn byte_of(a: &[u64; 25], i: usize) -> u8
     ((a[i / 8] >> right) % 256) as u8
 }
 
+// The first 32 bytes of the state.
 fn squeeze(a: [u64; 25]) -> [u8; 32]
     ensures { λ r. ⌜ r ≡ squeeze a ⌝ }
 {

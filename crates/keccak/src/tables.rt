@@ -64,6 +64,7 @@ pub fn offsets() -> [u64; 25]
     OFFSETS
 }
 
+// What iota adds in each round.
 pub fn round_constants() -> [u64; 24]
     ensures { λ r. ⌜ r ≡ roundConstants ⌝ }
 {

@@ -175,7 +175,7 @@ table-found =
     ∙ ap (take 696) (run-is 130992 (after 160 first) [] (after-bound 160 first first-bound) (lit< tt))
     ∙ computed
 
--- "a program compares it with the generator's output": the generator gives the table, and finds it whole
+-- "The 696 round constants come from Poseidon's Grain generator."
 pub table-generated : generated ≡ record { constants = constants; count = 696 }
 unfolding generated constants
 table-generated = rw table-found

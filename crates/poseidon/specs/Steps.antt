@@ -1,4 +1,4 @@
--- Definitions that no public contract cites: what it is to be reduced, and what the private steps of the generator promise.
+-- Definitions that no public contract cites: what private functions of the crate take and give.
 use mathlib.Core.Bool.{true, false}
 use mathlib.Core.List.{List, [], _∷_}
 use mathlib.Core.Path.{_≡_}

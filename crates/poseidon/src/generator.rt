@@ -13,6 +13,7 @@ const DROPPED: usize = 160;
 // How many new bits may be taken, those dropped included.
 const LIMIT: usize = 262144;
 
+// How many new bits may be taken behind those dropped.
 const USABLE: usize = LIMIT - DROPPED;
 
 // The constants found, then zeros, and how many were found.
@@ -48,6 +49,7 @@ fn widen(bit: u8) -> u32
     bit as u32
 }
 
+// The exclusive or of the six register bits, as the parity of their sum.
 fn next_bit(register: &[u8; 80]) -> u8
     ensures { λ r. ⌜ r ≡ nextBit (now (register .entry)) ⌝ }
 {
@@ -88,6 +90,7 @@ fn start() -> [u8; 80]
     register
 }
 
+// Takes new bits in pairs until the first of a pair is 1, or fewer than two are left.
 fn next_output(source: Source) -> Output
     ensures { λ r. ⌜ NextOutput source r ⌝ }
 {
@@ -113,6 +116,7 @@ fn next_output(source: Source) -> Output
     }
 }
 
+// The number that the next 31 output bits write, first highest.
 fn next_candidate(source: Source) -> Candidate
     ensures { λ r. ⌜ NextCandidate source r ⌝ }
 {
