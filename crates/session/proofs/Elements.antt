@@ -1,16 +1,16 @@
 -- One element absorbed or squeezed, by the parts of the sponge.
 -- Assumes nothing.
 use mathlib.Core.Path.{_≡_, refl, ap}
-use mathlib.Core.Bool.{Bool, true}
-use mathlib.Core.List.{List, [], _∷_}
-use Prim.Native.Nat.{ℕ, zero, suc, _+_, _%_, _≤_}
+use mathlib.Core.Bool.{true}
+use mathlib.Core.List.{List}
+use Prim.Native.Nat.{ℕ, _+_, _%_, _≤_}
 use native.Mathlib.Nat.{mod-lt, add-zero}
 use native.Mathlib.Omega.{arith}
 use borrow.Author.Tests.{eqb-true, eqb-false, lt-ltb}
 use lib.Dec.{eqb, lit<}
 use lib.ListN.{getD, set}
 use Rattle.basics.specs.Logic.{if_then_else_, all}
-use Rattle.basics.proofs.Cases.{by, cases, if-true, and-left, and-right, and-both}
+use Rattle.basics.proofs.Cases.{by, cases, if-true, all-set}
 use Rattle.field.specs.Field.{p, isElement}
 use Rattle.poseidon.specs.Permutation.{babyBear, permuted}
 use Rattle.poseidon.specs.declared.Permuted.{Permuted}
@@ -36,12 +36,6 @@ permuted-state s e = ap (λ (r : Permuted). r .state) (if-true _ _ _ e)
 pub permute-reduced : (s : List ℕ) → all isElement (permute s) ≡ true
 unfolding permute babyBear
 permute-reduced s = all-reduced p _ (permutation-reduced babyBear (lit< tt) s)
-
-all-set : (f : ℕ → Bool) (l : List ℕ) (i v : ℕ) → all f l ≡ true → f v ≡ true → all f (set l i v) ≡ true
-unfolding all
-all-set f [] i v e h = refl
-all-set f (x ∷ xs) zero v e h = and-both _ _ h (and-right _ _ e)
-all-set f (x ∷ xs) (suc i) v e h = and-both _ _ (and-left _ _ e) (all-set f xs i v (and-right _ _ e) h)
 
 pub state-reduced : (n : ℕ) (s : List ℕ) → all isElement s ≡ true → all isElement (stateFor n s) ≡ true
 unfolding stateFor
