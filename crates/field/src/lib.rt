@@ -11,7 +11,7 @@ pub const P: u32 = 2013265921;
 pub fn reduce(x: u64) -> u32
     ensures { λ r. ⌜ r ≡ x % p ⌝ }
 {
-    (x % 2013265921) as u32
+    (x % P as u64) as u32
 }
 
 // The product before its reduction, for sums of several products that are reduced once.
