@@ -11,6 +11,9 @@ ghost use Rattle.keccak.specs.Steps.{littleEndian};
 // The bytes of a block: 1088 bits, which with the capacity of 512 bits are the state.
 const RATE: usize = 136;
 
+// The place of the last byte of a block.
+const LAST: usize = RATE - 1;
+
 // The byte i of the padded message: behind the message come the bits 0 1, 1, 0 .. 0, 1, the lowest bit of a byte first.
 fn padded_byte(data: &[u8], i: usize) -> u8
     ensures { λ r. ⌜ r ≡ getD (padded (now («data» .entry))) i 0 ⌝ }
@@ -20,7 +23,7 @@ fn padded_byte(data: &[u8], i: usize) -> u8
         return data[i];
     }
     // the last byte of the last block
-    let last = n / RATE * RATE + 135;
+    let last = n / RATE * RATE + LAST;
     if i == n {
         if i == last {
             return 0x86;

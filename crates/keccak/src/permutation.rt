@@ -1,5 +1,6 @@
 // The permutation Keccak-f[1600]. A state is 25 lanes by value; each step makes the next state of five planes, where a plane is the
 // five lanes of one y.
+use crate::tables;
 ghost use mathlib.Core.Path.{_≡_};
 ghost use Prim.Native.Nat.{_<_};
 ghost use Rattle.keccak.specs.Permutation.{lane, rotate, parity, effect, thetaLane, theta, rhoLane, rho, piLane, pi, chiLane, chi, iota, permutation};
@@ -155,7 +156,7 @@ fn rho_plane(a: &[u64; 25], table: &[u64; 25], y: usize) -> [u64; 5]
 fn rho(a: [u64; 25]) -> [u64; 25]
     ensures { λ r. ⌜ r ≡ rho a ⌝ }
 {
-    let table = super::tables::offsets();
+    let table = tables::offsets();
     of_planes(
         rho_plane(&a, &table, 0),
         rho_plane(&a, &table, 1),
@@ -238,10 +239,10 @@ fn round(a: [u64; 25], constant: u64) -> [u64; 25]
 }
 
 // The 24 rounds.
-pub fn permute(mut a: [u64; 25]) -> [u64; 25]
+pub(crate) fn permute(mut a: [u64; 25]) -> [u64; 25]
     ensures { λ r. ⌜ r ≡ permutation a ⌝ }
 {
-    let constants = super::tables::round_constants();
+    let constants = tables::round_constants();
     for i in 0..24 {
         let next = round(a, constants[i]);
         a = next;

@@ -58,14 +58,14 @@ const ROUND_CONSTANTS: [u64; 24] = [
 ];
 
 // By how many places rho rotates each lane, the lane x, y at x + 5 y.
-pub fn offsets() -> [u64; 25]
+pub(crate) fn offsets() -> [u64; 25]
     ensures { λ r. ⌜ r ≡ offsets ⌝ }
 {
     OFFSETS
 }
 
 // What iota adds in each round.
-pub fn round_constants() -> [u64; 24]
+pub(crate) fn round_constants() -> [u64; 24]
     ensures { λ r. ⌜ r ≡ roundConstants ⌝ }
 {
     ROUND_CONSTANTS

@@ -14,11 +14,11 @@ unfoldable pub firstRegister : List ℕ
 firstRegister =
     digits 2 2 1 ++ (digits 2 4 0 ++ (digits 2 12 31 ++ (digits 2 12 24 ++ (digits 2 10 8 ++ (digits 2 10 21 ++ replicate 30 1)))))
 
--- "The next bit is the exclusive or of register bits 62, 51, 38, 23, 13 and 0": the parity of their sum.
+-- "The next bit is the exclusive or of register bits 62, 51, 38, 23, 13 and 0": the parity of their sum
 unfoldable pub nextBit : List ℕ → ℕ
 nextBit r = (getD r 62 0 + getD r 51 0 + getD r 38 0 + getD r 23 0 + getD r 13 0 + getD r 0 0) % 2
 
--- ".. where bit 0 is the oldest and leaves."
+-- "where bit 0 is the oldest and leaves"
 unfoldable pub shifted : List ℕ → List ℕ
 shifted r = drop 1 r ++ (nextBit r ∷ [])
 
@@ -42,7 +42,7 @@ firstCandidates (suc n) bits = number 2 (take 31 bits) ∷ firstCandidates n (dr
 unfoldable pub candidates : List ℕ → List ℕ
 candidates bits = firstCandidates (length bits / 31) bits
 
--- ".. one of p or more is dropped."
+-- "one of p or more is dropped"
 unfoldable pub kept : ℕ → List ℕ → List ℕ
 kept modulus [] = []
 kept modulus (candidate ∷ rest) = (if ltb candidate modulus then candidate ∷ [] else []) ++ kept modulus rest

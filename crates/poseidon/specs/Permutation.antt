@@ -61,7 +61,7 @@ permutation F s = rounds F (4 + F .partialRounds + 4) s
 unfoldable pub babyBear : Parameters
 babyBear = record { modulus = p; power = 7; partialRounds = 21; constants = constants; inverses = inverses }
 
--- "The permutation gives 10 and its input back" where an element is p or more.
+-- "The permutation gives 10 and its input back.": 10 is for "an element of p or more"
 unfoldable pub permuted : List ℕ → Permuted
 permuted s =
     if all isElement s then record { number = accepted; state = permutation babyBear s }

@@ -1,7 +1,7 @@
 -- Definitions that no public contract cites: what private functions of the crate take and give.
+use mathlib.Core.Path.{_≡_}
 use mathlib.Core.Bool.{true, false}
 use mathlib.Core.List.{List, [], _∷_}
-use mathlib.Core.Path.{_≡_}
 use Prim.Native.Nat.{ℕ, _<_}
 use lib.ListN.{getD}
 use Rattle.poseidon.specs.Generator.{newBits, outputBits, candidates}
@@ -9,7 +9,7 @@ use Rattle.poseidon.specs.declared.generator.Source.{Source}
 use Rattle.poseidon.specs.declared.generator.Output.{Output}
 use Rattle.poseidon.specs.declared.generator.Candidate.{Candidate}
 
--- Every element of a list is below m. Past its end the list reads as 0, so that no place needs a bound.
+-- every element of a list is below m; past its end the list reads as 0, so that no place needs a bound
 pub record Reduced (m : ℕ) (s : List ℕ) : Type 0 where
   pub below : (k : ℕ) → getD s k 0 < m
 

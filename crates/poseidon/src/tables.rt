@@ -1,7 +1,7 @@
 // The tables of the permutation and of the generator.
 
 // The round constants, round by round, element 0 first.
-pub const CONSTANTS: [u32; 696] = [
+pub(crate) const CONSTANTS: [u32; 696] = [
     262278199,
     127253399,
     314968988,
@@ -701,7 +701,7 @@ pub const CONSTANTS: [u32; 696] = [
 ];
 
 // The inverses of 24 to 70.
-pub const INVERSES: [u32; 47] = [
+pub(crate) const INVERSES: [u32; 47] = [
     1929379841,
     1530082100,
     232299914,
@@ -752,7 +752,7 @@ pub const INVERSES: [u32; 47] = [
 ];
 
 // The generator's register at its start, bit 0 first.
-pub const FIRST_REGISTER: [u8; 80] = [
+pub(crate) const FIRST_REGISTER: [u8; 80] = [
     0,
     1,
     0,

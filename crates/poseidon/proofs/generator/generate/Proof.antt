@@ -10,9 +10,9 @@ use lib.Seq.{take-nil, length-take-le, drop-set-lt, drop-drop}
 use Rattle.field.specs.Field.{p}
 use Rattle.poseidon.specs.Generator.{outputBits, candidates, kept, found, generated}
 use Rattle.poseidon.specs.Steps.{bitsLeft}
-use Rattle.poseidon.proofs.Streams.{keep, skip}
 use Rattle.poseidon.specs.declared.generator.Source.{Source}
 use Rattle.poseidon.specs.declared.generator.Generated.{Generated}
+use Rattle.poseidon.proofs.Streams.{keep, skip}
 use borrow.Author.Needs.{needs}
 use Rattle.poseidon.proofs.generator.generate.Statement.{statement}
 use Rattle.poseidon.proofs.generator.generate.Tie as tie

@@ -15,8 +15,8 @@ use Rattle.basics.specs.Digits.{number, numberAfter}
 use Rattle.basics.proofs.Positional.{number-append}
 use Rattle.poseidon.specs.Generator.{outputBits, candidates}
 use Rattle.poseidon.specs.Steps.{bitsLeft}
-use Rattle.poseidon.proofs.Streams.{candidate-whole, candidate-part}
 use Rattle.poseidon.specs.declared.generator.Source.{Source}
+use Rattle.poseidon.proofs.Streams.{candidate-whole, candidate-part}
 use borrow.Author.Needs.{needs}
 use Rattle.poseidon.proofs.generator.next_candidate.Statement.{statement}
 use Rattle.poseidon.proofs.generator.next_candidate.Tie as tie
