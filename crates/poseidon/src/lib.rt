@@ -1,5 +1,4 @@
 // The Poseidon permutation of 24 field elements.
-pub mod generator;
 mod tables;
 
 ghost use mathlib.Core.Path.{_≡_};

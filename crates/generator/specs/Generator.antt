@@ -6,7 +6,7 @@ use lib.ListN.{length, getD, take, drop, replicate}
 use Rattle.basics.specs.Logic.{if_then_else_}
 use Rattle.basics.specs.Digits.{digits, number}
 use Rattle.field.specs.Field.{p}
-use Rattle.poseidon.specs.declared.generator.Generated.{Generated}
+use Rattle.generator.specs.declared.Generated.{Generated}
 
 -- "An 80-bit register starts as, from bit 0 on and each number high bit first: field kind 1 (2 bits), power 0 (4),
 -- 31 (12), 24 (12), 8 (10), 21 (10), thirty ones."

@@ -1,4 +1,4 @@
--- `poseidon::generator::generate` meets its contract: the constants so far, and those of the bits left, are the constants found.
+-- `generator::generate` meets its contract: the constants so far, and those of the bits left, are the constants found.
 -- Assumes nothing.
 use mathlib.Core.Path.{_≡_, _∙_, refl, sym, ap}
 use mathlib.Core.List.{List, [], _∷_, _++_, append-nil}
@@ -8,14 +8,14 @@ use borrow.Author.Tests.{not-true, not-false}
 use lib.ListN.{length, take, drop, set, replicate, length-set, take-append-drop}
 use lib.Seq.{take-nil, length-take-le, drop-set-lt, drop-drop}
 use Rattle.field.specs.Field.{p}
-use Rattle.poseidon.specs.Generator.{outputBits, candidates, kept, found, generated}
-use Rattle.poseidon.specs.Steps.{bitsLeft}
-use Rattle.poseidon.specs.declared.generator.Source.{Source}
-use Rattle.poseidon.specs.declared.generator.Generated.{Generated}
-use Rattle.poseidon.proofs.Streams.{keep, skip}
+use Rattle.generator.specs.Generator.{outputBits, candidates, kept, found, generated}
+use Rattle.generator.specs.Steps.{bitsLeft}
+use Rattle.generator.specs.declared.Source.{Source}
+use Rattle.generator.specs.declared.Generated.{Generated}
+use Rattle.generator.proofs.Streams.{keep, skip}
 use borrow.Author.Needs.{needs}
-use Rattle.poseidon.proofs.generator.generate.Statement.{statement}
-use Rattle.poseidon.proofs.generator.generate.Tie as tie
+use Rattle.generator.proofs.generate.Statement.{statement}
+use Rattle.generator.proofs.generate.Tie as tie
 
 -- count constants are found, zeros stand behind them, and the others are still to come from the source
 record Progress (source : Source) (constants : List ℕ) (count : ℕ) : Type 0 where

@@ -1,11 +1,12 @@
 // The generator of the round constants (Grain).
-use crate::tables;
+mod tables;
+
 ghost use mathlib.Core.Path.{_≡_};
 ghost use mathlib.Core.Bool.{true, false};
 ghost use Prim.Native.Nat.{ℕ, _+_, _<_};
 ghost use lib.ListN.{length, drop};
-ghost use Rattle.poseidon.specs.Generator.{firstRegister, nextBit, shifted, newBits, generated};
-ghost use Rattle.poseidon.specs.Steps.{NextOutput, NextCandidate};
+ghost use Rattle.generator.specs.Generator.{firstRegister, nextBit, shifted, newBits, generated};
+ghost use Rattle.generator.specs.Steps.{NextOutput, NextCandidate};
 
 // How many new bits are dropped at the start.
 const DROPPED: usize = 160;

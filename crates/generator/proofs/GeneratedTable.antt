@@ -14,14 +14,14 @@ use lib.ListN.{length, getD, take, drop, length-append}
 use lib.Seq.{append-snoc}
 use lib.Pow.{pow-pos, pow-add, shr-shr, high}
 use Rattle.basics.specs.Logic.{if_then_else_}
-use Rattle.basics.specs.Lists.{tabulate}
+use Rattle.basics.specs.Lists.{tabulate, sum}
 use Rattle.basics.specs.Digits.{digits, number, numberAfter}
 use Rattle.basics.proofs.Fill.{tabulate-at, tabulate-cons, tabulate-same}
 use Rattle.basics.proofs.Positional.{number-append}
 use Rattle.field.specs.Field.{p}
 use Rattle.poseidon.specs.Tables.{constants}
-use Rattle.poseidon.specs.Generator.{firstRegister, nextBit, shifted, newBits, outputBits, candidates, kept, found, generated}
-use Rattle.poseidon.proofs.Streams.{drop-next, pair, candidate-whole, candidate-part}
+use Rattle.generator.specs.Generator.{firstRegister, nextBit, shifted, newBits, outputBits, candidates, kept, found, generated}
+use Rattle.generator.proofs.Streams.{drop-next, pair, candidate-whole, candidate-part}
 
 -- ---- registers as numbers
 
@@ -152,19 +152,19 @@ run-is (suc pairs) n held h l =
 -- ---- the run to the end
 
 first : ℕ
-first = 1208925819227669902123010
+first = sum 80 (λ k. getD firstRegister k 0 * 2 ^ k)
 
 first-is : firstRegister ≡ bitsOf first
-unfolding firstRegister digits bitsOf tabulate first
+unfolding firstRegister digits bitsOf tabulate first sum
 first-is = refl
 
 first-bound : first < 2 ^ 80
-unfolding first
+unfolding first firstRegister digits sum
 first-bound = lit< tt
 
 -- the first 696 constants of all 130,992 pairs
 computed : take 696 (run 130992 (after 160 first) 0 0) ≡ constants
-unfolding run after step next emitted valueAfter sizeAfter first if_then_else_ constants
+unfolding run after step next emitted valueAfter sizeAfter first firstRegister digits sum if_then_else_ constants
 computed = refl
 
 pub table-found : found p 696 262144 ≡ constants

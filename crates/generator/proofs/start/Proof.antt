@@ -1,4 +1,4 @@
--- `poseidon::generator::start` meets its contract.
+-- `generator::start` meets its contract.
 -- Assumes nothing.
 use mathlib.Core.Path.{_≡_, refl}
 use Prim.Native.Nat.{ℕ, _+_, _-_, _≤_}
@@ -6,11 +6,11 @@ use native.Mathlib.Nat.{zero-add}
 use native.Mathlib.Omega.{arith}
 use lib.ListN.{length, drop}
 use Rattle.basics.specs.Digits.{digits}
-use Rattle.poseidon.specs.Generator.{firstRegister, newBits}
-use Rattle.poseidon.proofs.Streams.{length-shifted, drop-next}
+use Rattle.generator.specs.Generator.{firstRegister, newBits}
+use Rattle.generator.proofs.Streams.{length-shifted, drop-next}
 use borrow.Author.Needs.{needs}
-use Rattle.poseidon.proofs.generator.start.Statement.{statement}
-use Rattle.poseidon.proofs.generator.start.Tie as tie
+use Rattle.generator.proofs.start.Statement.{statement}
+use Rattle.generator.proofs.start.Tie as tie
 
 abbrev Inv-loop : tie.InvT-loop
 Inv-loop register₀ i₀ register i = (i ≤ 160) × (length register ≡ 80) × ((n : ℕ) → drop i (newBits (i + n) firstRegister) ≡ newBits n register)

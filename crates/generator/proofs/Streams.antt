@@ -12,7 +12,7 @@ use lib.ListN.{length, getD, take, drop, set, length-append, length-drop, drop-o
 use lib.Seq.{getD-at, getD-drop, drop-drop, drop-at, take-at, take-all, take-suc, take-suc-set, set-split, append-snoc}
 use Rattle.basics.specs.Digits.{number}
 use Rattle.basics.proofs.Cases.{if-true, if-false}
-use Rattle.poseidon.specs.Generator.{nextBit, shifted, newBits, outputBits, firstCandidates, candidates, kept}
+use Rattle.generator.specs.Generator.{nextBit, shifted, newBits, outputBits, firstCandidates, candidates, kept}
 
 -- ---- the register and its new bits
 
