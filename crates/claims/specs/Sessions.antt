@@ -5,12 +5,11 @@ use mathlib.Core.Bool.{true}
 use mathlib.Core.List.{List, _++_}
 use Prim.Native.Nat.{ℕ, _+_}
 use borrow.Author.Tests.{eqb-true, eq-eqb}
-use lib.Dec.{ltb}
 use lib.ListN.{length}
 use Rattle.basics.specs.Logic.{all}
 use Rattle.basics.specs.Numbers.{accepted}
 use Rattle.basics.proofs.Cases.{if-true}
-use Rattle.field.specs.Field.{p}
+use Rattle.field.specs.Field.{isElement}
 use Rattle.tag.specs.Pattern.{phases, mergedWords}
 use Rattle.session.specs.Record.{opened, squeezedAll}
 use Rattle.tag.specs.Permutations.{permutationsAt}
@@ -56,7 +55,7 @@ count-of-session = count-whole
 
 -- Every opened session can be finished by some list of calls, whatever elements below p it is to absorb.
 pub every-session-finishes : (words separator xs : List ℕ) → start words separator .number ≡ accepted
-    → length xs ≡ absorbLength (phases words) → all (λ x. ltb x p) xs ≡ true
+    → length xs ≡ absorbLength (phases words) → all isElement xs ≡ true
     → (a : Run) × (a .words ≡ words) × (a .separator ≡ separator) × (absorbedOf a ≡ xs)
 every-session-finishes = finishable
 
@@ -86,5 +85,5 @@ unfolding squeezeBuffer squeezedIn accepts answered
 squeezed-are-written r buffer e = if-true _ _ _ (eq-eqb _ _ e) ∙ sym (if-true _ _ _ (eq-eqb _ _ e))
 
 -- and, of a sound record, numbers below p.
-pub squeezed-are-elements : (r : Session) (n : ℕ) → sound r ≡ true → all (λ x. ltb x p) (squeezedAll r n) ≡ true
+pub squeezed-are-elements : (r : Session) (n : ℕ) → sound r ≡ true → all isElement (squeezedAll r n) ≡ true
 squeezed-are-elements r n e = squeezed-reduced n r (parts r e .reduced)

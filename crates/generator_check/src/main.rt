@@ -12,7 +12,7 @@ fn differences(a: &[u32; 696], b: &[u32; 696]) -> u64 {
 }
 
 fn main() {
-    let generated = poseidon::generator::generate();
+    let generated = generator::generate();
     let found = generated.count as u64;
     let constants = generated.constants;
     let table = poseidon::round_constants();

@@ -7,8 +7,8 @@ use native.Mathlib.Nat.{add-zero, add-assoc}
 use native.Mathlib.Omega.{arith}
 use lib.ListN.{length, getD, drop, replicate, List·getD-eq-default, length-take}
 use lib.Seq.{getD-take, getD-drop}
-use Rattle.basics.proofs.Zeros.{zeros-behind}
 use Rattle.basics.specs.Lists.{sum}
+use Rattle.basics.proofs.Zeros.{zeros-behind}
 use Rattle.basics.proofs.Sums.{sum-same}
 use Rattle.keccak.specs.Sponge.{padded, laneAt, block}
 use Rattle.keccak.specs.Steps.{littleEndian}

@@ -1,4 +1,4 @@
--- Definitions that no public contract cites: what the private functions promise.
+-- Definitions that no public contract cites: what private functions of the crate take and give.
 use mathlib.Core.List.{List, [], _∷_, _++_}
 use Prim.Native.Nat.{ℕ, _+_, _*_, _%_, _^_}
 use lib.ListN.{getD}

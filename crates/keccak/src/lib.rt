@@ -11,6 +11,9 @@ ghost use Rattle.keccak.specs.Steps.{littleEndian};
 // The bytes of a block: 1088 bits, which with the capacity of 512 bits are the state.
 const RATE: usize = 136;
 
+// The place of the last byte of a block.
+const LAST: usize = RATE - 1;
+
 // The byte i of the padded message: behind the message come the bits 0 1, 1, 0 .. 0, 1, the lowest bit of a byte first.
 fn padded_byte(data: &[u8], i: usize) -> u8
     ensures { λ r. ⌜ r ≡ getD (padded (now («data» .entry))) i 0 ⌝ }
@@ -20,7 +23,7 @@ fn padded_byte(data: &[u8], i: usize) -> u8
         return data[i];
     }
     // the last byte of the last block
-    let last = n / RATE * RATE + 135;
+    let last = n / RATE * RATE + LAST;
     if i == n {
         if i == last {
             return 0x86;
@@ -81,6 +84,7 @@ fn padding_lane(data: &[u8], k: usize) -> u64
     )
 }
 
+// The lane that begins at the byte k of the padded message, by the quicker of the two ways.
 fn padded_lane(data: &[u8], k: usize) -> u64
     requires { ⌜ k ≤ length (now «data») + 136 ⌝ }
     ensures { λ r. ⌜ r ≡ laneAt (padded (now («data» .entry))) k ⌝ }
@@ -102,6 +106,7 @@ fn added_lane(a: &[u64; 25], data: &[u8], n: usize, i: usize) -> u64
     a[i]
 }
 
+// The state with the block n of the padded message added.
 fn add_block(a: [u64; 25], data: &[u8], n: usize) -> [u64; 25]
     requires { ⌜ 136 * n ≤ length (now «data») ⌝ }
     ensures { λ r. ⌜ r ≡ addBlock a (block (padded (now («data» .entry))) n) ⌝ }
@@ -113,6 +118,7 @@ fn add_block(a: [u64; 25], data: &[u8], n: usize) -> [u64; 25]
     out
 }
 
+// The byte i of the state, the lowest byte of a lane first.
 fn byte_of(a: &[u64; 25], i: usize) -> u8
     requires { ⌜ i < 32 ⌝ }
     ensures { λ r. ⌜ r ≡ byteOf (now (a .entry)) i ⌝ }
@@ -121,6 +127,7 @@ fn byte_of(a: &[u64; 25], i: usize) -> u8
     ((a[i / 8] >> right) % 256) as u8
 }
 
+// The first 32 bytes of the state.
 fn squeeze(a: [u64; 25]) -> [u8; 32]
     ensures { λ r. ⌜ r ≡ squeeze a ⌝ }
 {

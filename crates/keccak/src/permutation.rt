@@ -1,5 +1,6 @@
 // The permutation Keccak-f[1600]. A state is 25 lanes by value; each step makes the next state of five planes, where a plane is the
 // five lanes of one y.
+use crate::tables;
 ghost use mathlib.Core.Path.{_≡_};
 ghost use Prim.Native.Nat.{_<_};
 ghost use Rattle.keccak.specs.Permutation.{lane, rotate, parity, effect, thetaLane, theta, rhoLane, rho, piLane, pi, chiLane, chi, iota, permutation};
@@ -24,6 +25,7 @@ fn rotate(x: u64, n: u64) -> u64
     (x << left) | (x >> (64 - left))
 }
 
+// The state of five planes, from y = 0 on.
 fn of_planes(p: [u64; 5], q: [u64; 5], r: [u64; 5], s: [u64; 5], t: [u64; 5]) -> [u64; 25]
     ensures { λ z. ⌜ z ≡ ofPlanes p q r s t ⌝ }
 {
@@ -96,7 +98,7 @@ fn effects(a: &[u64; 25]) -> [u64; 5]
     ]
 }
 
-// From the effects D, which the five planes share.
+// The lane x, y behind theta, from the effects D, which the five planes share.
 fn theta_lane(a: &[u64; 25], d: &[u64; 5], x: usize, y: usize) -> u64
     requires { ⌜ (x < 5) × (now d ≡ plane (effect (now a))) ⌝ }
     ensures { λ r. ⌜ r ≡ thetaLane (now (a .entry)) x y ⌝ }
@@ -130,6 +132,7 @@ fn theta(a: [u64; 25]) -> [u64; 25]
     )
 }
 
+// The lane x, y behind rho: rotated by its offset.
 fn rho_lane(a: &[u64; 25], table: &[u64; 25], x: usize, y: usize) -> u64
     requires { ⌜ now table ≡ offsets ⌝ }
     ensures { λ r. ⌜ r ≡ rhoLane (now (a .entry)) x y ⌝ }
@@ -153,7 +156,7 @@ fn rho_plane(a: &[u64; 25], table: &[u64; 25], y: usize) -> [u64; 5]
 fn rho(a: [u64; 25]) -> [u64; 25]
     ensures { λ r. ⌜ r ≡ rho a ⌝ }
 {
-    let table = super::tables::offsets();
+    let table = tables::offsets();
     of_planes(
         rho_plane(&a, &table, 0),
         rho_plane(&a, &table, 1),
@@ -163,6 +166,7 @@ fn rho(a: [u64; 25]) -> [u64; 25]
     )
 }
 
+// The plane y behind pi: its lane x was the lane x + 3 y, x. The five sums are written alike, for x from 0 to 4.
 fn pi_plane(a: &[u64; 25], y: usize) -> [u64; 5]
     requires { ⌜ y < 5 ⌝ }
     ensures { λ r. ⌜ r ≡ plane (λ x. piLane (now (a .entry)) x y) ⌝ }
@@ -188,6 +192,7 @@ fn pi(a: [u64; 25]) -> [u64; 25]
     )
 }
 
+// The lane x, y behind chi.
 fn chi_lane(a: &[u64; 25], x: usize, y: usize) -> u64
     requires { ⌜ x < 5 ⌝ }
     ensures { λ r. ⌜ r ≡ chiLane (now (a .entry)) x y ⌝ }
@@ -219,6 +224,7 @@ fn chi(a: [u64; 25]) -> [u64; 25]
     )
 }
 
+// Adds the round constant to the lane 0, 0.
 fn iota(mut a: [u64; 25], constant: u64) -> [u64; 25]
     ensures { λ r. ⌜ r ≡ iota a constant ⌝ }
 {
@@ -232,10 +238,11 @@ fn round(a: [u64; 25], constant: u64) -> [u64; 25]
     iota(chi(pi(rho(theta(a)))), constant)
 }
 
-pub fn permute(mut a: [u64; 25]) -> [u64; 25]
+// The 24 rounds.
+pub(crate) fn permute(mut a: [u64; 25]) -> [u64; 25]
     ensures { λ r. ⌜ r ≡ permutation a ⌝ }
 {
-    let constants = super::tables::round_constants();
+    let constants = tables::round_constants();
     for i in 0..24 {
         let next = round(a, constants[i]);
         a = next;

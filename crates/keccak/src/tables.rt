@@ -58,13 +58,14 @@ const ROUND_CONSTANTS: [u64; 24] = [
 ];
 
 // By how many places rho rotates each lane, the lane x, y at x + 5 y.
-pub fn offsets() -> [u64; 25]
+pub(crate) fn offsets() -> [u64; 25]
     ensures { λ r. ⌜ r ≡ offsets ⌝ }
 {
     OFFSETS
 }
 
-pub fn round_constants() -> [u64; 24]
+// What iota adds in each round.
+pub(crate) fn round_constants() -> [u64; 24]
     ensures { λ r. ⌜ r ≡ roundConstants ⌝ }
 {
     ROUND_CONSTANTS

@@ -8,10 +8,10 @@ use native.Mathlib.Nat.{mod-lt}
 use native.Mathlib.Omega.{arith}
 use borrow.Author.Tests.{ltb-true, lt-ltb}
 use lib.Dec.{ltb}
-use lib.ListN.{length, getD, set, length-set}
+use lib.ListN.{length, getD, length-set}
 use Rattle.basics.specs.Logic.{all}
 use Rattle.basics.specs.Lists.{tabulate}
-use Rattle.basics.proofs.Cases.{by, and-left, and-right, and-both}
+use Rattle.basics.proofs.Cases.{by, and-both, all-at, all-set}
 use Rattle.basics.proofs.Fill.{length-tabulate}
 use Rattle.poseidon.specs.Permutation.{Parameters, addConstants, raiseAll, raiseFirst, raise, multiply, rounds, permutation}
 use Rattle.poseidon.specs.Steps.{Reduced}
@@ -28,21 +28,8 @@ module _ (m : ℕ) (pos : 0 < m) where
   below-tabulate zero f h k = pos
   below-tabulate (suc n) f h k = below-append (tabulate n f) (f n) (below-tabulate n f h) (h n) k
 
-  below-set : (s : List ℕ) (i v : ℕ) → ((k : ℕ) → getD s k 0 < m) → v < m → (k : ℕ) → getD (set s i v) k 0 < m
-  below-set [] i v h hv k = h k
-  below-set (x ∷ s) zero v h hv zero = hv
-  below-set (x ∷ s) zero v h hv (suc k) = h (suc k)
-  below-set (x ∷ s) (suc i) v h hv zero = h zero
-  below-set (x ∷ s) (suc i) v h hv (suc k) = below-set s i v (λ n. h (suc n)) hv k
-
-  below-all : (s : List ℕ) → all (λ x. ltb x m) s ≡ true → (k : ℕ) → getD s k 0 < m
-  unfolding all
-  below-all [] e k = pos
-  below-all (x ∷ s) e zero = ltb-true x m (and-left _ _ e)
-  below-all (x ∷ s) e (suc k) = below-all s (and-right _ _ e) k
-
   pub reduced-all : (s : List ℕ) → all (λ x. ltb x m) s ≡ true → Reduced m s
-  reduced-all s e = record { below = below-all s e }
+  reduced-all s e = record { below = λ k. ltb-true _ m (all-at (λ x. ltb x m) s 0 k e (λ _. lt-ltb 0 m pos)) }
 
 all-below : (m : ℕ) (s : List ℕ) → ((k : ℕ) → getD s k 0 < m) → all (λ x. ltb x m) s ≡ true
 unfolding all
@@ -74,7 +61,8 @@ module _ (F : Parameters) (pos : 0 < F .modulus) where
   raised-first s h =
       record {
         long = length-set s 0 _ ∙ h .long;
-        reduced = record { below = below-set (F .modulus) pos s 0 _ (h .reduced .below) (mod-lt _ pos) };
+        reduced =
+            reduced-all (F .modulus) pos _ (all-set (λ x. ltb x (F .modulus)) s 0 _ (all-reduced (F .modulus) s (h .reduced)) (lt-ltb _ _ (mod-lt _ pos)));
       }
 
   pub raised : (r : ℕ) (s : List ℕ) → State (F .modulus) s → State (F .modulus) (raise F r s)

@@ -40,7 +40,7 @@ row-four table state start n =
 pub product-bound : (a b : ℕ) → a < p → b < p → a * b ≤ 4053239664633446400
 product-bound a b ha hb = mul-le-mul (le-pred-of-lt ha) (le-pred-of-lt hb)
 
--- 2^32 is 268435454 and twice p
+-- 2^32 is 268435454 more than twice p
 pub high-half : (high low : ℕ) → (high * 268435454 + low) % p ≡ (high * 4294967296 + low) % p
 high-half high low =
     sym (add-multiple p (high * 268435454 + low) (2 * high) .same) ∙ ap (λ (x : ℕ). x % p) (omega arith)

@@ -6,11 +6,11 @@ use lib.ListN.{getD, set}
 use Rattle.basics.specs.Logic.{if_then_else_, all}
 use Rattle.basics.specs.Lists.{tabulate, sum}
 use Rattle.basics.specs.Numbers.{accepted, elementNotReduced}
-use Rattle.field.specs.Field.{p}
+use Rattle.field.specs.Field.{p, isElement}
 use Rattle.poseidon.specs.Tables.{constants, inverses}
 use Rattle.poseidon.specs.declared.Permuted.{Permuted}
 
--- what the permutation takes from its field
+-- the parameters of a Poseidon permutation of width 24 with 4 + 4 full rounds
 pub record Parameters : Type 0 where
   pub modulus : ℕ
   pub power : ℕ
@@ -44,21 +44,25 @@ matrix F i j = getD (F .inverses) (i + j) 0
 unfoldable pub multiply : Parameters → List ℕ → List ℕ
 multiply F s = tabulate 24 (λ i. sum 24 (λ j. matrix F i j * getD s j 0) % F .modulus)
 
+-- "A round adds its 24 constants; raises all elements (full) or element 0 alone (partial) to the seventh power; then multiplies by the matrix"
+abbrev pub round : Parameters → ℕ → List ℕ → List ℕ
+round F r s = multiply F (raise F r (addConstants F r s))
+
 -- the first n rounds
 unfoldable pub rounds : Parameters → ℕ → List ℕ → List ℕ
 rounds F zero s = s
-rounds F (suc r) s = multiply F (raise F r (addConstants F r (rounds F r s)))
+rounds F (suc r) s = round F r (rounds F r s)
 
 -- "One permutation is 29 rounds: 4 full, 21 partial, 4 full."
 unfoldable pub permutation : Parameters → List ℕ → List ℕ
 permutation F s = rounds F (4 + F .partialRounds + 4) s
 
--- the permutation of document 01
+-- the parameters of document 01's permutation
 unfoldable pub babyBear : Parameters
 babyBear = record { modulus = p; power = 7; partialRounds = 21; constants = constants; inverses = inverses }
 
--- "The permutation gives 10 and its input back" where an element is p or more.
+-- "The permutation gives 10 and its input back.": 10 is for "an element of p or more"
 unfoldable pub permuted : List ℕ → Permuted
 permuted s =
-    if all (λ x. ltb x p) s then record { number = accepted; state = permutation babyBear s }
+    if all isElement s then record { number = accepted; state = permutation babyBear s }
     else record { number = elementNotReduced; state = s }

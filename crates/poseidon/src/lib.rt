@@ -1,5 +1,4 @@
 // The Poseidon permutation of 24 field elements.
-pub mod generator;
 mod tables;
 
 ghost use mathlib.Core.Path.{_≡_};
@@ -26,6 +25,7 @@ fn add_reduced(a: u32, b: u32) -> u32
     if sum < field::P { sum } else { sum - field::P }
 }
 
+// Adds the 24 constants of a round, which the table has from 24 * round on.
 fn add_constants(state: &[u32; 24], table: &[u32; 696], round: usize) -> [u32; 24]
     requires { ⌜ (round < 29) × (now table ≡ constants) × Reduced p (now state) ⌝ }
     ensures { λ r. ⌜ r ≡ addConstants babyBear round (now (state .entry)) ⌝ }
@@ -39,6 +39,7 @@ fn add_constants(state: &[u32; 24], table: &[u32; 696], round: usize) -> [u32; 2
     out
 }
 
+// The seventh power of every element.
 fn raise_all(state: &[u32; 24]) -> [u32; 24]
     ensures { λ r. ⌜ r ≡ raiseAll babyBear (now (state .entry)) ⌝ }
 {
@@ -51,6 +52,7 @@ fn raise_all(state: &[u32; 24]) -> [u32; 24]
     out
 }
 
+// The seventh power of element 0; the others stay.
 fn raise_first(state: &[u32; 24]) -> [u32; 24]
     ensures { λ r. ⌜ r ≡ raiseFirst babyBear (now (state .entry)) ⌝ }
 {
@@ -59,6 +61,7 @@ fn raise_first(state: &[u32; 24]) -> [u32; 24]
     out
 }
 
+// The seventh power of all elements in the first four and the last four rounds, else of element 0 alone.
 fn raise(state: &[u32; 24], round: usize) -> [u32; 24]
     ensures { λ r. ⌜ r ≡ raise babyBear round (now (state .entry)) ⌝ }
 {
@@ -72,11 +75,11 @@ fn raise(state: &[u32; 24], round: usize) -> [u32; 24]
 }
 
 // One product of a row of the matrix with the state: at most (p - 1)^2, so that four of them fit 64 bits.
-fn term(row: &[u32], column: usize, state: &[u32; 24], j: usize) -> u64
-    requires { ⌜ (column < length (now row)) × (j < 24) × Reduced p (now row) × Reduced p (now state) ⌝ }
-    ensures { λ r. ⌜ (r ≡ getD (now (row .entry)) column 0 * getD (now (state .entry)) j 0) × (r ≤ 4053239664633446400) ⌝ }
+fn term(table: &[u32], place: usize, state: &[u32; 24], j: usize) -> u64
+    requires { ⌜ (place < length (now table)) × (j < 24) × Reduced p (now table) × Reduced p (now state) ⌝ }
+    ensures { λ r. ⌜ (r ≡ getD (now (table .entry)) place 0 * getD (now (state .entry)) j 0) × (r ≤ 4053239664633446400) ⌝ }
 {
-    field::wide_mul(row[column], state[j])
+    field::wide_mul(table[place], state[j])
 }
 
 // A row of the matrix times the state, where the row is the 24 numbers of a table from start on.
@@ -101,6 +104,7 @@ fn row_product(table: &[u32], start: usize, state: &[u32; 24]) -> u32
     field::reduce(high * 268435454 + low)
 }
 
+// The matrix times the state: the row i of the matrix is the 24 inverses from place i on.
 fn multiply(state: &[u32; 24], table: &[u32; 47]) -> [u32; 24]
     requires { ⌜ (now table ≡ inverses) × Reduced p (now state) ⌝ }
     ensures { λ r. ⌜ r ≡ multiply babyBear (now (state .entry)) ⌝ }
@@ -114,7 +118,7 @@ fn multiply(state: &[u32; 24], table: &[u32; 47]) -> [u32; 24]
     out
 }
 
-// The tables are read once, since each use of one copies it.
+// The 29 rounds. The tables are read once, since each use of one copies it.
 fn permute_reduced(state: [u32; 24]) -> [u32; 24]
     requires { ⌜ Reduced p state ⌝ }
     ensures { λ r. ⌜ r ≡ permutation babyBear state ⌝ }
@@ -132,7 +136,7 @@ fn permute_reduced(state: [u32; 24]) -> [u32; 24]
     s
 }
 
-// One permutation, of a state whose elements are all below p.
+// One permutation; a state with an element of p or more gets 10 and comes back.
 pub fn permute(state: [u32; 24]) -> Permuted
     ensures { λ r. ⌜ r ≡ permuted state ⌝ }
 {

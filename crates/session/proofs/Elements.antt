@@ -1,25 +1,22 @@
 -- One element absorbed or squeezed, by the parts of the sponge.
 -- Assumes nothing.
 use mathlib.Core.Path.{_≡_, refl, ap}
-use mathlib.Core.Bool.{Bool, true}
-use mathlib.Core.List.{List, [], _∷_}
-use Prim.Native.Nat.{ℕ, zero, suc, _+_, _%_, _≤_}
+use mathlib.Core.Bool.{true}
+use mathlib.Core.List.{List}
+use Prim.Native.Nat.{ℕ, _+_, _%_, _≤_}
 use native.Mathlib.Nat.{mod-lt, add-zero}
 use native.Mathlib.Omega.{arith}
 use borrow.Author.Tests.{eqb-true, eqb-false, lt-ltb}
-use lib.Dec.{ltb, eqb, lit<}
+use lib.Dec.{eqb, lit<}
 use lib.ListN.{getD, set}
 use Rattle.basics.specs.Logic.{if_then_else_, all}
-use Rattle.basics.proofs.Cases.{by, cases, if-true, and-left, and-right, and-both}
-use Rattle.field.specs.Field.{p}
+use Rattle.basics.proofs.Cases.{by, cases, if-true, all-set}
+use Rattle.field.specs.Field.{p, isElement}
 use Rattle.poseidon.specs.Permutation.{babyBear, permuted}
 use Rattle.poseidon.specs.declared.Permuted.{Permuted}
 use Rattle.poseidon.proofs.Bounds.{all-reduced, permutation-reduced}
 use Rattle.session.specs.Sponge.{rate, permute, readyToAbsorb, absorbElement, readyToSqueeze, squeezedElement, squeezeElement}
 use Rattle.session.specs.Steps.{sponge, stateFor, permutationsFor, placeFor, stateWith, absorbFor}
-
-abbrev pub below : ℕ → Bool
-below x = ltb x p
 
 pub place-remainder : (n : ℕ) → n ≤ rate → n % rate ≡ placeFor n
 unfolding placeFor
@@ -30,30 +27,24 @@ unfolding permutationsFor
 at-most-one n = by (λ (k : ℕ). k ≤ 1) _ _ _ (λ _. omega arith) λ _. omega arith
 
 -- the code's permutation, on a reduced state
-pub permuted-state : (s : List ℕ) → all below s ≡ true → permuted s .state ≡ permute s
+pub permuted-state : (s : List ℕ) → all isElement s ≡ true → permuted s .state ≡ permute s
 unfolding permuted permute
 permuted-state s e = ap (λ (r : Permuted). r .state) (if-true _ _ _ e)
 
 -- ---- the state stays reduced
 
-pub permute-reduced : (s : List ℕ) → all below (permute s) ≡ true
+pub permute-reduced : (s : List ℕ) → all isElement (permute s) ≡ true
 unfolding permute babyBear
 permute-reduced s = all-reduced p _ (permutation-reduced babyBear (lit< tt) s)
 
-all-set : (f : ℕ → Bool) (l : List ℕ) (i v : ℕ) → all f l ≡ true → f v ≡ true → all f (set l i v) ≡ true
-unfolding all
-all-set f [] i v e h = refl
-all-set f (x ∷ xs) zero v e h = and-both _ _ h (and-right _ _ e)
-all-set f (x ∷ xs) (suc i) v e h = and-both _ _ (and-left _ _ e) (all-set f xs i v (and-right _ _ e) h)
-
-pub state-reduced : (n : ℕ) (s : List ℕ) → all below s ≡ true → all below (stateFor n s) ≡ true
+pub state-reduced : (n : ℕ) (s : List ℕ) → all isElement s ≡ true → all isElement (stateFor n s) ≡ true
 unfolding stateFor
-state-reduced n s e = by (λ (l : List ℕ). all below l ≡ true) _ _ _ (λ _. permute-reduced s) λ _. e
+state-reduced n s e = by (λ (l : List ℕ). all isElement l ≡ true) _ _ _ (λ _. permute-reduced s) λ _. e
 
-pub sum-reduced : (s : List ℕ) (i n : ℕ) → all below s ≡ true → all below (set s i (n % p)) ≡ true
-sum-reduced s i n e = all-set below s i (n % p) e (lt-ltb (n % p) p (mod-lt n (lit< tt)))
+pub sum-reduced : (s : List ℕ) (i n : ℕ) → all isElement s ≡ true → all isElement (set s i (n % p)) ≡ true
+sum-reduced s i n e = all-set isElement s i (n % p) e (lt-ltb (n % p) p (mod-lt n (lit< tt)))
 
-pub added-reduced : (n : ℕ) (s : List ℕ) (x : ℕ) → all below s ≡ true → all below (stateWith n s x) ≡ true
+pub added-reduced : (n : ℕ) (s : List ℕ) (x : ℕ) → all isElement s ≡ true → all isElement (stateWith n s x) ≡ true
 unfolding stateWith
 added-reduced n s x e = sum-reduced _ _ _ (state-reduced n s e)
 

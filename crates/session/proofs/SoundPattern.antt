@@ -9,21 +9,10 @@ use native.Mathlib.Omega.{arith}
 use borrow.Author.Tests.{leb-true}
 use lib.ListN.{length, getD, take}
 use lib.Seq.{getD-take, length-take-le}
-use Rattle.basics.specs.Logic.{all}
-use Rattle.basics.proofs.Cases.{and-left, and-right, same-true}
+use Rattle.basics.proofs.Cases.{and-left, and-right, same-true, all-at}
 use Rattle.tag.specs.Pattern.{isAbsorb, lengthOf, alternate, soundWords}
 use Rattle.tag.proofs.Soundness.{long, sound}
-
-all-at : (f : ℕ → Bool) (ws : List ℕ) (i : ℕ) → all f ws ≡ true → i < length ws → f (getD ws i 0) ≡ true
-unfolding all
-all-at f [] i e h = absurd (not-suc-le-zero h)
-all-at f (w ∷ ws) zero e h = and-left _ _ e
-all-at f (w ∷ ws) (suc i) e h = all-at f ws i (and-right _ _ e) (le-of-suc-le-suc h)
-
-first-kind : (k : Bool) (ws : List ℕ) → alternate k ws ≡ true → 0 < length ws → isAbsorb (getD ws 0 0) ≡ k
-unfolding alternate
-first-kind k [] e h = absurd (not-suc-le-zero h)
-first-kind k (w ∷ ws) e h = sym (same-true k (isAbsorb w) (and-left _ _ e))
+use Rattle.tag.proofs.MergedWords.{first-kind}
 
 next-kind : (k : Bool) (ws : List ℕ) (i : ℕ) → alternate k ws ≡ true → suc i < length ws → isAbsorb (getD ws (suc i) 0) ≡ not (isAbsorb (getD ws i 0))
 unfolding alternate
@@ -38,7 +27,7 @@ module _ (words : List ℕ) (count : ℕ) (fits : count ≤ length words) (patte
 
   pub word-long : (i : ℕ) → i < count → 0 < lengthOf (getD words i 0)
   word-long i h =
-      let l = all-at long (take count words) i (sound _ pattern .longs) (omega (arith, used)) in
+      let l = all-at long (take count words) 0 i (sound _ pattern .longs) (λ past. absurd (omega (arith, used))) in
       leb-true 1 _ (sym (ap long (getD-take count words i 0 h)) ∙ l)
 
   pub begins-absorbing : 0 < count → isAbsorb (getD words 0 0) ≡ true

@@ -6,7 +6,7 @@ use lib.Dec.{leb, ltb, eqb}
 use lib.ListN.{length}
 use Rattle.basics.specs.Logic.{if_then_else_, _and_, same, all}
 use Rattle.basics.specs.Numbers.{accepted, recordNotOpen, recordNotSound, callNotInPattern, elementNotReduced, patternNotDone}
-use Rattle.field.specs.Field.{p}
+use Rattle.field.specs.Field.{isElement}
 use Rattle.keccak.specs.Sponge.{sha3}
 use Rattle.tag.specs.Pattern.{isAbsorb, lengthOf, mergedWords}
 use Rattle.tag.specs.Start.{startNumber}
@@ -45,7 +45,7 @@ absorb r xs =
     else if not (sound r) then giving recordNotSound r
     else if eqb (length xs) 0 then giving accepted r
     else if not (inPattern true (length xs) r) then giving callNotInPattern wiped
-    else if not (all (λ x. ltb x p) xs) then giving elementNotReduced r
+    else if not (all isElement xs) then giving elementNotReduced r
     else giving accepted (absorbAll r xs)
 
 -- SQUEEZE of n elements

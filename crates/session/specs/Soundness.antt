@@ -5,7 +5,7 @@ use Prim.Native.Nat.{ℕ, zero, suc, _+_, _-_, _%_}
 use lib.Dec.{leb, ltb, eqb}
 use lib.ListN.{length, getD, take, drop}
 use Rattle.basics.specs.Logic.{if_then_else_, _and_, all}
-use Rattle.field.specs.Field.{p}
+use Rattle.field.specs.Field.{isElement}
 use Rattle.tag.specs.Pattern.{isAbsorb, lengthOf, soundWords}
 use Rattle.tag.specs.Permutations.{permutationsAt}
 use Rattle.session.specs.Sponge.{rate}
@@ -39,7 +39,7 @@ sound r =
     and all (λ w. eqb w 0) (drop (r .count) (r .words))
     and leb (r .phase) (r .count)
     and (if ltb (r .phase) (r .count) then ltb (r .done) (lengthOf (phaseWord r)) else eqb (r .done) 0)
-    and all (λ x. ltb x p) (r .state)
+    and all isElement (r .state)
     and eqb (r .permutations) (permutationsAt (r .words) (r .phase) (r .done))
     and eqb (r .«absorb_position») (positionsAt (r .words) (r .phase) (r .done) .absorb)
     and eqb (r .«squeeze_position») (positionsAt (r .words) (r .phase) (r .done) .squeeze)

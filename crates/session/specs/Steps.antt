@@ -1,4 +1,4 @@
--- What private functions of the crate give.
+-- Definitions that no public contract cites: what private functions of the crate take and give.
 use mathlib.Core.Path.{_≡_}
 use mathlib.Core.Bool.{Bool, true}
 use mathlib.Core.List.{List}
@@ -6,7 +6,7 @@ use Prim.Native.Nat.{ℕ, suc, _+_, _*_, _%_, _≤_, _<_}
 use lib.Dec.{leb, ltb, eqb}
 use lib.ListN.{length, getD, set, take, drop}
 use Rattle.basics.specs.Logic.{if_then_else_, _and_, all}
-use Rattle.field.specs.Field.{p}
+use Rattle.field.specs.Field.{p, isElement}
 use Rattle.tag.specs.Pattern.{lengthOf, soundWords}
 use Rattle.session.specs.Sponge.{Sponge, rate, permute}
 use Rattle.session.specs.Record.{phaseWord}
@@ -59,7 +59,7 @@ pub record Within (r : Session) (n : ℕ) : Type 0 where
   pub some : 1 ≤ n
   pub fits : r .done + n ≤ lengthOf (phaseWord r)
   pub early : r .phase < 64
-  pub reduced : all (λ x. ltb x p) (r .state) ≡ true
+  pub reduced : all isElement (r .state) ≡ true
   pub absorbs : r .«absorb_position» ≤ rate
   pub squeezes : r .«squeeze_position» ≤ rate
   -- 2^28 for each of 64 phases and for the one being done

@@ -3,10 +3,9 @@ use crate::Session;
 ghost use mathlib.Core.Path.{_≡_};
 ghost use mathlib.Core.Bool.{true};
 ghost use Prim.Native.Nat.{_+_, _≤_, _<_};
-ghost use lib.Dec.{ltb};
 ghost use lib.ListN.{getD};
 ghost use Rattle.basics.specs.Logic.{all};
-ghost use Rattle.field.specs.Field.{p};
+ghost use Rattle.field.specs.Field.{isElement};
 ghost use Rattle.session.specs.Sponge.{tagState};
 ghost use Rattle.session.specs.Steps.{stateFor, permutationsFor, placeFor, stateWith, absorbFor};
 
@@ -26,7 +25,7 @@ pub(crate) fn tag_state(elements: [u32; 8]) -> [u32; Session::WIDTH]
 
 // Permutes the state where a position is RATE. Answers how many permutations that is.
 pub(crate) fn permute_if_full(state: &mut [u32; Session::WIDTH], position: u32) -> u64
-    requires { ⌜ all (λ x. ltb x p) (now state) ≡ true ⌝ }
+    requires { ⌜ all isElement (now state) ≡ true ⌝ }
     ensures { λ r. ⌜ r ≡ permutationsFor position ⌝ }
     ensures { λ _. ⌜ now (state .exit) ≡ stateFor position (now (state .entry)) ⌝ }
 {
@@ -57,7 +56,7 @@ pub(crate) fn next_position(position: u32) -> u32
 
 // Adds an element at a position, and permutes first where that is RATE. Answers how many permutations that is.
 pub(crate) fn absorb_element(state: &mut [u32; Session::WIDTH], position: u32, element: u32) -> u64
-    requires { ⌜ (position ≤ 8) × (all (λ x. ltb x p) (now state) ≡ true) ⌝ }
+    requires { ⌜ (position ≤ 8) × (all isElement (now state) ≡ true) ⌝ }
     ensures { λ r. ⌜ r ≡ permutationsFor position ⌝ }
     ensures { λ _. ⌜ now (state .exit) ≡ stateWith position (now (state .entry)) element ⌝ }
 {

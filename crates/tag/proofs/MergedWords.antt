@@ -197,10 +197,11 @@ last-alternate true (w ∷ v ∷ ws) e h p =
 last-alternate false (w ∷ v ∷ ws) e h p =
     ap isAbsorb (last-behind w v ws) ∙ last-alternate true (v ∷ ws) (and-right _ _ e) (omega arith) (omega arith)
 
-first-alternate : (ws : List ℕ) → alternate true ws ≡ true → 0 < length ws → not (isAbsorb (getD ws 0 0)) ≡ false
+-- the first of words that alternate
+pub first-kind : (first : Bool) (ws : List ℕ) → alternate first ws ≡ true → 0 < length ws → isAbsorb (getD ws 0 0) ≡ first
 unfolding alternate
-first-alternate [] e p = absurd (omega arith)
-first-alternate (w ∷ ws) e p = sym (ap not (same-true true (isAbsorb w) (and-left _ _ e)))
+first-kind first [] e p = absurd (omega arith)
+first-kind first (w ∷ ws) e p = sym (same-true first (isAbsorb w) (and-left _ _ e))
 
 pub sound-accepted : (ws separator : List ℕ) → soundWords ws ≡ true → length separator ≤ 256 → startNumber ws separator ≡ accepted
 unfolding shift
@@ -211,7 +212,7 @@ sound-accepted ws separator e h =
     number-0 ws separator
     (some-words ws separator (λ z. omega arith) (s .many))
     (none-empty ws (s .longs))
-    (first-alternate ws (s .turns) (omega arith))
+    (ap not (first-kind true ws (s .turns) (omega arith)))
     (last-alternate true ws (s .turns) (omega arith) (omega arith))
     (ap (any tooLong) (phases-of-sound ws e) ∙ none-too-long ws)
     (le-ltb 256 (length separator) h)

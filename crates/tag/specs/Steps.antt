@@ -1,4 +1,4 @@
--- What private functions of the crate give.
+-- Definitions that no public contract cites: what private functions of the crate take and give.
 use mathlib.Core.Path.{_≡_}
 use mathlib.Core.List.{List, []}
 use mathlib.Core.Logic.{_≢_}

@@ -3,9 +3,9 @@
 use mathlib.Core.Path.{_≡_, _∙_, ap}
 use Prim.Native.Nat.{ℕ, _*_, _%_, _^_}
 use native.Mathlib.Nat.{mul-assoc, one-mul, pow-suc, pow-zero}
-use borrow.Author.Needs.{needs}
 use Rattle.field.specs.Field.{p}
 use Rattle.field.proofs.Congruence.{Congruent, reflexive, transitive, mul-congruent, reduced}
+use borrow.Author.Needs.{needs}
 use Rattle.field.proofs.seventh_power.Statement.{statement}
 use Rattle.field.proofs.seventh_power.Tie as tie
 

@@ -1,7 +1,7 @@
 -- `hash_vectors::pattern` is safe and ends.
 -- Assumes nothing.
-use borrow.Author.Needs.{needs}
 use Prim.Native.Nat.{_-_, _≤_}
+use borrow.Author.Needs.{needs}
 use Rattle.hash_vectors.proofs.pattern.Statement.{statement}
 use Rattle.hash_vectors.proofs.pattern.Tie as tie
 

@@ -1,8 +1,8 @@
 -- `hash_vectors::print_digest_of_first` is safe and ends.
 -- Assumes nothing.
-use borrow.Author.Needs.{needs}
 use mathlib.Core.Path.{sym}
 use lib.Seq.{length-take-le}
+use borrow.Author.Needs.{needs}
 use Rattle.hash_vectors.proofs.print_digest_of_first.Statement.{statement}
 use Rattle.hash_vectors.proofs.print_digest_of_first.Tie as tie
 

@@ -1,7 +1,7 @@
 -- `hash_vectors::print_digests` is safe and ends.
 -- Assumes nothing.
-use borrow.Author.Needs.{needs}
 use Prim.Native.Nat.{_-_, _≤_}
+use borrow.Author.Needs.{needs}
 use Rattle.hash_vectors.proofs.print_digests.Statement.{statement}
 use Rattle.hash_vectors.proofs.print_digests.Tie as tie
 

@@ -1,9 +1,9 @@
 -- `keccak::add_block` meets its contract.
 -- Assumes nothing.
-use borrow.Author.Needs.{needs}
 use Prim.Native.Nat.{_-_}
-use Rattle.keccak.specs.Sponge.{padded, block, addedLane, addBlock}
 use Rattle.basics.proofs.Fill.{Filled, start, step, end}
+use Rattle.keccak.specs.Sponge.{padded, block, addedLane, addBlock}
+use borrow.Author.Needs.{needs}
 use Rattle.keccak.proofs.add_block.Statement.{statement}
 use Rattle.keccak.proofs.add_block.Tie as tie
 

@@ -1,12 +1,12 @@
 -- `keccak::added_lane` meets its contract.
 -- Assumes nothing.
-use borrow.Author.Needs.{needs}
 use mathlib.Core.Path.{_∙_, sym, ap}
 use native.Mathlib.Omega.{arith}
 use lib.Bits.{bitXor, xor-zero-r}
 use lib.ListN.{getD}
 use Rattle.keccak.specs.Sponge.{padded}
 use Rattle.keccak.proofs.Lanes.{block-lane, capacity-lane}
+use borrow.Author.Needs.{needs}
 use Rattle.keccak.proofs.added_lane.Statement.{statement}
 use Rattle.keccak.proofs.added_lane.Tie as tie
 

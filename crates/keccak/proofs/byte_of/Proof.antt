@@ -1,8 +1,8 @@
 -- `keccak::byte_of` meets its contract.
 -- Assumes nothing.
-use borrow.Author.Needs.{needs}
 use mathlib.Core.Path.{refl}
 use Rattle.keccak.specs.Sponge.{byteOf}
+use borrow.Author.Needs.{needs}
 use Rattle.keccak.proofs.byte_of.Statement.{statement}
 use Rattle.keccak.proofs.byte_of.Tie as tie
 

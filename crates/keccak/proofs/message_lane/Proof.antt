@@ -1,8 +1,8 @@
 -- `keccak::message_lane` meets its contract.
 -- Assumes nothing.
-use borrow.Author.Needs.{needs}
 use mathlib.Core.Path.{_∙_}
 use Rattle.keccak.proofs.Lanes.{by-bytes}
+use borrow.Author.Needs.{needs}
 use Rattle.keccak.proofs.message_lane.Statement.{statement}
 use Rattle.keccak.proofs.message_lane.Tie as tie
 

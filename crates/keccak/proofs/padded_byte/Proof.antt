@@ -1,9 +1,9 @@
 -- `keccak::padded_byte` meets its contract.
 -- Assumes nothing.
-use borrow.Author.Needs.{needs}
 use mathlib.Core.Path.{sym}
 use native.Mathlib.Omega.{arith}
 use Rattle.keccak.proofs.Padding.{in-message, padding-only, padding-first, padding-last, padding-between}
+use borrow.Author.Needs.{needs}
 use Rattle.keccak.proofs.padded_byte.Statement.{statement}
 use Rattle.keccak.proofs.padded_byte.Tie as tie
 

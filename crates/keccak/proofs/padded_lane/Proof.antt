@@ -1,8 +1,8 @@
 -- `keccak::padded_lane` meets its contract.
 -- Assumes nothing.
-use borrow.Author.Needs.{needs}
 use mathlib.Core.Path.{_∙_}
 use Rattle.keccak.proofs.Lanes.{in-message-lane}
+use borrow.Author.Needs.{needs}
 use Rattle.keccak.proofs.padded_lane.Statement.{statement}
 use Rattle.keccak.proofs.padded_lane.Tie as tie
 

@@ -1,8 +1,8 @@
 -- `keccak::padding_lane` meets its contract.
 -- Assumes nothing.
-use borrow.Author.Needs.{needs}
 use mathlib.Core.Path.{_∙_}
 use Rattle.keccak.proofs.Lanes.{from-bytes}
+use borrow.Author.Needs.{needs}
 use Rattle.keccak.proofs.padding_lane.Statement.{statement}
 use Rattle.keccak.proofs.padding_lane.Tie as tie
 

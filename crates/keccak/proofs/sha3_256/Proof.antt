@@ -1,6 +1,5 @@
 -- `keccak::sha3_256` meets its contract.
 -- Assumes nothing.
-use borrow.Author.Needs.{needs}
 use mathlib.Core.Path.{_≡_, _∙_, refl, ap}
 use mathlib.Core.List.{List}
 use Prim.Native.Nat.{ℕ, _-_, _/_, _≤_}
@@ -10,6 +9,7 @@ use lib.ListN.{length}
 use Rattle.keccak.specs.Permutation.{permutation}
 use Rattle.keccak.specs.Sponge.{padded, block, addBlock, absorb, squeeze, sha3}
 use Rattle.keccak.proofs.Padding.{blocks-padded}
+use borrow.Author.Needs.{needs}
 use Rattle.keccak.proofs.sha3_256.Statement.{statement}
 use Rattle.keccak.proofs.sha3_256.Tie as tie
 

@@ -1,9 +1,9 @@
 -- `keccak::squeeze` meets its contract.
 -- Assumes nothing.
-use borrow.Author.Needs.{needs}
 use Prim.Native.Nat.{_-_}
-use Rattle.keccak.specs.Sponge.{squeeze, byteOf}
 use Rattle.basics.proofs.Fill.{Filled, start, step, end}
+use Rattle.keccak.specs.Sponge.{squeeze, byteOf}
+use borrow.Author.Needs.{needs}
 use Rattle.keccak.proofs.squeeze.Statement.{statement}
 use Rattle.keccak.proofs.squeeze.Tie as tie
 

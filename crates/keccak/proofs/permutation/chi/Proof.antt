@@ -1,8 +1,8 @@
 -- `keccak::permutation::chi` meets its contract.
 -- Assumes nothing.
-use borrow.Author.Needs.{needs}
 use Rattle.keccak.specs.Permutation.{chi}
 use Rattle.keccak.proofs.Planes.{by-planes}
+use borrow.Author.Needs.{needs}
 use Rattle.keccak.proofs.permutation.chi.Statement.{statement}
 use Rattle.keccak.proofs.permutation.chi.Tie as tie
 

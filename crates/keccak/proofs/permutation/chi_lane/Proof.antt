@@ -1,8 +1,8 @@
 -- `keccak::permutation::chi_lane` meets its contract.
 -- Assumes nothing.
-use borrow.Author.Needs.{needs}
 use lib.Bits.{bitAnd}
 use Rattle.keccak.specs.Permutation.{_⊕_, complement}
+use borrow.Author.Needs.{needs}
 use Rattle.keccak.proofs.permutation.chi_lane.Statement.{statement}
 use Rattle.keccak.proofs.permutation.chi_lane.Tie as tie
 

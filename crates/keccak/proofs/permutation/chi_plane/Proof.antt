@@ -1,7 +1,7 @@
 -- `keccak::permutation::chi_plane` meets its contract.
 -- Assumes nothing.
-use borrow.Author.Needs.{needs}
 use Rattle.keccak.proofs.Planes.{by-lanes}
+use borrow.Author.Needs.{needs}
 use Rattle.keccak.proofs.permutation.chi_plane.Statement.{statement}
 use Rattle.keccak.proofs.permutation.chi_plane.Tie as tie
 

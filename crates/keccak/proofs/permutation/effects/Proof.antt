@@ -1,12 +1,12 @@
 -- `keccak::permutation::effects` meets its contract.
 -- Assumes nothing.
-use borrow.Author.Needs.{needs}
 use mathlib.Core.Path.{_∙_, ap}
 use mathlib.Core.List.{List}
 use Prim.Native.Nat.{ℕ}
 use Rattle.keccak.specs.Permutation.{effect, parity}
 use Rattle.keccak.specs.Steps.{plane, effectOf}
 use Rattle.keccak.proofs.Planes.{by-lanes}
+use borrow.Author.Needs.{needs}
 use Rattle.keccak.proofs.permutation.effects.Statement.{statement}
 use Rattle.keccak.proofs.permutation.effects.Tie as tie
 

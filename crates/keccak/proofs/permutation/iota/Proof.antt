@@ -1,8 +1,8 @@
 -- `keccak::permutation::iota` meets its contract.
 -- Assumes nothing.
-use borrow.Author.Needs.{needs}
 use mathlib.Core.Path.{refl}
 use Rattle.keccak.specs.Permutation.{iota}
+use borrow.Author.Needs.{needs}
 use Rattle.keccak.proofs.permutation.iota.Statement.{statement}
 use Rattle.keccak.proofs.permutation.iota.Tie as tie
 

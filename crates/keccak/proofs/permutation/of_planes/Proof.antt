@@ -1,10 +1,10 @@
 -- `keccak::permutation::of_planes` meets its contract.
 -- Assumes nothing.
-use borrow.Author.Needs.{needs}
 use mathlib.Core.Path.{sym}
 use mathlib.Core.List.{_++_}
 use Rattle.keccak.specs.Steps.{ofPlanes}
 use Rattle.keccak.proofs.Planes.{is-plane}
+use borrow.Author.Needs.{needs}
 use Rattle.keccak.proofs.permutation.of_planes.Statement.{statement}
 use Rattle.keccak.proofs.permutation.of_planes.Tie as tie
 

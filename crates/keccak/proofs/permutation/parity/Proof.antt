@@ -1,7 +1,7 @@
 -- `keccak::permutation::parity` meets its contract.
 -- Assumes nothing.
-use borrow.Author.Needs.{needs}
 use Rattle.keccak.specs.Permutation.{_⊕_, parity}
+use borrow.Author.Needs.{needs}
 use Rattle.keccak.proofs.permutation.parity.Statement.{statement}
 use Rattle.keccak.proofs.permutation.parity.Tie as tie
 

@@ -1,6 +1,5 @@
 -- `keccak::permutation::permute` meets its contract.
 -- Assumes nothing.
-use borrow.Author.Needs.{needs}
 use mathlib.Core.Path.{_≡_, _∙_, refl, ap}
 use mathlib.Core.List.{List}
 use Prim.Native.Nat.{ℕ, _-_, _≤_}
@@ -8,6 +7,7 @@ use native.Mathlib.Numerals.{add-one}
 use native.Mathlib.Omega.{arith}
 use lib.ListN.{getD}
 use Rattle.keccak.specs.Permutation.{theta, rho, pi, chi, iota, round, rounds, permutation}
+use borrow.Author.Needs.{needs}
 use Rattle.keccak.proofs.permutation.permute.Statement.{statement}
 use Rattle.keccak.proofs.permutation.permute.Tie as tie
 

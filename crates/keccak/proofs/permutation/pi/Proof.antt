@@ -1,8 +1,8 @@
 -- `keccak::permutation::pi` meets its contract.
 -- Assumes nothing.
-use borrow.Author.Needs.{needs}
 use Rattle.keccak.specs.Permutation.{pi}
 use Rattle.keccak.proofs.Planes.{by-planes}
+use borrow.Author.Needs.{needs}
 use Rattle.keccak.proofs.permutation.pi.Statement.{statement}
 use Rattle.keccak.proofs.permutation.pi.Tie as tie
 

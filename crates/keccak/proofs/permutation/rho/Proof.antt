@@ -1,8 +1,8 @@
 -- `keccak::permutation::rho` meets its contract.
 -- Assumes nothing.
-use borrow.Author.Needs.{needs}
 use Rattle.keccak.specs.Permutation.{rho}
 use Rattle.keccak.proofs.Planes.{by-planes}
+use borrow.Author.Needs.{needs}
 use Rattle.keccak.proofs.permutation.rho.Statement.{statement}
 use Rattle.keccak.proofs.permutation.rho.Tie as tie
 

@@ -1,10 +1,10 @@
 -- `keccak::permutation::rho_lane` meets its contract.
 -- Assumes nothing.
-use borrow.Author.Needs.{needs}
 use mathlib.Core.Path.{_∙_, ap}
 use mathlib.Core.List.{List}
 use Prim.Native.Nat.{ℕ}
 use Rattle.keccak.specs.Permutation.{lane, rotate}
+use borrow.Author.Needs.{needs}
 use Rattle.keccak.proofs.permutation.rho_lane.Statement.{statement}
 use Rattle.keccak.proofs.permutation.rho_lane.Tie as tie
 

@@ -1,9 +1,9 @@
 -- `keccak::permutation::rotate` meets its contract.
 -- Assumes nothing.
-use borrow.Author.Needs.{needs}
 use native.Mathlib.Omega.{arith}
 use Rattle.keccak.specs.Permutation.{rotate}
 use Rattle.keccak.proofs.Rotation.{or-is-sum, by-none}
+use borrow.Author.Needs.{needs}
 use Rattle.keccak.proofs.permutation.rotate.Statement.{statement}
 use Rattle.keccak.proofs.permutation.rotate.Tie as tie
 

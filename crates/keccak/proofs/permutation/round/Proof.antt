@@ -1,10 +1,10 @@
 -- `keccak::permutation::round` meets its contract.
 -- Assumes nothing.
-use borrow.Author.Needs.{needs}
 use mathlib.Core.Path.{_∙_, ap}
 use mathlib.Core.List.{List}
 use Prim.Native.Nat.{ℕ}
 use Rattle.keccak.specs.Permutation.{rho, pi, chi, iota}
+use borrow.Author.Needs.{needs}
 use Rattle.keccak.proofs.permutation.round.Statement.{statement}
 use Rattle.keccak.proofs.permutation.round.Tie as tie
 

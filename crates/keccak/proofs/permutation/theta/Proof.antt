@@ -1,8 +1,8 @@
 -- `keccak::permutation::theta` meets its contract.
 -- Assumes nothing.
-use borrow.Author.Needs.{needs}
 use Rattle.keccak.specs.Permutation.{theta}
 use Rattle.keccak.proofs.Planes.{by-planes}
+use borrow.Author.Needs.{needs}
 use Rattle.keccak.proofs.permutation.theta.Statement.{statement}
 use Rattle.keccak.proofs.permutation.theta.Tie as tie
 

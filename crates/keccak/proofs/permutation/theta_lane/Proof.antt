@@ -1,6 +1,5 @@
 -- `keccak::permutation::theta_lane` meets its contract.
 -- Assumes nothing.
-use borrow.Author.Needs.{needs}
 use mathlib.Core.Path.{_≡_, _∙_, ap}
 use mathlib.Core.List.{List}
 use Prim.Native.Nat.{ℕ}
@@ -8,6 +7,7 @@ use denote.Ref.{now}
 use lib.ListN.{getD}
 use Rattle.keccak.specs.Permutation.{_⊕_, effect}
 use Rattle.keccak.proofs.Planes.{plane-at}
+use borrow.Author.Needs.{needs}
 use Rattle.keccak.proofs.permutation.theta_lane.Statement.{statement}
 use Rattle.keccak.proofs.permutation.theta_lane.Tie as tie
 

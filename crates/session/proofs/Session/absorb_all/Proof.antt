@@ -8,11 +8,12 @@ use native.Mathlib.Omega.{arith}
 use lib.ListN.{length, getD, take}
 use lib.Seq.{take-all, take-suc}
 use Rattle.basics.specs.Logic.{all}
+use Rattle.field.specs.Field.{isElement}
 use Rattle.tag.proofs.WordKinds.{length-below}
 use Rattle.session.specs.Sponge.{Sponge, rate, absorbElement}
 use Rattle.session.specs.Record.{moved, phaseWord}
 use Rattle.session.specs.Steps.{sponge, phaseAfter, doneAfter}
-use Rattle.session.proofs.Elements.{below, at-most-one, added-reduced, absorb-parts}
+use Rattle.session.proofs.Elements.{at-most-one, added-reduced, absorb-parts}
 use Rattle.session.proofs.Folds.{absorbElements, absorb-snoc, absorb-all}
 use borrow.Author.Needs.{needs}
 use Rattle.session.proofs.Session.absorb_all.Statement.{statement}
@@ -23,7 +24,7 @@ Inv-loop self input state₀ position₀ permutations₀ i₀ i-end state positi
     (i ≤ length input)
     × (absorbElements (sponge (self .state) (self .«absorb_position») rate (self .permutations)) (take i input) ≡ sponge state position rate permutations)
     × (position ≤ rate)
-    × (all below state ≡ true)
+    × (all isElement state ≡ true)
     × (permutations ≤ self .permutations + i)
 
 abbrev μ-loop : tie.MeasureT-loop

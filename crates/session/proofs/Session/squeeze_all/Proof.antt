@@ -8,11 +8,12 @@ use native.Mathlib.Numerals.{add-one}
 use native.Mathlib.Omega.{arith}
 use lib.ListN.{length, getD, set, drop}
 use Rattle.basics.specs.Logic.{all}
+use Rattle.field.specs.Field.{isElement}
 use Rattle.tag.proofs.WordKinds.{length-below}
 use Rattle.session.specs.Sponge.{Sponge, rate, squeezeElement, squeezedElement}
 use Rattle.session.specs.Record.{spongeOf, moved, phaseWord}
 use Rattle.session.specs.Steps.{sponge, placeFor, phaseAfter, doneAfter}
-use Rattle.session.proofs.Elements.{below, at-most-one, state-reduced, squeeze-parts, squeezed-parts}
+use Rattle.session.proofs.Elements.{at-most-one, state-reduced, squeeze-parts, squeezed-parts}
 use Rattle.session.proofs.Folds.{squeezeElements, squeezedElements, squeeze-snoc, length-written, write-next, all-written, squeeze-all, squeezed-all}
 use borrow.Author.Needs.{needs}
 use Rattle.session.proofs.Session.squeeze_all.Statement.{statement}
@@ -24,7 +25,7 @@ Inv-loop self output₀ state₀ absorb-position₀ position₀ permutations₀ 
     × (squeezeElements (spongeOf self) i ≡ sponge state absorb-position position permutations)
     × (output ≡ squeezedElements (spongeOf self) i ++ drop i output₀)
     × (position ≤ rate)
-    × (all below state ≡ true)
+    × (all isElement state ≡ true)
     × (permutations ≤ self .permutations + i)
 
 abbrev μ-loop : tie.MeasureT-loop
