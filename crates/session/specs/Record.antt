@@ -6,7 +6,7 @@ use lib.Dec.{eqb}
 use lib.ListN.{length, getD, replicate}
 use Rattle.basics.specs.Logic.{if_then_else_}
 use Rattle.tag.specs.Pattern.{lengthOf}
-use Rattle.session.specs.Sponge.{Sponge, absorbElement, squeezeElement, squeezedElement}
+use Rattle.session.specs.Sponge.{width, Sponge, absorbElement, squeezeElement, squeezedElement}
 use Rattle.session.specs.declared.Session.{Session}
 
 -- "a status (1 open, otherwise closed)"
@@ -18,7 +18,7 @@ unfoldable pub wiped : Session
 wiped =
     record {
       status = 0;
-      state = replicate 24 0;
+      state = replicate width 0;
       words = replicate 64 0;
       count = 0;
       phase = 0;

@@ -74,13 +74,14 @@ fn pick(test: bool, a: u32, b: u32) -> u32
 }
 
 impl Session {
-    // The outer elements of the state: those that are absorbed into and squeezed from.
+    // How many outer elements the state has: those that are absorbed into and squeezed from.
     pub const RATE: usize = 8;
 
-    // The inner elements.
+    // How many inner elements it has.
     pub const CAPACITY: usize = 16;
 
-    pub const WIDTH: usize = 24;
+    // How many elements it has in all.
+    pub const WIDTH: usize = Session::RATE + Session::CAPACITY;
 
     // START: opens a session for a pattern and a separator.
     pub fn start(words: &[u32], separator: &[u8]) -> Answer
