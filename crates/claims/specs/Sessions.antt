@@ -3,28 +3,29 @@
 use mathlib.Core.Path.{_≡_, sym, _∙_}
 use mathlib.Core.Bool.{true}
 use mathlib.Core.List.{List, _++_}
-use Prim.Native.Nat.{ℕ, _+_}
+use Prim.Native.Nat.{ℕ, _+_, _<_}
 use borrow.Author.Tests.{eqb-true, eq-eqb}
 use lib.Dec.{ltb}
-use lib.ListN.{length}
+use lib.ListN.{length, getD}
 use Rattle.basics.specs.Logic.{all}
 use Rattle.basics.specs.Numbers.{accepted}
 use Rattle.basics.proofs.Cases.{if-true}
 use Rattle.field.specs.Field.{p}
-use Rattle.tag.specs.Pattern.{phases, mergedWords}
+use Rattle.tag.specs.Pattern.{lengthOf, phases, mergedWords}
 use Rattle.session.specs.Record.{opened, squeezedAll}
 use Rattle.tag.specs.Permutations.{permutationsAt}
 use Rattle.session.specs.Soundness.{sound}
 use Rattle.session.specs.Calls.{start, absorb, squeeze, squeezeBuffer}
 use Rattle.session.specs.declared.Session.{Session}
 use Rattle.session.proofs.SoundRecord.{parts}
-use Rattle.runs.specs.Calls.{Call, SQUEEZE, answered, accepts, left, leftBy, absorbed, squeezedIn, squeezed}
+use Rattle.runs.specs.Calls.{Call, SQUEEZE, answered, accepts, left, leftBy, OpenAt, absorbed, squeezedIn, squeezed}
 use Rattle.runs.specs.Lengths.{absorbLength}
 use Rattle.runs.specs.Runs.{Run, absorbedOf, permutationsOf}
 use Rattle.runs.proofs.SoundCalls.{sound-left}
 use Rattle.runs.proofs.Opened.{start-open, start-sound, sound-run}
 use Rattle.runs.proofs.Counted.{count-run, count-whole}
 use Rattle.runs.proofs.Finishing.{finishable}
+use Rattle.runs.proofs.Reached.{place-reached, end-reached}
 use Rattle.runs.proofs.Forks.{left-by-append, absorbed-append, squeezed-append}
 use Rattle.runs.proofs.SqueezedElements.{squeezed-reduced}
 use Rattle.runs.proofs.Cuts.{absorb-part, absorb-cut, squeeze-part, squeeze-cut, squeezed-cut}
@@ -49,6 +50,15 @@ pub count-at-every-place : (words separator : List ℕ) → start words separato
     → let r = leftBy (start words separator .session) cs in
     r .status ≡ opened → r .permutations ≡ permutationsAt (mergedWords words) (r .phase) (r .done)
 count-at-every-place words separator e cs o = count-run words separator e cs (eq-eqb _ _ o)
+
+-- Every place of an accepted pattern is reached: some calls lead START's record to an open record in any phase, with any number of elements
+-- below that phase's length done, and some to one after the last phase. So the count and the positions that `sound` wants at a place are
+-- "those the steps give at that place".
+pub every-place-is-reached : (words separator : List ℕ) → start words separator .number ≡ accepted
+    → ((phase done : ℕ) → phase < length (mergedWords words) → done < lengthOf (getD (mergedWords words) phase 0)
+    → (cs : List Call) × OpenAt (leftBy (start words separator .session) cs) phase done)
+    × ((cs : List Call) × OpenAt (leftBy (start words separator .session) cs) (length (mergedWords words)) 0)
+every-place-is-reached words separator e = (place-reached words separator e, end-reached words separator e)
 
 -- and of a finished session, whichever calls its list holds
 pub count-of-session : (a : Run) → permutationsOf a ≡ permutationsAt (mergedWords (a .words)) (length (mergedWords (a .words))) 0

@@ -30,11 +30,11 @@ permutations-padded ws n phase done =
     (ap (λ (w : ℕ). phasePermutations w done) (zeros-behind ws n phase))
 
 module _ (ws separator : List ℕ) (e : start ws separator .number ≡ accepted) where
-  start-words : start ws separator .session .words ≡ mergedWords ws ++ replicate (64 - length (mergedWords ws)) 0
+  pub start-words : start ws separator .session .words ≡ mergedWords ws ++ replicate (64 - length (mergedWords ws)) 0
   unfolding startRecord openRecord
   start-words = ap (λ (r : Session). r .words) (start-record ws separator e)
 
-  start-count : start ws separator .session .count ≡ length (mergedWords ws)
+  pub start-count : start ws separator .session .count ≡ length (mergedWords ws)
   unfolding startRecord openRecord
   start-count = ap (λ (r : Session). r .count) (start-record ws separator e)
 
