@@ -3,7 +3,8 @@
 use mathlib.Core.Path.{_≡_, sym, _∙_}
 use mathlib.Core.Bool.{true}
 use mathlib.Core.List.{List, _++_}
-use Prim.Native.Nat.{ℕ, _+_, _<_}
+use Prim.Native.Nat.{ℕ, _+_, _≤_, _<_}
+use native.Mathlib.Omega.{arith}
 use borrow.Author.Tests.{eqb-true, eq-eqb}
 use lib.Dec.{ltb}
 use lib.ListN.{length, getD}
@@ -18,12 +19,14 @@ use Rattle.session.specs.Soundness.{sound}
 use Rattle.session.specs.Calls.{start, absorb, squeeze, squeezeBuffer}
 use Rattle.session.specs.declared.Session.{Session}
 use Rattle.session.proofs.SoundRecord.{parts}
+use Rattle.session.proofs.Counts.{positions-bound}
 use Rattle.runs.specs.Calls.{Call, SQUEEZE, answered, accepts, left, leftBy, OpenAt, absorbed, squeezedIn, squeezed}
 use Rattle.runs.specs.Lengths.{absorbLength}
-use Rattle.runs.specs.Runs.{Run, absorbedOf, permutationsOf}
+use Rattle.runs.specs.Runs.{Run, patternOf, absorbedOf, permutationsOf}
 use Rattle.runs.proofs.SoundCalls.{sound-left}
 use Rattle.runs.proofs.Opened.{start-open, start-sound, sound-run}
 use Rattle.runs.proofs.Counted.{count-run, count-whole}
+use Rattle.runs.proofs.Compared.{all-absorbed}
 use Rattle.runs.proofs.Finishing.{finishable}
 use Rattle.runs.proofs.Reached.{place-reached, end-reached}
 use Rattle.runs.proofs.Forks.{left-by-append, absorbed-append, squeezed-append}
@@ -63,6 +66,17 @@ every-place-is-reached words separator e = (place-reached words separator e, end
 -- and of a finished session, whichever calls its list holds
 pub count-of-session : (a : Run) → permutationsOf a ≡ permutationsAt (mergedWords (a .words)) (length (mergedWords (a .words))) 0
 count-of-session = count-whole
+
+-- "an absorb and a squeeze position (0 to 8)": neither position of a sound record is above 8.
+pub positions-are-0-to-8 : (r : Session) → sound r ≡ true → (r .«absorb_position» ≤ 8) × (r .«squeeze_position» ≤ 8)
+positions-are-0-to-8 r e =
+    let s = parts r e in
+    let bound = positions-bound (r .words) (r .phase) (r .done) in
+    (omega (arith, s .absorbs-at, bound .absorbs), omega (arith, s .squeezes-at, bound .squeezes))
+
+-- A finished session has absorbed exactly as many elements as its ABSORB phases have, so its blocks hold all of them.
+pub all-is-absorbed : (a : Run) → length (absorbedOf a) ≡ absorbLength (patternOf a)
+all-is-absorbed = all-absorbed
 
 -- Every opened session can be finished by some list of calls, whatever elements below p it is to absorb.
 pub every-session-finishes : (words separator xs : List ℕ) → start words separator .number ≡ accepted
