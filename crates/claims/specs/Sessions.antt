@@ -1,5 +1,6 @@
--- Sessions: records stay sound, counts are those of document 01, calls may be cut, and every session can be finished. `start`, `absorb`,
--- `squeeze` and `finish` are those that the contracts of `session` cite.
+-- Sessions: records stay sound, counts and positions are those of document 01 at every place of a pattern, every session can be finished and
+-- then has absorbed its whole pattern, copies are forks, calls may be cut, and what is squeezed is what the buffer holds, elements below p.
+-- `start`, `absorb`, `squeeze` and `finish` are those that the contracts of `session` cite.
 use mathlib.Core.Path.{_≡_, sym, _∙_}
 use mathlib.Core.Bool.{true}
 use mathlib.Core.List.{List, _++_}
@@ -43,12 +44,13 @@ pub calls-leave-sound : (r : Session) (c : Call) → (r .status ≡ opened → s
     → left r c .status ≡ opened → sound (left r c) ≡ true
 calls-leave-sound r c s o = sound-left r c (λ e. s (eqb-true _ _ e)) (eq-eqb _ _ o)
 
--- So whatever calls are made on START's record, it is sound as long as it is open.
+-- Whatever calls are made on START's record, it is sound as long as it is open.
 pub sessions-stay-sound : (words separator : List ℕ) → start words separator .number ≡ accepted → (cs : List Call)
     → leftBy (start words separator .session) cs .status ≡ opened → sound (leftBy (start words separator .session) cs) ≡ true
 sessions-stay-sound words separator e cs o = sound-run words separator e cs (eq-eqb _ _ o)
 
--- "Permutations for d elements done in a phase .. Their sum over phases is the count.": at every place that calls lead to.
+-- "Permutations for d elements done in a phase .. Their sum over phases is the count.": that is the record's count at every place that calls
+-- lead to.
 pub count-at-every-place : (words separator : List ℕ) → start words separator .number ≡ accepted → (cs : List Call)
     → let r = leftBy (start words separator .session) cs in
     r .status ≡ opened → r .permutations ≡ permutationsAt (mergedWords words) (r .phase) (r .done)
@@ -63,7 +65,7 @@ pub every-place-is-reached : (words separator : List ℕ) → start words separa
     × ((cs : List Call) × OpenAt (leftBy (start words separator .session) cs) (length (mergedWords words)) 0)
 every-place-is-reached words separator e = (place-reached words separator e, end-reached words separator e)
 
--- and of a finished session, whichever calls its list holds
+-- A finished session has counted the permutations of its whole merged pattern, whichever calls its list holds.
 pub count-of-session : (a : Run) → permutationsOf a ≡ permutationsAt (mergedWords (a .words)) (length (mergedWords (a .words))) 0
 count-of-session = count-whole
 
@@ -92,23 +94,24 @@ pub copies-are-forks : (r : Session) (cs ds : List Call)
     × (squeezed r (cs ++ ds) ≡ squeezed r cs ++ squeezed (leftBy r cs) ds)
 copies-are-forks r cs ds = (left-by-append r cs ds, absorbed-append r cs ds, squeezed-append r cs ds)
 
--- "they may be cut freely inside it": an accepted ABSORB is its two parts one after the other
+-- "they may be cut freely inside it": an accepted ABSORB does what its two parts do one after the other, and both are accepted.
 pub absorb-cut-freely : (r : Session) (xs ys : List ℕ) → absorb r (xs ++ ys) .number ≡ accepted
     → (absorb r xs .number ≡ accepted) × (absorb (absorb r xs .session) ys ≡ absorb r (xs ++ ys))
 absorb-cut-freely r xs ys e = (absorb-part r xs ys e, absorb-cut r xs ys e)
 
--- and so is an accepted SQUEEZE, with the elements that it writes
+-- "they may be cut freely inside it": an accepted SQUEEZE does what its two parts do one after the other, both are accepted, and they write
+-- the same elements.
 pub squeeze-cut-freely : (r : Session) (n m : ℕ) → squeeze r (n + m) .number ≡ accepted
     → (squeeze r n .number ≡ accepted) × (squeeze (squeeze r n .session) m ≡ squeeze r (n + m))
     × (squeezedAll r (n + m) ≡ squeezedAll r n ++ squeezedAll (squeeze r n .session) m)
 squeeze-cut-freely r n m e = (squeeze-part r n m e, squeeze-cut r n m e, squeezed-cut r n m e)
 
--- "Squeezed are the elements that the accepted SQUEEZE calls wrote": they are what the buffer then holds,
+-- "Squeezed are the elements that the accepted SQUEEZE calls wrote": they are what the buffer then holds.
 pub squeezed-are-written : (r : Session) (buffer : List ℕ) → squeeze r (length buffer) .number ≡ accepted
     → squeezeBuffer r buffer ≡ squeezedIn r (SQUEEZE (length buffer))
 unfolding squeezeBuffer squeezedIn accepts answered
 squeezed-are-written r buffer e = if-true _ _ _ (eq-eqb _ _ e) ∙ sym (if-true _ _ _ (eq-eqb _ _ e))
 
--- and, of a sound record, numbers below p.
+-- What is squeezed from a sound record are elements: numbers below p.
 pub squeezed-are-elements : (r : Session) (n : ℕ) → sound r ≡ true → all (λ x. ltb x p) (squeezedAll r n) ≡ true
 squeezed-are-elements r n e = squeezed-reduced n r (parts r e .reduced)

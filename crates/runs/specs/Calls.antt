@@ -12,6 +12,7 @@ use Rattle.session.specs.Calls.{absorb, squeeze, finish}
 use Rattle.session.specs.declared.Session.{Session}
 use Rattle.session.specs.declared.Answer.{Answer}
 
+-- one call: ABSORB of a list, SQUEEZE of so many elements, or FINISH
 pub data Call : Type 0 where
   ABSORB : List ℕ → Call
   SQUEEZE : ℕ → Call
