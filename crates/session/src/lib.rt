@@ -254,7 +254,8 @@ impl Session {
         elements: u32,
     ) -> Session
         requires { ⌜ Within self elements ⌝ }
-        ensures { λ r. ⌜ r ≡ moved self (sponge state «absorb_position» «squeeze_position» permutations) (phaseAfter self elements) (doneAfter self elements) ⌝ }
+        ensures { λ r. ⌜ r ≡ moved self (sponge state «absorb_position» «squeeze_position» permutations)
+            (phaseAfter self elements) (doneAfter self elements) ⌝ }
     {
         let words = self.words;
         let phase = self.phase;
@@ -288,7 +289,7 @@ impl Session {
         self.move_on(
             state,
             position,
-            Session::RATE as u32,
+            sponge::RATE,
             permutations,
             input.len() as u32,
         )

@@ -7,7 +7,7 @@ ghost use lib.Dec.{ltb};
 ghost use lib.ListN.{getD};
 ghost use Rattle.basics.specs.Logic.{all};
 ghost use Rattle.field.specs.Field.{p};
-ghost use Rattle.session.specs.Sponge.{tagState};
+ghost use Rattle.session.specs.Sponge.{rate, tagState};
 ghost use Rattle.session.specs.Steps.{stateFor, permutationsFor, placeFor, stateWith, absorbFor};
 
 // Positions are 32-bit numbers, as in the record.
@@ -41,16 +41,16 @@ pub(crate) fn permute_if_full(state: &mut [u32; Session::WIDTH], position: u32) 
 
 // The place in the state for an element at a position: 0 where that is RATE.
 fn place(position: u32) -> u32
-    requires { ⌜ position ≤ 8 ⌝ }
-    ensures { λ r. ⌜ (r ≡ placeFor position) × (r < 8) ⌝ }
+    requires { ⌜ position ≤ rate ⌝ }
+    ensures { λ r. ⌜ (r ≡ placeFor position) × (r < rate) ⌝ }
 {
     position % RATE
 }
 
 // The position behind an element at a position.
 pub(crate) fn next_position(position: u32) -> u32
-    requires { ⌜ position ≤ 8 ⌝ }
-    ensures { λ r. ⌜ (r ≡ placeFor position + 1) × (r ≤ 8) ⌝ }
+    requires { ⌜ position ≤ rate ⌝ }
+    ensures { λ r. ⌜ (r ≡ placeFor position + 1) × (r ≤ rate) ⌝ }
 {
     place(position) + 1
 }
@@ -69,7 +69,7 @@ pub(crate) fn absorb_element(state: &mut [u32; Session::WIDTH], position: u32, e
 
 // The element at a position.
 pub(crate) fn element_at(state: &[u32; Session::WIDTH], position: u32) -> u32
-    requires { ⌜ position ≤ 8 ⌝ }
+    requires { ⌜ position ≤ rate ⌝ }
     ensures { λ r. ⌜ r ≡ getD (now (state .entry)) (placeFor position) 0 ⌝ }
 {
     let at = place(position) as usize;
