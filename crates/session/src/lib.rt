@@ -298,8 +298,8 @@ impl Session {
     // Squeezes elements one after the other.
     fn squeeze_all(self, output: &mut [u32]) -> Session
         requires { ⌜ Within self (length (now output)) ⌝ }
-        ensures { λ r. ⌜ r ≡ squeezeAll self (length (now (output .entry))) ⌝ }
-        ensures { λ _. ⌜ now (output .exit) ≡ squeezedAll self (length (now (output .entry))) ⌝ }
+        ensures { λ r. ⌜ (r ≡ squeezeAll self (length (now (output .entry)))) ×
+            (now (output .exit) ≡ squeezedAll self (length (now (output .entry)))) ⌝ }
     {
         let mut state = self.state;
         let mut absorb_position = self.absorb_position;

@@ -27,8 +27,7 @@ pub(crate) fn tag_state(elements: [u32; 8]) -> [u32; Session::WIDTH]
 // Permutes the state where a position is RATE. Answers how many permutations that is.
 pub(crate) fn permute_if_full(state: &mut [u32; Session::WIDTH], position: u32) -> u64
     requires { ⌜ all (λ x. ltb x p) (now state) ≡ true ⌝ }
-    ensures { λ r. ⌜ r ≡ permutationsFor position ⌝ }
-    ensures { λ _. ⌜ now (state .exit) ≡ stateFor position (now (state .entry)) ⌝ }
+    ensures { λ r. ⌜ (r ≡ permutationsFor position) × (now (state .exit) ≡ stateFor position (now (state .entry))) ⌝ }
 {
     if position != RATE {
         return 0;
@@ -58,8 +57,7 @@ pub(crate) fn next_position(position: u32) -> u32
 // Adds an element at a position, and permutes first where that is RATE. Answers how many permutations that is.
 pub(crate) fn absorb_element(state: &mut [u32; Session::WIDTH], position: u32, element: u32) -> u64
     requires { ⌜ (position ≤ 8) × (all (λ x. ltb x p) (now state) ≡ true) ⌝ }
-    ensures { λ r. ⌜ r ≡ permutationsFor position ⌝ }
-    ensures { λ _. ⌜ now (state .exit) ≡ stateWith position (now (state .entry)) element ⌝ }
+    ensures { λ r. ⌜ (r ≡ permutationsFor position) × (now (state .exit) ≡ stateWith position (now (state .entry)) element) ⌝ }
 {
     let permutations = permute_if_full(state, position);
     let at = place(position) as usize;
