@@ -10,16 +10,16 @@ use Rattle.basics.specs.Lists.{tabulate, sum}
 use Rattle.basics.specs.Digits.{digits, number, numberAfter}
 use Rattle.basics.specs.Numbers.{accepted}
 use Rattle.field.specs.Field.{p}
-use Rattle.poseidon.specs.Tables.{constants, inverses}
-use Rattle.poseidon.specs.Permutation.{addConstants, raiseAll, raiseFirst, raise, matrix, multiply, rounds, permutation, babyBear}
 use Rattle.tag.specs.Pattern.{isAbsorb, lengthOf, phaseOf, wordOf, join, merge, phases, mergedWords, alternate, soundWords}
 use Rattle.tag.specs.Start.{tooLong, startNumber}
 use Rattle.tag.specs.TagString.{wordBytes, tagString, wordAt}
 use Rattle.tag.specs.Elements.{tagElements}
+use Rattle.tag.specs.Permutations.{blockCount, phasePermutations, permutationsAt}
+use Rattle.poseidon.specs.Tables.{constants, inverses}
+use Rattle.poseidon.specs.Permutation.{addConstants, raiseAll, raiseFirst, raise, matrix, multiply, rounds, permutation, babyBear}
 use Rattle.session.specs.Sponge.{permute, tagState, readyToAbsorb, absorbElement, readyToSqueeze, squeezedElement, squeezeElement}
 use Rattle.session.specs.Record.{wiped, openRecord, spongeOf, moved, phaseWord, lastElement, nextPhase, nextDone}
 use Rattle.session.specs.Record.{absorbOne, squeezeOne, squeezedOne, absorbAll, squeezeAll}
-use Rattle.tag.specs.Permutations.{blockCount, phasePermutations, permutationsAt}
 use Rattle.session.specs.Soundness.{inLastBlock, positionsAfter, positionsAt, sound}
 use Rattle.session.specs.Calls.{giving, inPattern, absorb, squeeze, finish}
 use Rattle.session.specs.declared.Session.{Session}

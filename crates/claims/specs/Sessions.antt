@@ -14,8 +14,8 @@ use Rattle.basics.specs.Numbers.{accepted}
 use Rattle.basics.proofs.Cases.{if-true}
 use Rattle.field.specs.Field.{p}
 use Rattle.tag.specs.Pattern.{lengthOf, phases, mergedWords}
-use Rattle.session.specs.Record.{opened, squeezedAll}
 use Rattle.tag.specs.Permutations.{permutationsAt}
+use Rattle.session.specs.Record.{opened, squeezedAll}
 use Rattle.session.specs.Soundness.{sound}
 use Rattle.session.specs.Calls.{start, absorb, squeeze, squeezeBuffer}
 use Rattle.session.specs.declared.Session.{Session}

@@ -26,7 +26,7 @@ abbrev pub opening : Run → Session
 opening a = start (a .words) (a .separator) .session
 
 -- the whole list of calls
-abbrev pub callsOf : Run → List Call
+abbrev callsOf : Run → List Call
 callsOf a = a .before ++ (FINISH ∷ [])
 
 -- "The tag string is made by the rule under Tags from the words and separator that START got."

@@ -4,9 +4,9 @@ use session::Session;
 ghost use mathlib.Core.Path.{_≡_};
 ghost use lib.ListN.{length};
 ghost use Rattle.keccak.specs.Sponge.{sha3};
+ghost use Rattle.tag.specs.TagString.{written as writing, bufferAfter, readWords};
 ghost use Rattle.poseidon.specs.Permutation.{permuted};
 ghost use Rattle.session.specs.Calls.{giving, start, absorb, squeeze, squeezeBuffer, finish};
-ghost use Rattle.tag.specs.TagString.{written as writing, bufferAfter, readWords};
 
 // START into a lent record, whatever that held.
 #[no_mangle]
