@@ -2,7 +2,7 @@
 use mathlib.Core.Path.{_≡_, refl, _∙_}
 use mathlib.Core.Bool.{Bool, true, false}
 use mathlib.Core.List.{List, [], _∷_, _++_}
-use Prim.Native.Nat.{ℕ, _-_}
+use Prim.Native.Nat.{ℕ, _-_, _*_, _%_}
 use lib.Dec.{eqb}
 use lib.ListN.{length, getD, replicate}
 use Rattle.basics.specs.Logic.{if_then_else_, _and_, _or_, same, all, any}
@@ -10,16 +10,16 @@ use Rattle.basics.specs.Lists.{tabulate, sum}
 use Rattle.basics.specs.Digits.{digits, number, numberAfter}
 use Rattle.basics.specs.Numbers.{accepted}
 use Rattle.field.specs.Field.{p}
-use Rattle.poseidon.specs.Tables.{constants, inverses}
-use Rattle.poseidon.specs.Permutation.{addConstants, raiseAll, raiseFirst, raise, matrix, multiply, rounds, permutation, babyBear}
 use Rattle.tag.specs.Pattern.{isAbsorb, lengthOf, phaseOf, wordOf, join, merge, phases, mergedWords, alternate, soundWords}
 use Rattle.tag.specs.Start.{tooLong, startNumber}
 use Rattle.tag.specs.TagString.{wordBytes, tagString, wordAt}
 use Rattle.tag.specs.Elements.{tagElements}
+use Rattle.tag.specs.Permutations.{blockCount, phasePermutations, permutationsAt}
+use Rattle.poseidon.specs.Tables.{constants, inverses}
+use Rattle.poseidon.specs.Permutation.{addConstants, raiseAll, raiseFirst, raise, matrix, multiply, rounds, permutation, babyBear}
 use Rattle.session.specs.Sponge.{permute, tagState, readyToAbsorb, absorbElement, readyToSqueeze, squeezedElement, squeezeElement}
 use Rattle.session.specs.Record.{wiped, openRecord, spongeOf, moved, phaseWord, lastElement, nextPhase, nextDone}
 use Rattle.session.specs.Record.{absorbOne, squeezeOne, squeezedOne, absorbAll, squeezeAll}
-use Rattle.tag.specs.Permutations.{blockCount, phasePermutations, permutationsAt}
 use Rattle.session.specs.Soundness.{inLastBlock, positionsAfter, positionsAt, sound}
 use Rattle.session.specs.Calls.{giving, inPattern, absorb, squeeze, finish}
 use Rattle.session.specs.declared.Session.{Session}
@@ -44,7 +44,9 @@ b1 =
 -- "B2 80000001 00000001, separator 8000000200000002, gives the same string as 80000001 00000001 80000002 00000002 with none."
 b2 : List Bool
 b2 =
-    sameList
+    eqb (startNumber (0x80000001 ∷ 1 ∷ []) (0x80 ∷ 0 ∷ 0 ∷ 2 ∷ 0 ∷ 0 ∷ 0 ∷ 2 ∷ [])) accepted
+    ∷ eqb (startNumber (0x80000001 ∷ 1 ∷ 0x80000002 ∷ 2 ∷ []) []) accepted
+    ∷ sameList
     (tagString (0x80000001 ∷ 1 ∷ []) (0x80 ∷ 0 ∷ 0 ∷ 2 ∷ 0 ∷ 0 ∷ 0 ∷ 2 ∷ []))
     (tagString (0x80000001 ∷ 1 ∷ 0x80000002 ∷ 2 ∷ []) [])
     ∷ []
@@ -83,9 +85,14 @@ b7 r =
     ∷ sameList (byCalls r (ABSORB (replicate 8 5) ∷ SQUEEZE 8 ∷ ABSORB (5 ∷ []) ∷ SQUEEZE 1 ∷ [])) (2 ∷ accepted ∷ [])
     ∷ []
 
--- "B8 inverse of 24: 1929379841; of 32: 1950351361." They stand in row 0 of the matrix, in columns 0 and 8.
+-- "B8 inverse of 24: 1929379841; of 32: 1950351361.": the products are 1, and the inverses stand in row 0 of the matrix, in columns 0 and 8.
 b8 : List Bool
-b8 = eqb (matrix babyBear 0 0) 1929379841 ∷ eqb (matrix babyBear 0 8) 1950351361 ∷ []
+b8 =
+    eqb (24 * 1929379841 % p) 1
+    ∷ eqb (matrix babyBear 0 0) 1929379841
+    ∷ eqb (32 * 1950351361 % p) 1
+    ∷ eqb (matrix babyBear 0 8) 1950351361
+    ∷ []
 
 -- what a partial round raises x to
 raised : ℕ → ℕ
@@ -99,13 +106,15 @@ b9 = eqb (raised 2) 128 ∷ eqb (raised (p - 1)) (p - 1) ∷ []
 b10 : List Bool
 b10 = sameList (tagElements (replicate 32 0xff)) (replicate 8 1073741823) ∷ []
 
--- the samples, with the records of B4 to B7
+-- the tests of B1 to B10, with a record for each of B4 to B7
 samplesWith : Session → Session → Session → Session → List Bool
 samplesWith r4 r5 r6 r7 = b1 ++ b2 ++ b3 ++ b4 r4 ++ b5 r5 ++ b6 r6 ++ b7 r7 ++ b8 ++ b9 ++ b10
 
+-- the tests of B1 to B10, where B4 to B7 run on the records that START gives to their patterns
 pub samples : List Bool
 samples = samplesWith (startedRecord words4) (startedRecord words5) (startedRecord words6) (startedRecord words7)
 
+-- The tests pass on the records with computed digests.
 computed : all (λ sample. sample) (samplesWith record4 record5 record6 record7) ≡ true
 unfolding samplesWith b1 b2 b3 b4 b5 b6 b7 b8 b9 b10 sameList byFormula byCalls raised
     record4 record5 record6 record7 words4 words5 words6 words7 alternate soundWords
@@ -118,6 +127,7 @@ unfolding samplesWith b1 b2 b3 b4 b5 b6 b7 b8 b9 b10 sameList byFormula byCalls 
     giving inPattern absorb squeeze finish answered left leftBy
 computed = refl
 
+-- Every test of every sample passes.
 pub samples-hold : all (λ sample. sample) samples ≡ true
 unfolding samples
 samples-hold = (λ i. all (λ sample. sample) (samplesWith (opening4 i) (opening5 i) (opening6 i) (opening7 i))) ∙ computed

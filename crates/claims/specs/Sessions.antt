@@ -1,29 +1,34 @@
--- Sessions: records stay sound, counts are those of document 01, calls may be cut, and every session can be finished. `start`, `absorb`,
--- `squeeze` and `finish` are those that the contracts of `session` cite.
+-- Sessions: records stay sound, counts and positions are those of document 01 at every place of a pattern, every session can be finished and
+-- then has absorbed its whole pattern, copies are forks, calls may be cut, and what is squeezed is what the buffer holds, elements below p.
+-- `start`, `absorb`, `squeeze` and `finish` are those that the contracts of `session` cite.
 use mathlib.Core.Path.{_≡_, sym, _∙_}
 use mathlib.Core.Bool.{true}
 use mathlib.Core.List.{List, _++_}
-use Prim.Native.Nat.{ℕ, _+_}
+use Prim.Native.Nat.{ℕ, _+_, _≤_, _<_}
+use native.Mathlib.Omega.{arith}
 use borrow.Author.Tests.{eqb-true, eq-eqb}
-use lib.ListN.{length}
+use lib.ListN.{length, getD}
 use Rattle.basics.specs.Logic.{all}
 use Rattle.basics.specs.Numbers.{accepted}
 use Rattle.basics.proofs.Cases.{if-true}
 use Rattle.field.specs.Field.{isElement}
-use Rattle.tag.specs.Pattern.{phases, mergedWords}
-use Rattle.session.specs.Record.{opened, squeezedAll}
+use Rattle.tag.specs.Pattern.{lengthOf, phases, mergedWords}
 use Rattle.tag.specs.Permutations.{permutationsAt}
+use Rattle.session.specs.Record.{opened, squeezedAll}
 use Rattle.session.specs.Soundness.{sound}
 use Rattle.session.specs.Calls.{start, absorb, squeeze, squeezeBuffer}
 use Rattle.session.specs.declared.Session.{Session}
 use Rattle.session.proofs.SoundRecord.{parts}
-use Rattle.runs.specs.Calls.{Call, SQUEEZE, answered, accepts, left, leftBy, absorbed, squeezedIn, squeezed}
+use Rattle.session.proofs.Counts.{positions-bound}
+use Rattle.runs.specs.Calls.{Call, SQUEEZE, answered, accepts, left, leftBy, OpenAt, absorbed, squeezedIn, squeezed}
 use Rattle.runs.specs.Lengths.{absorbLength}
-use Rattle.runs.specs.Runs.{Run, absorbedOf, permutationsOf}
+use Rattle.runs.specs.Runs.{Run, patternOf, absorbedOf, permutationsOf}
 use Rattle.runs.proofs.SoundCalls.{sound-left}
 use Rattle.runs.proofs.Opened.{start-open, start-sound, sound-run}
 use Rattle.runs.proofs.Counted.{count-run, count-whole}
+use Rattle.runs.proofs.Compared.{all-absorbed}
 use Rattle.runs.proofs.Finishing.{finishable}
+use Rattle.runs.proofs.Reached.{place-reached, end-reached}
 use Rattle.runs.proofs.Forks.{left-by-append, absorbed-append, squeezed-append}
 use Rattle.runs.proofs.SqueezedElements.{squeezed-reduced}
 use Rattle.runs.proofs.Cuts.{absorb-part, absorb-cut, squeeze-part, squeeze-cut, squeezed-cut}
@@ -38,20 +43,41 @@ pub calls-leave-sound : (r : Session) (c : Call) → (r .status ≡ opened → s
     → left r c .status ≡ opened → sound (left r c) ≡ true
 calls-leave-sound r c s o = sound-left r c (λ e. s (eqb-true _ _ e)) (eq-eqb _ _ o)
 
--- So whatever calls are made on START's record, it is sound as long as it is open.
+-- Whatever calls are made on START's record, it is sound as long as it is open.
 pub sessions-stay-sound : (words separator : List ℕ) → start words separator .number ≡ accepted → (cs : List Call)
     → leftBy (start words separator .session) cs .status ≡ opened → sound (leftBy (start words separator .session) cs) ≡ true
 sessions-stay-sound words separator e cs o = sound-run words separator e cs (eq-eqb _ _ o)
 
--- "Permutations for d elements done in a phase .. Their sum over phases is the count.": at every place that calls lead to.
+-- "Permutations for d elements done in a phase .. Their sum over phases is the count.": that is the record's count at every place that calls
+-- lead to.
 pub count-at-every-place : (words separator : List ℕ) → start words separator .number ≡ accepted → (cs : List Call)
     → let r = leftBy (start words separator .session) cs in
     r .status ≡ opened → r .permutations ≡ permutationsAt (mergedWords words) (r .phase) (r .done)
 count-at-every-place words separator e cs o = count-run words separator e cs (eq-eqb _ _ o)
 
--- and of a finished session, whichever calls its list holds
+-- Every place of an accepted pattern is reached: some calls lead START's record to an open record in any phase, with any number of elements
+-- below that phase's length done, and some to one after the last phase. So the count and the positions that `sound` wants at a place are
+-- "those the steps give at that place".
+pub every-place-is-reached : (words separator : List ℕ) → start words separator .number ≡ accepted
+    → ((phase done : ℕ) → phase < length (mergedWords words) → done < lengthOf (getD (mergedWords words) phase 0)
+    → (cs : List Call) × OpenAt (leftBy (start words separator .session) cs) phase done)
+    × ((cs : List Call) × OpenAt (leftBy (start words separator .session) cs) (length (mergedWords words)) 0)
+every-place-is-reached words separator e = (place-reached words separator e, end-reached words separator e)
+
+-- A finished session has counted the permutations of its whole merged pattern, whichever calls its list holds.
 pub count-of-session : (a : Run) → permutationsOf a ≡ permutationsAt (mergedWords (a .words)) (length (mergedWords (a .words))) 0
 count-of-session = count-whole
+
+-- "an absorb and a squeeze position (0 to 8)": neither position of a sound record is above 8.
+pub positions-are-0-to-8 : (r : Session) → sound r ≡ true → (r .«absorb_position» ≤ 8) × (r .«squeeze_position» ≤ 8)
+positions-are-0-to-8 r e =
+    let s = parts r e in
+    let bound = positions-bound (r .words) (r .phase) (r .done) in
+    (omega (arith, s .absorbs-at, bound .absorbs), omega (arith, s .squeezes-at, bound .squeezes))
+
+-- A finished session has absorbed exactly as many elements as its ABSORB phases have, so its blocks hold all of them.
+pub all-is-absorbed : (a : Run) → length (absorbedOf a) ≡ absorbLength (patternOf a)
+all-is-absorbed = all-absorbed
 
 -- Every opened session can be finished by some list of calls, whatever elements below p it is to absorb.
 pub every-session-finishes : (words separator xs : List ℕ) → start words separator .number ≡ accepted
@@ -67,23 +93,24 @@ pub copies-are-forks : (r : Session) (cs ds : List Call)
     × (squeezed r (cs ++ ds) ≡ squeezed r cs ++ squeezed (leftBy r cs) ds)
 copies-are-forks r cs ds = (left-by-append r cs ds, absorbed-append r cs ds, squeezed-append r cs ds)
 
--- "they may be cut freely inside it": an accepted ABSORB is its two parts one after the other
+-- "they may be cut freely inside it": an accepted ABSORB does what its two parts do one after the other, and both are accepted.
 pub absorb-cut-freely : (r : Session) (xs ys : List ℕ) → absorb r (xs ++ ys) .number ≡ accepted
     → (absorb r xs .number ≡ accepted) × (absorb (absorb r xs .session) ys ≡ absorb r (xs ++ ys))
 absorb-cut-freely r xs ys e = (absorb-part r xs ys e, absorb-cut r xs ys e)
 
--- and so is an accepted SQUEEZE, with the elements that it writes
+-- "they may be cut freely inside it": an accepted SQUEEZE does what its two parts do one after the other, both are accepted, and they write
+-- the same elements.
 pub squeeze-cut-freely : (r : Session) (n m : ℕ) → squeeze r (n + m) .number ≡ accepted
     → (squeeze r n .number ≡ accepted) × (squeeze (squeeze r n .session) m ≡ squeeze r (n + m))
     × (squeezedAll r (n + m) ≡ squeezedAll r n ++ squeezedAll (squeeze r n .session) m)
 squeeze-cut-freely r n m e = (squeeze-part r n m e, squeeze-cut r n m e, squeezed-cut r n m e)
 
--- "Squeezed are the elements that the accepted SQUEEZE calls wrote": they are what the buffer then holds,
+-- "Squeezed are the elements that the accepted SQUEEZE calls wrote": they are what the buffer then holds.
 pub squeezed-are-written : (r : Session) (buffer : List ℕ) → squeeze r (length buffer) .number ≡ accepted
     → squeezeBuffer r buffer ≡ squeezedIn r (SQUEEZE (length buffer))
 unfolding squeezeBuffer squeezedIn accepts answered
 squeezed-are-written r buffer e = if-true _ _ _ (eq-eqb _ _ e) ∙ sym (if-true _ _ _ (eq-eqb _ _ e))
 
--- and, of a sound record, numbers below p.
+-- What is squeezed from a sound record are elements: numbers below p.
 pub squeezed-are-elements : (r : Session) (n : ℕ) → sound r ≡ true → all isElement (squeezedAll r n) ≡ true
 squeezed-are-elements r n e = squeezed-reduced n r (parts r e .reduced)

@@ -29,8 +29,8 @@ pub writing-again : (string : List ℕ) (n : ℕ) → ((k : ℕ) → getD string
     × (tagString (wordsRead string n) (readSeparator string n) ≡ string)
 writing-again string n bytes e = (writes string n bytes e, writes-string string n bytes e)
 
--- "13: no tag string of that separator length": what reading refuses with 13 is the tag string of no accepted pattern with a separator of
--- that length.
+-- "no tag string of that separator length": what reading refuses with 13 is the tag string of no accepted pattern with a separator of that
+-- length.
 pub no-tag-string : (string : List ℕ) (n : ℕ) → readNumber string n ≡ notTagString
     → (words separator : List ℕ) → startNumber words separator ≡ accepted → length separator ≡ n → tagString words separator ≢ string
 no-tag-string = refused-string

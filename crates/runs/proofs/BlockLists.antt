@@ -24,7 +24,7 @@ cut bs cs ds es h e = (
 rejoin : (n : ℕ) (xs ys : List ℕ) → take n xs ≡ take n ys → drop n xs ≡ drop n ys → xs ≡ ys
 rejoin n xs ys p q = cc (take-append-drop n xs, take-append-drop n ys)
 
--- filling up lists of one length hides nothing
+-- two lists of one length have the same first n elements if they have them when both are filled up with the same list
 unfilled : (n : ℕ) (xs ys zs : List ℕ) → length xs ≡ length ys → take n (xs ++ zs) ≡ take n (ys ++ zs) → take n xs ≡ take n ys
 unfilled zero xs ys zs h e = refl
 unfilled (suc n) [] [] zs h e = refl

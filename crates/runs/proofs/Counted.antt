@@ -10,13 +10,13 @@ use Rattle.basics.specs.Numbers.{accepted}
 use Rattle.basics.proofs.Sums.{sum-same}
 use Rattle.basics.proofs.Zeros.{zeros-behind}
 use Rattle.tag.specs.Pattern.{lengthOf, mergedWords}
-use Rattle.session.specs.Record.{opened, openRecord}
 use Rattle.tag.specs.Permutations.{phasePermutations, permutationsAt}
+use Rattle.session.specs.Record.{opened, openRecord}
 use Rattle.session.specs.Calls.{startRecord, start}
 use Rattle.session.specs.declared.Session.{Session}
+use Rattle.session.proofs.SoundRecord.{parts, none-done}
 use Rattle.runs.specs.Calls.{Call, leftBy}
 use Rattle.runs.specs.Runs.{Run, opening, permutationsOf}
-use Rattle.session.proofs.SoundRecord.{parts, none-done}
 use Rattle.runs.proofs.Outcomes.{finish-ended}
 use Rattle.runs.proofs.Opened.{start-record, sound-run}
 use Rattle.runs.proofs.SamePattern.{same-left-by}
@@ -30,11 +30,11 @@ permutations-padded ws n phase done =
     (ap (λ (w : ℕ). phasePermutations w done) (zeros-behind ws n phase))
 
 module _ (ws separator : List ℕ) (e : start ws separator .number ≡ accepted) where
-  start-words : start ws separator .session .words ≡ mergedWords ws ++ replicate (64 - length (mergedWords ws)) 0
+  pub start-words : start ws separator .session .words ≡ mergedWords ws ++ replicate (64 - length (mergedWords ws)) 0
   unfolding startRecord openRecord
   start-words = ap (λ (r : Session). r .words) (start-record ws separator e)
 
-  start-count : start ws separator .session .count ≡ length (mergedWords ws)
+  pub start-count : start ws separator .session .count ≡ length (mergedWords ws)
   unfolding startRecord openRecord
   start-count = ap (λ (r : Session). r .count) (start-record ws separator e)
 

@@ -16,8 +16,8 @@ use Rattle.tag.specs.Pattern.{isAbsorb, lengthOf, Phase, phaseOf}
 use Rattle.session.specs.Sponge.{Sponge}
 use Rattle.session.specs.Record.{moved, phaseWord, nextPhase, nextDone}
 use Rattle.session.specs.declared.Session.{Session}
-use Rattle.runs.specs.Lengths.{absorbLength}
 use Rattle.session.proofs.SoundRecord.{Sound}
+use Rattle.runs.specs.Lengths.{absorbLength}
 use Rattle.runs.proofs.Places.{next-place}
 
 -- true for each element of an ABSORB phase, false for each of a SQUEEZE phase

@@ -20,11 +20,11 @@ use Rattle.session.specs.Record.{opened, spongeOf, moved, phaseWord, nextPhase,
 use Rattle.session.specs.Calls.{giving, absorb, squeeze, finish, start}
 use Rattle.session.specs.declared.Session.{Session}
 use Rattle.session.specs.declared.Answer.{Answer}
+use Rattle.session.proofs.SoundRecord.{Sound, parts, whole, element-left}
+use Rattle.session.proofs.Pattern.{InPhase}
 use Rattle.runs.specs.Calls.{Call, ABSORB, SQUEEZE, FINISH, answered, accepts, left, leftBy, absorbedIn, absorbed}
 use Rattle.runs.specs.Lengths.{absorbLength}
 use Rattle.runs.specs.Runs.{Run, absorbedOf}
-use Rattle.session.proofs.SoundRecord.{Sound, parts, whole, element-left}
-use Rattle.session.proofs.Pattern.{InPhase}
 use Rattle.runs.proofs.Kept.{absorb-kept, squeeze-kept}
 use Rattle.runs.proofs.Outcomes.{Takes, Ended, absorb-accepted, squeeze-accepted, finish-accepted}
 use Rattle.runs.proofs.Opened.{start-open, start-sound}

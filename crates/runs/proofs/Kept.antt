@@ -12,17 +12,17 @@ use Rattle.basics.specs.Lists.{sum}
 use Rattle.basics.proofs.Cases.{by, if-true}
 use Rattle.field.specs.Field.{p}
 use Rattle.tag.specs.Pattern.{isAbsorb, lengthOf}
+use Rattle.tag.specs.Permutations.{phasePermutations, permutationsAt}
+use Rattle.tag.proofs.PermutationCounts.{wholePhase}
 use Rattle.session.specs.Sponge.{rate, Sponge, readyToAbsorb, absorbElement, readyToSqueeze, squeezeElement}
 use Rattle.session.specs.Record.{spongeOf, moved, phaseWord, nextPhase, nextDone, absorbOne, squeezeOne}
-use Rattle.tag.specs.Permutations.{phasePermutations, permutationsAt}
 use Rattle.session.specs.Soundness.{positionsAfter, positionsAt}
 use Rattle.session.specs.declared.Session.{Session}
 use Rattle.session.proofs.Elements.{sum-reduced}
-use Rattle.tag.proofs.PermutationCounts.{wholePhase}
-use Rattle.runs.proofs.Positions.{position, no-permutations, positions-absorb, positions-squeeze, absorb-position, squeeze-position, squeeze-keeps-absorb}
-use Rattle.runs.proofs.ReadySponge.{Ready, ready-to-absorb, ready-to-squeeze}
 use Rattle.session.proofs.SoundRecord.{Sound, element-left}
 use Rattle.session.proofs.SoundPattern.{word-long, begins-absorbing, turns}
+use Rattle.runs.proofs.Positions.{position, no-permutations, positions-absorb, positions-squeeze, absorb-position, squeeze-position, squeeze-keeps-absorb}
+use Rattle.runs.proofs.ReadySponge.{Ready, ready-to-absorb, ready-to-squeeze}
 use Rattle.runs.proofs.Places.{next-place}
 
 -- the permutations of the phases before the record's

@@ -14,5 +14,6 @@ pub mod WholePattern
 pub mod BlockLists
 pub mod Compared
 pub mod Finishing
+pub mod Reached
 pub mod Cuts
 pub mod SqueezedElements

@@ -17,19 +17,19 @@ use Rattle.field.specs.Field.{p}
 use Rattle.tag.specs.Pattern.{mergedWords, soundWords}
 use Rattle.tag.specs.Start.{startNumber}
 use Rattle.tag.specs.Elements.{tagElements}
+use Rattle.tag.specs.Permutations.{permutationsAt}
 use Rattle.tag.proofs.MergedWords.{merged-sound}
 use Rattle.session.specs.Sponge.{tagState}
 use Rattle.session.specs.Record.{opened, openRecord, phaseWord}
-use Rattle.tag.specs.Permutations.{permutationsAt}
 use Rattle.session.specs.Soundness.{positionsAt, sound}
 use Rattle.session.specs.Calls.{giving, startRecord, start}
 use Rattle.session.specs.declared.Session.{Session}
 use Rattle.session.specs.declared.Answer.{Answer}
 use Rattle.session.proofs.Opening.{start-opens}
-use Rattle.runs.specs.Calls.{Call, leftBy}
-use Rattle.runs.proofs.Positions.{no-permutations}
 use Rattle.session.proofs.SoundRecord.{Sound, whole}
 use Rattle.session.proofs.SoundPattern.{word-long}
+use Rattle.runs.specs.Calls.{Call, leftBy}
+use Rattle.runs.proofs.Positions.{no-permutations}
 use Rattle.runs.proofs.SoundCalls.{sound-left-by}
 
 low-bits-reduced : (n : ℕ) → ltb (n % 1073741824) p ≡ true

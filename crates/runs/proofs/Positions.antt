@@ -10,8 +10,8 @@ use borrow.Author.Tests.{eqb-true, eqb-false}
 use lib.ListN.{getD}
 use Rattle.basics.proofs.Cases.{by, if-true, if-false}
 use Rattle.tag.specs.Pattern.{isAbsorb, lengthOf}
-use Rattle.session.specs.Sponge.{rate}
 use Rattle.tag.specs.Permutations.{blockCount, phasePermutations}
+use Rattle.session.specs.Sponge.{rate}
 use Rattle.session.specs.Soundness.{inLastBlock, positionsAfter, positionsAt}
 
 -- the position that a phase moves, with d of its elements done: 0 where an ABSORB phase begins, 8 where a SQUEEZE phase does

@@ -10,8 +10,8 @@ use Rattle.basics.specs.Logic.{all}
 use Rattle.basics.proofs.Cases.{by}
 use Rattle.field.specs.Field.{p}
 use Rattle.tag.specs.Pattern.{isAbsorb}
-use Rattle.session.specs.Sponge.{rate, Sponge, readyToAbsorb, readyToSqueeze}
 use Rattle.tag.specs.Permutations.{phasePermutations}
+use Rattle.session.specs.Sponge.{rate, Sponge, readyToAbsorb, readyToSqueeze}
 use Rattle.session.specs.Soundness.{inLastBlock}
 use Rattle.session.proofs.Elements.{permute-reduced}
 use Rattle.runs.proofs.Positions.{position, absorb-full, absorb-room, squeeze-full, squeeze-room}

@@ -12,9 +12,9 @@ use Rattle.session.specs.Soundness.{sound}
 use Rattle.session.specs.Calls.{giving}
 use Rattle.session.specs.declared.Session.{Session}
 use Rattle.session.specs.declared.Answer.{Answer}
-use Rattle.runs.specs.Calls.{Call, ABSORB, SQUEEZE, FINISH, answered, left, leftBy}
 use Rattle.session.proofs.SoundRecord.{Sound, parts, whole}
 use Rattle.session.proofs.Pattern.{InPhase}
+use Rattle.runs.specs.Calls.{Call, ABSORB, SQUEEZE, FINISH, answered, left, leftBy}
 use Rattle.runs.proofs.Places.{in-phase-next}
 use Rattle.runs.proofs.Kept.{absorb-kept, squeeze-kept}
 use Rattle.runs.proofs.Outcomes.{wiped-not-open, absorb-outcome, squeeze-outcome, finish-outcome}

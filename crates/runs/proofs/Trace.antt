@@ -14,9 +14,9 @@ use Rattle.session.specs.Record.{wiped, spongeOf, absorbOne, squeezeOne, squeez
 use Rattle.session.specs.Calls.{giving, absorb, squeeze, finish}
 use Rattle.session.specs.declared.Session.{Session}
 use Rattle.session.specs.declared.Answer.{Answer}
-use Rattle.runs.specs.Calls.{Call, ABSORB, SQUEEZE, FINISH, answered, accepts, left, leftBy, absorbedIn, absorbed, squeezedIn, squeezed}
 use Rattle.session.proofs.SoundRecord.{parts}
 use Rattle.session.proofs.Pattern.{InPhase}
+use Rattle.runs.specs.Calls.{Call, ABSORB, SQUEEZE, FINISH, answered, accepts, left, leftBy, absorbedIn, absorbed, squeezedIn, squeezed}
 use Rattle.runs.proofs.Places.{in-phase-next}
 use Rattle.runs.proofs.Outcomes.{wiped-not-open, absorb-outcome, squeeze-outcome, finish-outcome, finish-ended}
 use Rattle.runs.proofs.ElementKinds.{toDo, toAbsorb, next-to-do, none-to-do}

@@ -1,16 +1,18 @@
 -- Lists of calls on one record. From document 01, "What the third demand compares": "Among the calls an ABSORB stands with its lent list, a
 -- SQUEEZE with its buffer's length."
+use mathlib.Core.Path.{_≡_}
 use mathlib.Core.Bool.{Bool}
 use mathlib.Core.List.{List, [], _∷_, _++_}
 use Prim.Native.Nat.{ℕ}
 use lib.Dec.{eqb}
 use Rattle.basics.specs.Logic.{if_then_else_}
 use Rattle.basics.specs.Numbers.{accepted}
-use Rattle.session.specs.Record.{squeezedAll}
+use Rattle.session.specs.Record.{opened, squeezedAll}
 use Rattle.session.specs.Calls.{absorb, squeeze, finish}
 use Rattle.session.specs.declared.Session.{Session}
 use Rattle.session.specs.declared.Answer.{Answer}
 
+-- one call: ABSORB of a list, SQUEEZE of so many elements, or FINISH
 pub data Call : Type 0 where
   ABSORB : List ℕ → Call
   SQUEEZE : ℕ → Call
@@ -34,6 +36,12 @@ left r c = answered r c .session
 unfoldable pub leftBy : Session → List Call → Session
 leftBy r [] = r
 leftBy r (c ∷ cs) = leftBy (left r c) cs
+
+-- an open record that is at a place of its pattern: in a phase, with so many elements of it done
+pub record OpenAt (r : Session) (phaseNumber elementsDone : ℕ) : Type 0 where
+  pub opens : r .status ≡ opened
+  pub phase : r .phase ≡ phaseNumber
+  pub done : r .done ≡ elementsDone
 
 -- "Absorbed are the elements of the accepted ABSORB calls, in list order; a refused call adds none."
 unfoldable pub absorbedIn : Session → Call → List ℕ

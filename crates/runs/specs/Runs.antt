@@ -26,7 +26,7 @@ abbrev pub opening : Run → Session
 opening a = start (a .words) (a .separator) .session
 
 -- the whole list of calls
-abbrev pub callsOf : Run → List Call
+abbrev callsOf : Run → List Call
 callsOf a = a .before ++ (FINISH ∷ [])
 
 -- "The tag string is made by the rule under Tags from the words and separator that START got."
@@ -37,12 +37,15 @@ tagOf a = tagString (a .words) (a .separator)
 abbrev pub patternOf : Run → List Phase
 patternOf a = phases (a .words)
 
+-- the elements that the session absorbs, in list order
 abbrev pub absorbedOf : Run → List ℕ
 absorbedOf a = absorbed (opening a) (callsOf a)
 
+-- the elements that it squeezes, in list order
 abbrev pub squeezedOf : Run → List ℕ
 squeezedOf a = squeezed (opening a) (callsOf a)
 
+-- its list of blocks
 abbrev pub blocksOf : Run → List (List ℕ)
 blocksOf a = blocks (patternOf a) (absorbedOf a)
 

@@ -5,9 +5,9 @@ use Prim.Native.Nat.{ℕ, zero, suc, _*_, _≤_, _<_}
 use native.Mathlib.Omega.{arith}
 use lib.ListN.{getD}
 use Rattle.basics.proofs.Cases.{by}
+use Rattle.tag.specs.Permutations.{permutationsAt}
 use Rattle.tag.proofs.PermutationCounts.{phase-bound, sum-bound}
 use Rattle.session.specs.Sponge.{rate}
-use Rattle.tag.specs.Permutations.{permutationsAt}
 use Rattle.session.specs.Soundness.{inLastBlock, positionsAfter, positionsAt}
 use Rattle.session.specs.declared.soundness.Positions.{Positions}
 

@@ -1,5 +1,5 @@
--- Steps for a walk of code over a record that is lent by `&mut`: it is opened, and closed at another record. With what an answer's fields
--- are.
+-- Steps for the proof of a function that gets a record by `&mut`: the borrow is opened, and closed with another record in it. They need two
+-- facts on the fields of an answer, which are proved first.
 -- Assumes nothing.
 use mathlib.Core.List.{List, [], _∷_}
 use Prim.Native.Nat.{ℕ, _<_, _^_}
@@ -29,13 +29,14 @@ abbrev pub machine : Session → Val
 machine r = laws.val session.the-type session-laws.the-laws r
 
 -- a record's cell in memory
-abbrev pub cell : ℕ → ℕ → Session → Fml
+abbrev cell : ℕ → ℕ → Session → Fml
 cell b o r = fat fullShare session-laws.mir b o (machine r)
 
--- whoever holds an answer knows that its number is one of 32 bits, and that its record is one
+-- the number of an answer that has a machine value is below 2^32
 pub number-fits : (a : Answer) (w : Val) → Is answer.the-row a (w ∷ []) → a .number < 2 ^ 32
 number-fits a w is = laws.owed answer.the-type answer-laws.the-laws a _ is .0 .1
 
+-- and its record has a machine value too
 pub session-is : (a : Answer) (w : Val) → Is answer.the-row a (w ∷ []) → Is session.the-row (a .session) (machine (a .session) ∷ [])
 session-is a w is = laws.owed answer.the-type answer-laws.the-laws a _ is .1 .0
 

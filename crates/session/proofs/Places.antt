@@ -18,7 +18,7 @@ use Rattle.session.proofs.Counts.{count-bound, positions-bound}
 use Rattle.session.proofs.SoundRecord.{parts}
 
 module _ (r : Session) (e : sound r ≡ true) where
-  pub few-words : r .count ≤ 64
+  few-words : r .count ≤ 64
   few-words =
       let s = parts r e in
       let many = words.sound (take (r .count) (r .words)) (s .pattern) .many in

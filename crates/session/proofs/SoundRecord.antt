@@ -11,8 +11,8 @@ use Rattle.basics.specs.Logic.{if_then_else_, _and_, all}
 use Rattle.basics.proofs.Cases.{if-true, if-false, and-left, and-right, and-both, and-step, and-stop}
 use Rattle.field.specs.Field.{p}
 use Rattle.tag.specs.Pattern.{lengthOf, soundWords}
-use Rattle.session.specs.Record.{phaseWord}
 use Rattle.tag.specs.Permutations.{permutationsAt}
+use Rattle.session.specs.Record.{phaseWord}
 use Rattle.session.specs.Soundness.{positionsAt, sound}
 use Rattle.session.specs.Steps.{wordsSound, placeSound}
 use Rattle.session.specs.declared.Session.{Session}

@@ -6,7 +6,7 @@ use lib.Dec.{eqb}
 use lib.ListN.{length, getD, replicate}
 use Rattle.basics.specs.Logic.{if_then_else_}
 use Rattle.tag.specs.Pattern.{lengthOf}
-use Rattle.session.specs.Sponge.{Sponge, absorbElement, squeezeElement, squeezedElement}
+use Rattle.session.specs.Sponge.{width, Sponge, absorbElement, squeezeElement, squeezedElement}
 use Rattle.session.specs.declared.Session.{Session}
 
 -- "a status (1 open, otherwise closed)"
@@ -18,7 +18,7 @@ unfoldable pub wiped : Session
 wiped =
     record {
       status = 0;
-      state = replicate 24 0;
+      state = replicate width 0;
       words = replicate 64 0;
       count = 0;
       phase = 0;
@@ -77,34 +77,38 @@ phaseWord r = getD (r .words) (r .phase) 0
 unfoldable pub lastElement : Session → Bool
 lastElement r = eqb (suc (r .done)) (lengthOf (phaseWord r))
 
--- "When a phase's last element is done, the phase number (from 0) rises by one and elements done is 0."
+-- the phase number after one element more: "When a phase's last element is done, the phase number (from 0) rises by one and elements done is
+-- 0."
 unfoldable pub nextPhase : Session → ℕ
 nextPhase r = if lastElement r then suc (r .phase) else r .phase
 
+-- the elements done in that phase then
 unfoldable pub nextDone : Session → ℕ
 nextDone r = if lastElement r then 0 else suc (r .done)
 
--- one element absorbed
+-- the record after one element is absorbed
 unfoldable pub absorbOne : Session → ℕ → Session
 absorbOne r x = moved r (absorbElement (spongeOf r) x) (nextPhase r) (nextDone r)
 
--- one element squeezed, and which
+-- the record after one element is squeezed
 unfoldable pub squeezeOne : Session → Session
 squeezeOne r = moved r (squeezeElement (spongeOf r)) (nextPhase r) (nextDone r)
 
+-- the element that comes out then
 unfoldable pub squeezedOne : Session → ℕ
 squeezedOne r = squeezedElement (spongeOf r)
 
--- a list absorbed, element by element
+-- the record after a list is absorbed, element by element
 unfoldable pub absorbAll : Session → List ℕ → Session
 absorbAll r [] = r
 absorbAll r (x ∷ xs) = absorbAll (absorbOne r x) xs
 
--- n elements squeezed, and which
+-- the record after n elements are squeezed
 unfoldable pub squeezeAll : Session → ℕ → Session
 squeezeAll r zero = r
 squeezeAll r (suc n) = squeezeAll (squeezeOne r) n
 
+-- the n elements that come out then, in order
 unfoldable pub squeezedAll : Session → ℕ → List ℕ
 squeezedAll r zero = []
 squeezedAll r (suc n) = squeezedOne r ∷ squeezedAll (squeezeOne r) n

@@ -1,6 +1,6 @@
 -- The sponge of SAFE (source 001, Algorithm 2), element by element, as document 01 fixes it under "Session steps" and "Tags".
 use mathlib.Core.List.{List, _++_}
-use Prim.Native.Nat.{ℕ, _+_, _%_}
+use Prim.Native.Nat.{ℕ, _+_, _-_, _%_}
 use lib.Dec.{eqb}
 use lib.ListN.{getD, set, replicate}
 use Rattle.basics.specs.Logic.{if_then_else_}
@@ -11,20 +11,27 @@ use Rattle.poseidon.specs.Permutation.{permutation, babyBear}
 abbrev pub rate : ℕ
 rate = 8
 
--- What the sponge holds, and how many permutations it has done. "The state has eight outer elements and sixteen inner elements, numbered
--- 0 to 23 with the outer ones first."
+abbrev pub capacity : ℕ
+capacity = 16
+
+abbrev pub width : ℕ
+width = 24
+
+-- what the sponge holds, and how many permutations it has done
 pub record Sponge : Type 0 where
   pub state : List ℕ
   pub absorbPosition : ℕ
   pub squeezePosition : ℕ
   pub permutations : ℕ
 
+-- one permutation of the state
 unfoldable pub permute : List ℕ → List ℕ
 permute state = permutation babyBear state
 
--- "Word k is added to element 8 + k of the zero state.": the state that eight tag elements open
+-- "The state has eight outer elements and sixteen inner elements, numbered 0 to 23 with the outer ones first." "Word k is added to element
+-- 8 + k of the zero state.": the state that eight tag elements open, which are the first half of the inner elements
 unfoldable pub tagState : List ℕ → List ℕ
-tagState elements = replicate rate 0 ++ elements ++ replicate 8 0
+tagState elements = replicate rate 0 ++ elements ++ replicate (capacity - 8) 0
 
 -- "If that is 8, it permutes and goes to 0 first."
 unfoldable pub readyToAbsorb : Sponge → Sponge

@@ -38,19 +38,21 @@ stateWith position state x =
 unfoldable pub absorbFor : ℕ → ℕ → ℕ
 absorbFor squeeze absorb = if eqb squeeze rate then 0 else absorb
 
--- the tests of soundness that look at the words, and at the place in them
+-- the tests of soundness that look at the words
 unfoldable pub wordsSound : List ℕ → ℕ → Bool
 wordsSound words count =
     leb count (length words) and soundWords (take count words) and all (λ w. eqb w 0) (drop count words)
 
+-- the tests of soundness that look at the place in the pattern
 unfoldable pub placeSound : List ℕ → ℕ → ℕ → ℕ → Bool
 placeSound words count phase done =
     leb phase count and (if ltb phase count then ltb done (lengthOf (getD words phase 0)) else eqb done 0)
 
--- the place in the pattern after n elements more of the phase
+-- the phase number after n elements more of the phase
 unfoldable pub phaseAfter : Session → ℕ → ℕ
 phaseAfter r n = if eqb (r .done + n) (lengthOf (phaseWord r)) then suc (r .phase) else r .phase
 
+-- the elements done in that phase then
 unfoldable pub doneAfter : Session → ℕ → ℕ
 doneAfter r n = if eqb (r .done + n) (lengthOf (phaseWord r)) then 0 else r .done + n
 

@@ -74,13 +74,14 @@ fn pick(test: bool, a: u32, b: u32) -> u32
 }
 
 impl Session {
-    // The outer elements of the state: those that are absorbed into and squeezed from.
+    // How many outer elements the state has: those that are absorbed into and squeezed from.
     pub const RATE: usize = 8;
 
-    // The inner elements.
+    // How many inner elements it has.
     pub const CAPACITY: usize = 16;
 
-    pub const WIDTH: usize = 24;
+    // How many elements it has in all.
+    pub const WIDTH: usize = Session::RATE + Session::CAPACITY;
 
     // START: opens a session for a pattern and a separator.
     pub fn start(words: &[u32], separator: &[u8]) -> Answer
@@ -253,7 +254,8 @@ impl Session {
         elements: u32,
     ) -> Session
         requires { ⌜ Within self elements ⌝ }
-        ensures { λ r. ⌜ r ≡ moved self (sponge state «absorb_position» «squeeze_position» permutations) (phaseAfter self elements) (doneAfter self elements) ⌝ }
+        ensures { λ r. ⌜ r ≡ moved self (sponge state «absorb_position» «squeeze_position» permutations)
+            (phaseAfter self elements) (doneAfter self elements) ⌝ }
     {
         let words = self.words;
         let phase = self.phase;
@@ -287,7 +289,7 @@ impl Session {
         self.move_on(
             state,
             position,
-            Session::RATE as u32,
+            sponge::RATE,
             permutations,
             input.len() as u32,
         )
@@ -296,8 +298,8 @@ impl Session {
     // Squeezes elements one after the other.
     fn squeeze_all(self, output: &mut [u32]) -> Session
         requires { ⌜ Within self (length (now output)) ⌝ }
-        ensures { λ r. ⌜ r ≡ squeezeAll self (length (now (output .entry))) ⌝ }
-        ensures { λ _. ⌜ now (output .exit) ≡ squeezedAll self (length (now (output .entry))) ⌝ }
+        ensures { λ r. ⌜ (r ≡ squeezeAll self (length (now (output .entry)))) ×
+            (now (output .exit) ≡ squeezedAll self (length (now (output .entry)))) ⌝ }
     {
         let mut state = self.state;
         let mut absorb_position = self.absorb_position;

@@ -6,7 +6,7 @@ ghost use Prim.Native.Nat.{_+_, _≤_, _<_};
 ghost use lib.ListN.{getD};
 ghost use Rattle.basics.specs.Logic.{all};
 ghost use Rattle.field.specs.Field.{isElement};
-ghost use Rattle.session.specs.Sponge.{tagState};
+ghost use Rattle.session.specs.Sponge.{rate, tagState};
 ghost use Rattle.session.specs.Steps.{stateFor, permutationsFor, placeFor, stateWith, absorbFor};
 
 // Positions are 32-bit numbers, as in the record.
@@ -26,8 +26,7 @@ pub(crate) fn tag_state(elements: [u32; 8]) -> [u32; Session::WIDTH]
 // Permutes the state where a position is RATE. Answers how many permutations that is.
 pub(crate) fn permute_if_full(state: &mut [u32; Session::WIDTH], position: u32) -> u64
     requires { ⌜ all isElement (now state) ≡ true ⌝ }
-    ensures { λ r. ⌜ r ≡ permutationsFor position ⌝ }
-    ensures { λ _. ⌜ now (state .exit) ≡ stateFor position (now (state .entry)) ⌝ }
+    ensures { λ r. ⌜ (r ≡ permutationsFor position) × (now (state .exit) ≡ stateFor position (now (state .entry))) ⌝ }
 {
     if position != RATE {
         return 0;
@@ -40,25 +39,24 @@ pub(crate) fn permute_if_full(state: &mut [u32; Session::WIDTH], position: u32) 
 
 // The place in the state for an element at a position: 0 where that is RATE.
 fn place(position: u32) -> u32
-    requires { ⌜ position ≤ 8 ⌝ }
-    ensures { λ r. ⌜ (r ≡ placeFor position) × (r < 8) ⌝ }
+    requires { ⌜ position ≤ rate ⌝ }
+    ensures { λ r. ⌜ (r ≡ placeFor position) × (r < rate) ⌝ }
 {
     position % RATE
 }
 
 // The position behind an element at a position.
 pub(crate) fn next_position(position: u32) -> u32
-    requires { ⌜ position ≤ 8 ⌝ }
-    ensures { λ r. ⌜ (r ≡ placeFor position + 1) × (r ≤ 8) ⌝ }
+    requires { ⌜ position ≤ rate ⌝ }
+    ensures { λ r. ⌜ (r ≡ placeFor position + 1) × (r ≤ rate) ⌝ }
 {
     place(position) + 1
 }
 
 // Adds an element at a position, and permutes first where that is RATE. Answers how many permutations that is.
 pub(crate) fn absorb_element(state: &mut [u32; Session::WIDTH], position: u32, element: u32) -> u64
-    requires { ⌜ (position ≤ 8) × (all isElement (now state) ≡ true) ⌝ }
-    ensures { λ r. ⌜ r ≡ permutationsFor position ⌝ }
-    ensures { λ _. ⌜ now (state .exit) ≡ stateWith position (now (state .entry)) element ⌝ }
+    requires { ⌜ (position ≤ rate) × (all isElement (now state) ≡ true) ⌝ }
+    ensures { λ r. ⌜ (r ≡ permutationsFor position) × (now (state .exit) ≡ stateWith position (now (state .entry)) element) ⌝ }
 {
     let permutations = permute_if_full(state, position);
     let at = place(position) as usize;
@@ -68,7 +66,7 @@ pub(crate) fn absorb_element(state: &mut [u32; Session::WIDTH], position: u32, e
 
 // The element at a position.
 pub(crate) fn element_at(state: &[u32; Session::WIDTH], position: u32) -> u32
-    requires { ⌜ position ≤ 8 ⌝ }
+    requires { ⌜ position ≤ rate ⌝ }
     ensures { λ r. ⌜ r ≡ getD (now (state .entry)) (placeFor position) 0 ⌝ }
 {
     let at = place(position) as usize;

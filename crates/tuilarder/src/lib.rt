@@ -1,11 +1,12 @@
-// The static library for C and Rust: each function hands over to a library and does nothing else.
+// The static library for C and Rust: each function makes one call of another crate, and stores what that gives where the caller lends room
+// for it.
 use session::Session;
 ghost use mathlib.Core.Path.{_≡_};
 ghost use lib.ListN.{length};
 ghost use Rattle.keccak.specs.Sponge.{sha3};
+ghost use Rattle.tag.specs.TagString.{written as writing, bufferAfter, readWords};
 ghost use Rattle.poseidon.specs.Permutation.{permuted};
 ghost use Rattle.session.specs.Calls.{giving, start, absorb, squeeze, squeezeBuffer, finish};
-ghost use Rattle.tag.specs.TagString.{written as writing, bufferAfter, readWords};
 
 // START into a lent record, whatever that held.
 #[no_mangle]
@@ -55,7 +56,7 @@ pub extern "C" fn tuilarder_permute(state: &mut [u32; 24]) -> u32
 }
 
 // The tag string of a pattern and a separator, from the buffer's start on, with how many bytes it has. Refused, it writes no byte, and
-// gives 0 for their number.
+// gives length 0.
 #[no_mangle]
 pub extern "C" fn tuilarder_write_tag(
     words: &[u32],

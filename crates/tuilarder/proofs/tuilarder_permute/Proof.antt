@@ -1,8 +1,8 @@
 -- `tuilarder::tuilarder_permute` meets its contract.
 -- Assumes nothing.
 use mathlib.Core.Path.{ap}
-use borrow.Author.Needs.{needs}
 use Rattle.poseidon.specs.declared.Permuted.{Permuted}
+use borrow.Author.Needs.{needs}
 use Rattle.tuilarder.proofs.tuilarder_permute.Statement.{statement}
 use Rattle.tuilarder.proofs.tuilarder_permute.Tie as tie
 

@@ -1,8 +1,8 @@
 -- `tuilarder::tuilarder_write_tag` meets its contract.
 -- Assumes nothing.
 use mathlib.Core.Path.{ap}
-use borrow.Author.Needs.{needs}
 use Rattle.tag.specs.declared.Written.{Written}
+use borrow.Author.Needs.{needs}
 use Rattle.tuilarder.proofs.tuilarder_write_tag.Statement.{statement}
 use Rattle.tuilarder.proofs.tuilarder_write_tag.Tie as tie
 

@@ -78,8 +78,8 @@ loop-again c =
       omega (arith, inv .4, absorbed .0, at-most-one position),
     )
 
-cast-move-on-2 : tie.Need-cast-move-on-2 Inv-loop μ-loop
-cast-move-on-2 c =
+cast-move-on : tie.Need-cast-move-on Inv-loop μ-loop
+cast-move-on c =
     let within = c .before .before .before .before .pre in
     let few = within .fits in
     let small = length-below (phaseWord (c .before .before .before .before .args .self)) in
@@ -115,7 +115,6 @@ absorb-all-spec =
     (λ c. search needs)
     (λ c. search needs)
     loop-again
-    (λ c. search needs)
-    cast-move-on-2
+    cast-move-on
     move-on-requires
     returns)

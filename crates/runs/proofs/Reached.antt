@@ -1,0 +1,141 @@
+-- Every place of an accepted pattern is reached by some list of calls on the record that START gives.
+-- Assumes nothing.
+use mathlib.Core.Path.{_≡_, refl, sym, ap, _∙_, subst}
+use mathlib.Core.Bool.{Bool, true, false}
+use mathlib.Core.Logic.{_≢_}
+use mathlib.Core.List.{List, [], _∷_, _++_}
+use Prim.Native.Nat.{ℕ, zero, suc, _-_, _≤_, _<_}
+use native.Mathlib.Omega.{arith}
+use borrow.Author.Tests.{eq-eqb}
+use lib.Dec.{eqb}
+use lib.ListN.{length, getD}
+use Rattle.basics.specs.Logic.{_and_, all}
+use Rattle.basics.specs.Numbers.{accepted}
+use Rattle.basics.proofs.Cases.{cases}
+use Rattle.basics.proofs.Zeros.{zeros-behind}
+use Rattle.tag.specs.Pattern.{isAbsorb, lengthOf, mergedWords}
+use Rattle.session.specs.Sponge.{Sponge, absorbElement, squeezeElement}
+use Rattle.session.specs.Record.{opened, openRecord, spongeOf, moved, phaseWord, nextPhase, nextDone, absorbOne, squeezeOne, absorbAll, squeezeAll}
+use Rattle.session.specs.Calls.{giving, startRecord, start}
+use Rattle.session.specs.declared.Session.{Session}
+use Rattle.session.specs.declared.Answer.{Answer}
+use Rattle.session.proofs.SoundRecord.{Sound, parts, whole, element-left}
+use Rattle.runs.specs.Calls.{Call, ABSORB, SQUEEZE, answered, left, leftBy, OpenAt}
+use Rattle.runs.proofs.Places.{next-place}
+use Rattle.runs.proofs.Outcomes.{Takes, absorb-accepted, squeeze-accepted}
+use Rattle.runs.proofs.Opened.{start-open, start-record, sound-run}
+use Rattle.runs.proofs.SamePattern.{same-left-by}
+use Rattle.runs.proofs.Counted.{start-words, start-count}
+use Rattle.runs.proofs.Forks.{left-by-append}
+
+-- a call of one element, of the kind of the phase
+module _ (r : Session) (o : eqb (r .status) opened ≡ true) (s : Sound r) (h : r .phase < r .count) where
+  takes-one : (k : Bool) → isAbsorb (phaseWord r) ≡ k → Takes r k 1
+  takes-one k e =
+      record {
+        opens = o;
+        sounds = whole r s;
+        fits = λ _. record { before-end = h; kind = e; room = omega (arith, element-left r s h) };
+      }
+
+  one-more : (c : Call) × (t : Sponge) × (left r c ≡ moved r t (nextPhase r) (nextDone r))
+  unfolding left answered giving absorbAll squeezeAll absorbOne squeezeOne all _and_
+  one-more =
+      cases (isAbsorb (phaseWord r))
+      (λ e. (
+        ABSORB (0 ∷ []),
+        absorbElement (spongeOf r) 0,
+        ap (λ (a : Answer). a .session) (absorb-accepted r (0 ∷ []) (takes-one true e) refl),
+      ))
+      λ e. (SQUEEZE 1, squeezeElement (spongeOf r), ap (λ (a : Answer). a .session) (squeeze-accepted r 1 (takes-one false e)))
+
+module _ (ws separator : List ℕ) (e : start ws separator .number ≡ accepted) where
+  abbrev opening : Session
+  opening = start ws separator .session
+
+  -- some calls lead to the place
+  abbrev Reached : ℕ → ℕ → Type 0
+  Reached phase done = (cs : List Call) × OpenAt (leftBy opening cs) phase done
+
+  -- the length of a phase
+  abbrev long : ℕ → ℕ
+  long phase = lengthOf (getD (mergedWords ws) phase 0)
+
+  module _ (cs : List Call) (o : leftBy opening cs .status ≡ opened) (h : leftBy opening cs .phase < length (mergedWords ws)) where
+    abbrev there : Session
+    there = leftBy opening cs
+
+    sounds : Sound there
+    sounds = parts there (sound-run ws separator e cs (eq-eqb _ _ o))
+
+    early : there .phase < there .count
+    early = rw (same-left-by opening cs (eq-eqb _ _ o) .count ∙ start-count ws separator e) h
+
+    length-there : lengthOf (phaseWord there) ≡ long (there .phase)
+    unfolding phaseWord
+    length-there =
+        ap (λ (vs : List ℕ). lengthOf (getD vs (there .phase) 0)) (same-left-by opening cs (eq-eqb _ _ o) .words ∙ start-words ws separator e)
+        ∙ ap lengthOf (zeros-behind (mergedWords ws) (64 - length (mergedWords ws)) (there .phase))
+
+    element-there : there .done < long (there .phase)
+    element-there = rw length-there at (element-left there sounds early)
+
+    -- one call more leads to the next place
+    next : Reached (nextPhase there) (nextDone there)
+    unfolding leftBy moved
+    next =
+        let more = one-more there (eq-eqb _ _ o) sounds early in (
+          cs ++ (more .0 ∷ []),
+          subst (λ (r : Session). OpenAt r (nextPhase there) (nextDone there)) (sym (left-by-append opening cs (more .0 ∷ []) ∙ more .2))
+              (record { opens = o; phase = refl; done = refl }),
+        )
+
+  module _ (i d : ℕ) (h : i < length (mergedWords ws)) (reached : Reached i d) where
+    abbrev last : Session
+    last = leftBy opening (reached .0)
+
+    within : last .phase < length (mergedWords ws)
+    within = rw (reached .1 .phase) h
+
+    element-here : d < long i
+    element-here = rw (reached .1 .phase, reached .1 .done) at (element-there (reached .0) (reached .1 .opens) within)
+
+    same-length : lengthOf (phaseWord last) ≡ long i
+    same-length = length-there (reached .0) (reached .1 .opens) within ∙ ap long (reached .1 .phase)
+
+    forward : (suc d ≡ long i → Reached (suc i) 0) × (suc d ≢ long i → Reached i (suc d))
+    forward =
+        next-place last (λ (k b : ℕ). Reached k b → (suc d ≡ long i → Reached (suc i) 0) × (suc d ≢ long i → Reached i (suc d)))
+        (λ q t. (λ _. subst (λ (k : ℕ). Reached (suc k) 0) (reached .1 .phase) t, λ n. absurd (n (ap suc (sym (reached .1 .done)) ∙ q ∙ same-length))))
+        (λ q t. (
+          λ n. absurd (q (ap suc (reached .1 .done) ∙ n ∙ sym same-length)),
+          λ _. subst (λ (k : ℕ). Reached k (suc d)) (reached .1 .phase) (subst (λ (b : ℕ). Reached (last .phase) (suc b)) (reached .1 .done) t),
+        ))
+        (next (reached .0) (reached .1 .opens) within)
+
+  in-phase : (i d : ℕ) → i < length (mergedWords ws) → Reached i 0 → d < long i → Reached i d
+  in-phase i zero h t l = t
+  in-phase i (suc d) h t l = forward i d h (in-phase i d h t (omega arith)) .1 (λ q. omega arith)
+
+  phase-begun : (i : ℕ) → i ≤ length (mergedWords ws) → Reached i 0
+  unfolding leftBy startRecord openRecord
+  phase-begun zero h =
+      let r = start-record ws separator e in (
+        [],
+        record {
+          opens = start-open ws separator e;
+          phase = ap (λ (t : Session). t .phase) r;
+          done = ap (λ (t : Session). t .done) r;
+        },
+      )
+  phase-begun (suc i) h =
+      let begun = phase-begun i (omega arith) in
+      let some = element-here i 0 (omega arith) begun in
+      forward i (long i - 1) (omega arith) (in-phase i (long i - 1) (omega arith) begun (omega arith)) .0 (omega arith)
+
+  pub place-reached : (phase done : ℕ) → phase < length (mergedWords ws) → done < lengthOf (getD (mergedWords ws) phase 0)
+      → (cs : List Call) × OpenAt (leftBy (start ws separator .session) cs) phase done
+  place-reached phase done h l = in-phase phase done h (phase-begun phase (omega arith)) l
+
+  pub end-reached : (cs : List Call) × OpenAt (leftBy (start ws separator .session) cs) (length (mergedWords ws)) 0
+  end-reached = phase-begun (length (mergedWords ws)) (omega arith)
