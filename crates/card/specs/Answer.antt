@@ -6,17 +6,12 @@ use lib.Dec.{leb, eqb}
 use lib.ListN.{length, take, drop}
 use Rattle.basics.specs.Logic.{if_then_else_}
 use Rattle.basics.specs.Numbers.{accepted, notCard}
-use Rattle.tag.specs.Pattern.{mergedWords}
 use Rattle.tag.specs.Start.{startNumber}
 use Rattle.tag.specs.TagString.{tagString}
-use Rattle.tag.specs.Permutations.{permutationsAt}
+use Rattle.tag.specs.Permutations.{fullPermutations}
 use Rattle.card_grammar.specs.Text.{ascii, hex, decimal}
 use Rattle.card_grammar.specs.Grammar.{Reading, card, none}
 use Rattle.card_grammar.specs.Card.{cardOf}
-
--- "permutations of a full session": behind the last phase of the merged pattern
-unfoldable pub fullPermutations : List ℕ → ℕ
-fullPermutations ws = permutationsAt (mergedWords ws) (length (mergedWords ws)) 0
 
 -- "in brackets, ok, tag string in lower-case hexadecimal, permutations of a full session": "(ok 80000006000000034142 1)"
 unfoldable pub okText : List ℕ → ℕ → List ℕ

@@ -13,12 +13,12 @@ use Rattle.basics.specs.Numbers.{notCard}
 use Rattle.tag.specs.Pattern.{isAbsorb, lengthOf, phaseOf, wordOf, join, merge, phases, mergedWords}
 use Rattle.tag.specs.Start.{tooLong, startNumber}
 use Rattle.tag.specs.TagString.{wordBytes, tagString}
-use Rattle.tag.specs.Permutations.{blockCount, phasePermutations, permutationsAt}
+use Rattle.tag.specs.Permutations.{blockCount, phasePermutations, permutationsAt, fullPermutations}
 use Rattle.card_grammar.specs.Text.{ascii, hexDigit, hex, separatorText, decimalUpTo, decimal, callText, callsText, cardText}
 use Rattle.card_grammar.specs.Grammar.{Below, CardOf, card, none, NoCard}
 use Rattle.card_grammar.specs.Card.{cardOf}
 use Rattle.card_grammar.proofs.Laws as grammar
-use Rattle.card.specs.Answer.{fullPermutations, okText, noText, cardAnswer, answer, hasRoom}
+use Rattle.card.specs.Answer.{okText, noText, cardAnswer, answer, hasRoom}
 use Rattle.card.proofs.Laws.{answer-card, answer-none, answer-long}
 use Rattle.card.proofs.CardAnswer.{accepted-answer}
 use Rattle.card_lines.specs.Lines.{newline, before, lines, answers, output}
