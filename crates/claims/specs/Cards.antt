@@ -80,19 +80,25 @@ output-however-cut line cs last long room = written-output cs (record { line = l
 pub something-is-taken : (piece buffer : List ℕ) → hasRoom buffer ≡ true → 0 < length piece → 0 < length (takes piece buffer)
 something-is-taken = takes-some
 
--- So a caller that lends what is left of each piece has all of its input answered, whatever the pieces;
-pub output-of-pieces : (line buffer : List ℕ) (pieces : List (List ℕ)) → length line ≡ 2049 → hasRoom buffer ≡ true
-    → written (record { line = line; held = 0 }) (callsOfAll buffer pieces) buffer ≡ output (joined pieces)
-output-of-pieces line buffer pieces long room =
-    output-however-cut line (callsOfAll buffer pieces) buffer long room ∙ ap output (all-taken buffer pieces room)
+-- So a caller that lends what is left of each piece has all of its input answered, whatever the pieces, and whatever is in the outputs: call
+-- number n is lent `outputs n`, and the end of the input `last`;
+pub output-of-pieces : (line : List ℕ) (outputs : ℕ → List ℕ) (last : List ℕ) (pieces : List (List ℕ)) → length line ≡ 2049
+    → ((n : ℕ) → hasRoom (outputs n) ≡ true) → hasRoom last ≡ true
+    → written (record { line = line; held = 0 }) (callsOfAll outputs 0 pieces) last ≡ output (joined pieces)
+output-of-pieces line outputs last pieces long room roomLast =
+    output-however-cut line (callsOfAll outputs 0 pieces) last long roomLast ∙ ap output (all-taken outputs 0 pieces room)
 
--- and two ways of cutting the same input into pieces give the same output.
-pub two-ways-of-cutting : (line buffer : List ℕ) (pieces pieces′ : List (List ℕ)) → length line ≡ 2049 → hasRoom buffer ≡ true
+-- and two ways of cutting the same input into pieces give the same output, each with outputs of its own.
+pub two-ways-of-cutting : (line line′ : List ℕ) (outputs outputs′ : ℕ → List ℕ) (last last′ : List ℕ) (pieces pieces′ : List (List ℕ))
+    → length line ≡ 2049 → ((n : ℕ) → hasRoom (outputs n) ≡ true) → hasRoom last ≡ true
+    → length line′ ≡ 2049 → ((n : ℕ) → hasRoom (outputs′ n) ≡ true) → hasRoom last′ ≡ true
     → joined pieces ≡ joined pieces′
-    → written (record { line = line; held = 0 }) (callsOfAll buffer pieces) buffer
-    ≡ written (record { line = line; held = 0 }) (callsOfAll buffer pieces′) buffer
-two-ways-of-cutting line buffer pieces pieces′ long room e =
-    output-of-pieces line buffer pieces long room ∙ ap output e ∙ sym (output-of-pieces line buffer pieces′ long room)
+    → written (record { line = line; held = 0 }) (callsOfAll outputs 0 pieces) last
+    ≡ written (record { line = line′; held = 0 }) (callsOfAll outputs′ 0 pieces′) last′
+two-ways-of-cutting line line′ outputs outputs′ last last′ pieces pieces′ long room roomLast long′ room′ roomLast′ e =
+    output-of-pieces line outputs last pieces long room roomLast
+    ∙ ap output e
+    ∙ sym (output-of-pieces line′ outputs′ last′ pieces′ long′ room′ roomLast′)
 
 -- document 01's three lines
 line1 : List ℕ
