@@ -10,6 +10,7 @@ use Rattle.basics.specs.Logic.{if_then_else_, _or_, same, any}
 use Rattle.basics.specs.Digits.{digits}
 use Rattle.basics.specs.Lists.{sum}
 use Rattle.basics.specs.Numbers.{notCard}
+use Rattle.basics.proofs.Cases.{if-true}
 use Rattle.tag.specs.Pattern.{isAbsorb, lengthOf, phaseOf, wordOf, join, merge, phases, mergedWords}
 use Rattle.tag.specs.Start.{tooLong, startNumber}
 use Rattle.tag.specs.TagString.{wordBytes, tagString}
@@ -18,11 +19,12 @@ use Rattle.card_grammar.specs.Text.{ascii, hexDigit, hex, separatorText, decima
 use Rattle.card_grammar.specs.Grammar.{Below, CardOf, card, none, NoCard}
 use Rattle.card_grammar.specs.Card.{cardOf}
 use Rattle.card_grammar.proofs.Laws as grammar
-use Rattle.card.specs.Answer.{okText, noText, cardAnswer, answer, hasRoom}
+use Rattle.card.specs.Answer.{okText, noText, cardAnswer, answer, hasRoom, answerInto, beginning}
 use Rattle.card.proofs.Laws.{answer-card, answer-none, answer-long}
 use Rattle.card.proofs.CardAnswer.{accepted-answer}
+use Rattle.card.proofs.Placed.{beginning-front}
 use Rattle.card_lines.specs.Lines.{newline, before, lines, answers, output}
-use Rattle.card_lines.specs.Stream.{writes, takes, fed, outputAfter}
+use Rattle.card_lines.specs.Stream.{writes, takes, fed, outputAfter, lastAnswer}
 use Rattle.card_lines.specs.Calls.{Call, taken, written, joined, callsOfAll}
 use Rattle.card_lines.proofs.Progress.{takes-some}
 use Rattle.card_lines.proofs.AllTaken.{all-taken, written-bytes, used-bytes}
@@ -69,6 +71,19 @@ pub written-and-used : (line : List ℕ) (n : ℕ) (piece buffer : List ℕ)
     → (take (fed line n piece buffer .written) (outputAfter line n piece buffer) ≡ writes line n piece buffer)
     × (take (fed line n piece buffer .used) piece ≡ takes piece buffer)
 written-and-used line n piece buffer = (written-bytes line n piece buffer, used-bytes line n piece buffer)
+
+-- The same for the other two that write: the first bytes of the buffer, as many as the call's answer says, are `lastAnswer` after a call of
+-- `end`,
+pub written-at-end : (line : List ℕ) (n : ℕ) (buffer : List ℕ)
+    → take (length (lastAnswer line n buffer)) (beginning (lastAnswer line n buffer) buffer) ≡ lastAnswer line n buffer
+written-at-end line n buffer = beginning-front (lastAnswer line n buffer) buffer
+
+-- and `answerInto` after a call of `card::answer`, which is the line's answer where the buffer has room.
+pub written-answer : (line buffer : List ℕ)
+    → (take (length (answerInto line buffer)) (beginning (answerInto line buffer) buffer) ≡ answerInto line buffer)
+    × (hasRoom buffer ≡ true → answerInto line buffer ≡ answer line)
+unfolding answerInto
+written-answer line buffer = (beginning-front (answerInto line buffer) buffer, λ room. if-true _ _ _ room)
 
 -- However an input is cut: calls of `feed` in turn, each with any piece and any output, and then `end`, with an output that has room, write
 -- the output of what the calls took. `line` is the 2,049 places for the line in progress, which may hold anything at the start.
