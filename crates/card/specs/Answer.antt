@@ -36,6 +36,9 @@ readingAnswer none = noText notCard
 unfoldable pub answer : List ℕ → List ℕ
 answer line = readingAnswer (cardOf line)
 
+-- Document 01 leaves it to the program how output is cut into buffers. The rest of this file says when a buffer has room and where a text
+-- stands in it; what is common to every choice is `answer`.
+
 -- a buffer has room for any answer with its newline: "(ok ", 1,024 digits, a space, 11 digits, a bracket, the newline
 unfoldable pub hasRoom : List ℕ → Bool
 hasRoom buffer = leb 1042 (length buffer)

@@ -1,5 +1,5 @@
--- Cards. `cardOf`, `answer`, `fed` and `outputAfter` are those that the contracts of `card_grammar`, `card` and `card_lines` cite; `output` is
--- what document 01 has the card program print for a whole input.
+-- Cards. `cardOf`, `answerInto`, `fed`, `lineAfter`, `outputAfter` and `lastAnswer` are those that the contracts of `card_grammar`, `card` and
+-- `card_lines` cite; `output` is what document 01 has the card program print for a whole input.
 use mathlib.Core.Path.{_≡_, refl, sym, ap, ap₂, _∙_}
 use mathlib.Core.Bool.{true}
 use mathlib.Core.List.{List, [], _∷_, _++_}
@@ -33,7 +33,8 @@ use Rattle.runs.specs.Runs.{Run, tagOf, permutationsOf}
 use Rattle.runs.proofs.Opened.{start-accepted}
 use Rattle.claims.specs.Sessions.{count-of-session}
 
--- A line is read as a card exactly if it is the text of a separator and words, byte for byte; and as no card exactly if it is not.
+-- A line is read as a card exactly if it has at most 2,048 bytes and is the text of a separator and words, byte for byte; and as no card
+-- exactly if it is not.
 pub cards-are-their-text : (line separator ws : List ℕ)
     → (CardOf line separator ws → cardOf line ≡ card separator ws) × (cardOf line ≡ card separator ws → CardOf line separator ws)
 cards-are-their-text line separator ws = (grammar.card-of line separator ws, grammar.of-card line separator ws)
