@@ -13,15 +13,15 @@ use Rattle.basics.proofs.Cases.{by, cases}
 use Rattle.tag.specs.Pattern.{mergedWords}
 use Rattle.tag.specs.Start.{startNumber}
 use Rattle.tag.specs.TagString.{tagString}
-use Rattle.tag.specs.Permutations.{permutationsAt}
-use Rattle.tag.proofs.StartCheck.{rows, few-words}
-use Rattle.tag.proofs.Writing.{length-tag-string}
+use Rattle.tag.specs.Permutations.{permutationsAt, fullPermutations}
 use Rattle.tag.proofs.PermutationCounts.{phase-bound, sum-bound}
+use Rattle.tag.proofs.StartCheck.{few-words}
+use Rattle.tag.proofs.Writing.{tag-string-short}
 use Rattle.card_grammar.specs.Text.{hex, decimal}
 use Rattle.card_grammar.specs.Grammar.{Reading, card, none}
 use Rattle.card_grammar.specs.Card.{cardOf}
 use Rattle.card_grammar.specs.Digits.{decimal-small, decimal-more}
-use Rattle.card.specs.Answer.{fullPermutations, okText, noText, cardAnswer, answer}
+use Rattle.card.specs.Answer.{okText, noText, cardAnswer, answer}
 use Rattle.card.proofs.Laws.{answer-card, answer-none}
 
 -- ---- numerals
@@ -57,21 +57,14 @@ count-digits n h = few-digits 10 n (omega arith)
 
 -- ---- an accepted pattern
 
-module _ (ws separator : List ℕ) (e : startNumber ws separator ≡ accepted) where
-  pub tag-string-short : length (tagString ws separator) ≤ 512
-  tag-string-short =
-      let few = few-words ws separator e in
-      let short = ltb-false 256 (length separator) (rows ws separator e .e6) in
-      omega (arith, length-tag-string ws separator)
-
-  pub few-permutations : fullPermutations ws ≤ 99999999999
-  unfolding fullPermutations permutationsAt
-  few-permutations =
-      let few = few-words ws separator e in
-      let count = length (mergedWords ws) in
-      let before = sum-bound (mergedWords ws) count in
-      let behind = phase-bound (getD (mergedWords ws) count 0) 0 in
-      omega arith
+pub few-permutations : (ws separator : List ℕ) → startNumber ws separator ≡ accepted → fullPermutations ws ≤ 99999999999
+unfolding fullPermutations permutationsAt
+few-permutations ws separator e =
+    let few = few-words ws separator e in
+    let count = length (mergedWords ws) in
+    let before = sum-bound (mergedWords ws) count in
+    let behind = phase-bound (getD (mergedWords ws) count 0) 0 in
+    omega arith
 
 pub small-number : (ws separator : List ℕ) → startNumber ws separator ≤ 14
 unfolding startNumber

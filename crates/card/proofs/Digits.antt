@@ -1,6 +1,6 @@
 -- Digits placed one after the other.
 -- Assumes nothing.
-use mathlib.Core.Path.{_≡_, refl, sym, ap, _∙_}
+use mathlib.Core.Path.{_≡_, sym, ap, _∙_}
 use mathlib.Core.List.{List, [], _∷_, _++_, append-assoc}
 use Prim.Native.Nat.{ℕ, _+_, _*_, _/_, _%_, _≤_, _<_}
 use native.Mathlib.Nat.{add-zero}
@@ -9,7 +9,7 @@ use native.Mathlib.Omega.{arith}
 use lib.ListN.{length, getD, take, set, length-append}
 use lib.Seq.{length-take-le, take-suc}
 use Rattle.card_grammar.specs.Text.{hexDigit, hex, decimal}
-use Rattle.card_grammar.specs.Digits.{decimal-small, decimal-more}
+use Rattle.card_grammar.specs.Digits.{hex-append, decimal-small, decimal-more}
 use Rattle.card.specs.Answer.{placed}
 use Rattle.card.proofs.Placed.{placed-none, placed-set}
 use Rattle.card.proofs.Bounds.{length-hex, length-decimal-more}
@@ -29,11 +29,6 @@ module _ (buffer : List ℕ) (at : ℕ) where
   last-digit n h room =
       let one-more = length-decimal-more n h in
       placed-set buffer at (decimal (n / 10)) (n % 10 + 48) (omega arith) ∙ ap (placed buffer at) (sym (decimal-more n h))
-
-hex-append : (xs ys : List ℕ) → hex (xs ++ ys) ≡ hex xs ++ hex ys
-unfolding hex
-hex-append [] ys = refl
-hex-append (x ∷ xs) ys = ap (λ (l : List ℕ). hexDigit (x / 16) ∷ hexDigit (x % 16) ∷ l) (hex-append xs ys)
 
 -- one byte more in hexadecimal
 hex-next : (bytes : List ℕ) (i : ℕ) → i < length bytes

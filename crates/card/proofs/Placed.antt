@@ -1,22 +1,19 @@
 -- Laws of `placed`: a buffer with a text from a place on.
 -- Assumes nothing.
 use mathlib.Core.Path.{_≡_, refl, sym, ap, ap₂, _∙_}
-use mathlib.Core.List.{List, [], _∷_, _++_, append-assoc, append-nil}
+use mathlib.Core.List.{List, [], _∷_, _++_, append-assoc}
 use Prim.Native.Nat.{ℕ, suc, _+_, _-_, _≤_, _<_}
-use native.Mathlib.Nat.{add-zero, zero-add}
+use native.Mathlib.Nat.{zero-add}
 use native.Mathlib.Numerals.{add-one}
 use native.Mathlib.Omega.{arith}
-use lib.ListN.{length, getD, take, drop, set, length-append, length-take, length-drop, take-append-drop}
-use lib.Seq.{length-take-le, take-all, take-suc, drop-cons, take-at, drop-append-add, drop-drop, set-at, append-snoc}
+use lib.ListN.{length, getD, take, drop, set, length-append, length-take, length-drop}
+use lib.Seq.{length-take-le, take-all, take-suc, drop-cons, take-append-seam, take-at, drop-append-add, drop-drop, set-at, append-snoc, paste-zero}
 use Rattle.card.specs.Answer.{beginning, placed}
 
 module _ (buffer : List ℕ) (at : ℕ) where
   pub placed-none : placed buffer at [] ≡ buffer
   unfolding placed
-  placed-none =
-      ap (λ (k : ℕ). take at buffer ++ [] ++ drop k buffer) (add-zero at)
-      ∙ ap (λ (l : List ℕ). l ++ drop at buffer) (append-nil (take at buffer))
-      ∙ take-append-drop at buffer
+  placed-none = sym (paste-zero buffer at [])
 
   -- what precedes the rest
   head-length : (text : List ℕ) → at ≤ length buffer → length (take at buffer ++ text) ≡ at + length text
@@ -71,6 +68,11 @@ module _ (buffer : List ℕ) (at : ℕ) where
 pub placed-start : (buffer text : List ℕ) → placed buffer 0 text ≡ beginning text buffer
 unfolding placed beginning
 placed-start buffer text = ap (λ (k : ℕ). text ++ drop k buffer) (zero-add (length text))
+
+-- the text is the buffer's first bytes
+pub beginning-front : (text buffer : List ℕ) → take (length text) (beginning text buffer) ≡ text
+unfolding beginning
+beginning-front text buffer = take-append-seam text (drop (length text) buffer)
 
 -- what a buffer is after a text was written to its start, part by part
 pub record Begins (buffer text after : List ℕ) : Type 0 where

@@ -6,17 +6,12 @@ use lib.Dec.{leb, eqb}
 use lib.ListN.{length, take, drop}
 use Rattle.basics.specs.Logic.{if_then_else_}
 use Rattle.basics.specs.Numbers.{accepted, notCard}
-use Rattle.tag.specs.Pattern.{mergedWords}
 use Rattle.tag.specs.Start.{startNumber}
 use Rattle.tag.specs.TagString.{tagString}
-use Rattle.tag.specs.Permutations.{permutationsAt}
+use Rattle.tag.specs.Permutations.{fullPermutations}
 use Rattle.card_grammar.specs.Text.{ascii, hex, decimal}
 use Rattle.card_grammar.specs.Grammar.{Reading, card, none}
 use Rattle.card_grammar.specs.Card.{cardOf}
-
--- "permutations of a full session": behind the last phase of the merged pattern
-unfoldable pub fullPermutations : List ℕ → ℕ
-fullPermutations ws = permutationsAt (mergedWords ws) (length (mergedWords ws)) 0
 
 -- "in brackets, ok, tag string in lower-case hexadecimal, permutations of a full session": "(ok 80000006000000034142 1)"
 unfoldable pub okText : List ℕ → ℕ → List ℕ
@@ -40,6 +35,9 @@ readingAnswer none = noText notCard
 -- the answer to a line
 unfoldable pub answer : List ℕ → List ℕ
 answer line = readingAnswer (cardOf line)
+
+-- Document 01 leaves it to the program how output is cut into buffers. The rest of this file says when a buffer has room and where a text
+-- stands in it; what is common to every choice is `answer`.
 
 -- a buffer has room for any answer with its newline: "(ok ", 1,024 digits, a space, 11 digits, a bracket, the newline
 unfoldable pub hasRoom : List ℕ → Bool

@@ -1,11 +1,16 @@
 -- An array that keeps the first n numbers of a list, with a count of them, and what one number more makes of it.
 -- Assumes nothing.
-use mathlib.Core.List.{List, [], _∷_, _++_, append-assoc}
-use mathlib.Core.Path.{_≡_, sym, ap, _∙_}
-use Prim.Native.Nat.{ℕ, suc, _+_, _-_, _<_, _≤_}
+use mathlib.Core.Path.{_≡_, sym, ap, ap₂, _∙_}
+use mathlib.Core.List.{List, [], _∷_, _++_}
+use Prim.Native.Nat.{ℕ, _+_, _-_, _<_, _≤_}
 use native.Mathlib.Omega.{arith}
+use borrow.Author.Tests.{ltb-true, ltb-false}
+use lib.Dec.{ltb}
 use lib.ListN.{length, take, set, replicate, length-append, length-take}
-use lib.Seq.{take-all, take-nil, take-append-le, set-at}
+use lib.Seq.{take-all, take-nil, take-append-le}
+use Rattle.basics.specs.Logic.{if_then_else_}
+use Rattle.basics.proofs.Cases.{cases, if-true, if-false}
+use Rattle.tag.proofs.Answers.{push-number}
 use Rattle.card_grammar.specs.Card.{places}
 
 pub record Kept (n : ℕ) (xs : List ℕ) (count : ℕ) (array : List ℕ) : Type 0 where
@@ -19,7 +24,7 @@ nothing-kept n =
     record { counted = rw take-nil; numbers = rw (take-nil, zeros) }
 
 module _ {n count : ℕ} {xs array : List ℕ} (x : ℕ) (k : Kept n xs count array) where
-  pub kept-room : count < n → Kept n (xs ++ (x ∷ [])) (count + 1) (set array count x)
+  kept-room : count < n → Kept n (xs ++ (x ∷ [])) (count + 1) (set array count x)
   unfolding places
   kept-room h =
       let few : length xs < n = omega (arith, k .counted, length-take n xs) in
@@ -27,19 +32,16 @@ module _ {n count : ℕ} {xs array : List ℕ} (x : ℕ) (k : Kept n xs count ar
       let count-all : count ≡ length xs = k .counted ∙ ap length all in
       let longer : length (xs ++ (x ∷ [])) ≡ length xs + 1 = length-append xs (x ∷ []) in
       let more : take n (xs ++ (x ∷ [])) ≡ xs ++ (x ∷ []) = take-all n (xs ++ (x ∷ [])) (omega arith) in
-      let zeros : n - length xs ≡ suc (n - length (xs ++ (x ∷ []))) = omega arith in
-      let array-all : array ≡ xs ++ (0 ∷ replicate (n - length (xs ++ (x ∷ []))) 0) =
-      k .numbers ∙ ap (λ (l : List ℕ). l ++ replicate (n - length xs) 0) all ∙ ap (λ (m : ℕ). xs ++ replicate m 0) zeros in
+      let array-all : array ≡ xs ++ replicate (n - length xs) 0 = k .numbers ∙ ap (λ (l : List ℕ). l ++ replicate (n - length xs) 0) all in
       record {
         counted = ap (λ (c : ℕ). c + 1) count-all ∙ sym longer ∙ ap length (sym more);
         numbers =
-            ap (λ (a : List ℕ). set a count x) array-all
-            ∙ set-at xs 0 (replicate (n - length (xs ++ (x ∷ []))) 0) x count (sym count-all)
-            ∙ sym (append-assoc xs (x ∷ []) (replicate (n - length (xs ++ (x ∷ []))) 0))
+            ap₂ (λ (a : List ℕ) (c : ℕ). set a c x) array-all count-all
+            ∙ push-number n xs x few
             ∙ ap (λ (l : List ℕ). l ++ replicate (n - length (xs ++ (x ∷ []))) 0) (sym more);
       }
 
-  pub kept-full : n ≤ count → Kept n (xs ++ (x ∷ [])) count array
+  kept-full : n ≤ count → Kept n (xs ++ (x ∷ [])) count array
   unfolding places
   kept-full h =
       let many : n ≤ length xs = omega (arith, k .counted, length-take n xs) in
@@ -53,3 +55,10 @@ module _ {n count : ℕ} {xs array : List ℕ} (x : ℕ) (k : Kept n xs count ar
             ∙ ap (λ (l : List ℕ). l ++ replicate (n - length xs) 0) (sym same)
             ∙ ap (λ (m : ℕ). take n (xs ++ (x ∷ [])) ++ replicate m 0) zeros;
       }
+
+  -- a number more: in the next place, or in none if all are used
+  pub kept-more : Kept n (xs ++ (x ∷ [])) (if ltb count n then count + 1 else count) (if ltb count n then set array count x else array)
+  kept-more =
+      cases (ltb count n)
+      (λ e. rw (if-true (ltb count n) (count + 1) count e, if-true (ltb count n) (set array count x) array e) (kept-room (ltb-true count n e)))
+      λ e. rw (if-false (ltb count n) (count + 1) count e, if-false (ltb count n) (set array count x) array e) (kept-full (ltb-false count n e))

@@ -15,7 +15,7 @@ use Rattle.tag.specs.Pattern.{isAbsorb, lengthOf}
 use Rattle.card_grammar.specs.Text.{headText, middleText, hexDigit, hex, separatorText, decimal, callText, callsText, cardText}
 use Rattle.card_grammar.specs.Grammar.{Below}
 use Rattle.card_grammar.specs.Machine.{headAt, middleAt, hexValue, decimalValue, expected, moveOf, State, at, moved, stepped, run, fresh}
-use Rattle.card_grammar.specs.Digits.{hex-read, decimal-read, decimal-small, decimal-push}
+use Rattle.card_grammar.specs.Digits.{hex-append, hex-read, decimal-read, decimal-small, decimal-push}
 use Rattle.card_grammar.specs.declared.machine.Mode.{Mode}
 use Rattle.card_grammar.specs.declared.machine.Mode.the-variants.{Head, Domain, First, Half, More, Middle, Calls, Open}
 use Rattle.card_grammar.specs.declared.machine.Mode.the-variants.{Kind, Space, Start, Zero, Length, Close, End, Dead}
@@ -85,8 +85,7 @@ below-push n (y ∷ s) x h p = (h .0, below-push n s x (h .1) p)
 
 hex-push : (s : List ℕ) (x : ℕ) → hex (s ++ (x ∷ [])) ≡ hex s ++ (hexDigit (x / 16) ∷ hexDigit (x % 16) ∷ [])
 unfolding hex
-hex-push [] x = refl
-hex-push (y ∷ s) x = ap (λ (l : List ℕ). hexDigit (y / 16) ∷ hexDigit (y % 16) ∷ l) (hex-push s x)
+hex-push s x = hex-append s (x ∷ [])
 
 separator-push : (s : List ℕ) (x : ℕ) → separatorText (s ++ (x ∷ [])) ≡ 32 ∷ hex (s ++ (x ∷ []))
 unfolding separatorText

@@ -53,6 +53,7 @@ end-or-not Close = inr (λ e. differ cc)
 end-or-not End = inl refl
 end-or-not Dead = inr (λ e. differ cc)
 
+-- Every line is a card, with its separator and words, or is none. A line of at most 2,048 bytes is decided by where the machine ends.
 pub decided : (line : List ℕ) → IsCard line ⊎ NoCard line
 decided line =
     cases (leb (length line) 2048)

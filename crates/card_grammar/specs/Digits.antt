@@ -8,8 +8,13 @@ use lib.Dec.{ltb, leb}
 use borrow.Author.Tests.{lt-ltb, le-ltb, ltb-true, ltb-false, le-leb, lt-leb, leb-true}
 use Rattle.basics.specs.Logic.{if_then_else_}
 use Rattle.basics.proofs.Cases.{cases}
-use Rattle.card_grammar.specs.Text.{hexDigit, decimalUpTo, decimal}
+use Rattle.card_grammar.specs.Text.{hexDigit, hex, decimalUpTo, decimal}
 use Rattle.card_grammar.specs.Machine.{hexValue, decimalValue}
+
+pub hex-append : (xs ys : List ℕ) → hex (xs ++ ys) ≡ hex xs ++ hex ys
+unfolding hex
+hex-append [] ys = refl
+hex-append (x ∷ xs) ys = ap (λ (l : List ℕ). hexDigit (x / 16) ∷ hexDigit (x % 16) ∷ l) (hex-append xs ys)
 
 pub hex-printed : (d : ℕ) → d < 16 → hexValue (hexDigit d) ≡ d
 unfolding hexValue hexDigit if_then_else_

@@ -33,7 +33,8 @@ decimalValue b = if ltb b 48 then 10 else if leb b 57 then b - 48 else 10
 unfoldable pub expected : ℕ → ℕ → Mode → Move
 expected b wanted next = if eqb b wanted then To next else To Dead
 
--- what a byte does
+-- What a byte does. In every mode that a line leads to, the digit h is below 16 and the word t + v below 2^32: the program tests both to show
+-- that they fit a byte and a word, so the tests stand here too.
 unfoldable pub moveOf : Mode → ℕ → Move
 moveOf (Head k) b = if ltb k 12 then expected b (headAt k) (Head (k + 1)) else expected b (headAt k) Domain
 moveOf Domain b = if eqb b 32 then To First else expected b 41 (Middle 1)

@@ -4,8 +4,10 @@ mod machine;
 use machine::Mode;
 use machine::Move;
 ghost use mathlib.Core.Path.{_≡_};
-ghost use Prim.Native.Nat.{_≤_};
-ghost use lib.ListN.{length};
+ghost use Prim.Native.Nat.{_+_, _≤_};
+ghost use lib.Dec.{ltb};
+ghost use lib.ListN.{length, set};
+ghost use Rattle.basics.specs.Logic.{if_then_else_};
 ghost use Rattle.card_grammar.specs.Grammar.{none};
 ghost use Rattle.card_grammar.specs.Card.{cardOf, reading};
 
@@ -34,6 +36,30 @@ fn no_card() -> Card
     }
 }
 
+// Keeps a byte in the next place, if there is one, and gives how many are kept.
+fn keep_byte(separator: &mut [u8; 257], count: usize, value: u8) -> usize
+    ensures { λ r. ⌜ (r ≡ (if ltb count 257 then count + 1 else count)) ×
+        (now (separator .exit) ≡ (if ltb count 257 then set (now (separator .entry)) count value else now (separator .entry))) ⌝ }
+{
+    if count < 257 {
+        separator[count] = value;
+        return count + 1;
+    }
+    count
+}
+
+// The same for a word.
+fn keep_word(words: &mut [u32; 65], count: usize, word: u32) -> usize
+    ensures { λ r. ⌜ (r ≡ (if ltb count 65 then count + 1 else count)) ×
+        (now (words .exit) ≡ (if ltb count 65 then set (now (words .entry)) count word else now (words .entry))) ⌝ }
+{
+    if count < 65 {
+        words[count] = word;
+        return count + 1;
+    }
+    count
+}
+
 // Reads a line of at most 2,048 bytes, byte by byte.
 fn read_short(line: &[u8]) -> Card
     requires { ⌜ length (now line) ≤ 2048 ⌝ }
@@ -53,17 +79,11 @@ fn read_short(line: &[u8]) -> Card
                 mode = next;
             }
             Move::Byte(value) => {
-                if separator_length < 257 {
-                    separator[separator_length] = value;
-                    separator_length += 1;
-                }
+                separator_length = keep_byte(&mut separator, separator_length, value);
                 mode = Mode::More;
             }
             Move::Word(word) => {
-                if word_count < 65 {
-                    words[word_count] = word;
-                    word_count += 1;
-                }
+                word_count = keep_word(&mut words, word_count, word);
                 mode = Mode::Calls;
             }
         }

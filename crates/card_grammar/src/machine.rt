@@ -134,6 +134,7 @@ fn first_step(byte: u8) -> Move
     }
 }
 
+// The second digit of a pair ends a byte. `high` is below 16 in every mode that a line leads to; the test shows that the byte fits.
 fn half_step(high: u32, byte: u8) -> Move
     ensures { λ r. ⌜ r ≡ moveOf (Mode.Half high) byte ⌝ }
 {
@@ -206,7 +207,8 @@ fn zero_step(top: u32, byte: u8) -> Move
     }
 }
 
-// The bracket ends a word; a digit goes on with its length.
+// The bracket ends a word; a digit goes on with its length. The word is below 2^32 in every mode that a line leads to; the test shows that it
+// fits.
 fn length_step(top: u32, length: u32, byte: u8) -> Move
     ensures { λ r. ⌜ r ≡ moveOf (Mode.Length top length) byte ⌝ }
 {

@@ -4,14 +4,15 @@ use mathlib.Core.Path.{_≡_, sym, ap, ap₂, _∙_}
 use mathlib.Core.List.{List, [], _∷_, _++_}
 use Prim.Native.Nat.{ℕ, _+_, _-_, _≤_, min}
 use native.Mathlib.Omega.{arith}
-use borrow.Author.Tests.{le-leb, leb-true, leb-false}
+use borrow.Author.Tests.{leb-true, leb-false}
 use lib.Dec.{leb}
 use lib.ListN.{length, take, set, length-append, length-take}
 use lib.Seq.{take-all}
-use Rattle.basics.proofs.Cases.{cases, if-true}
-use Rattle.card.specs.Answer.{answer, hasRoom, answerInto, beginning, placed}
+use Rattle.basics.proofs.Cases.{cases}
+use Rattle.card.specs.Answer.{answer, answerInto, beginning, placed}
 use Rattle.card.proofs.Bounds.{answer-short}
 use Rattle.card.proofs.Placed.{placed-none, placed-set, placed-start}
+use Rattle.card.proofs.Reading.{into-room}
 use Rattle.card_lines.specs.Stream.{extendedLength, extended, heldAnswer}
 
 -- a place behind the last is as the last
@@ -56,8 +57,7 @@ module _ (line output : List ℕ) (n : ℕ) (long : length line ≡ 2049) (room 
   text = answerInto (take (min n 2049) line) output
 
   text-answer : text ≡ answer (take n line)
-  unfolding answerInto hasRoom
-  text-answer = if-true _ _ _ (le-leb 1042 (length output) room) ∙ ap answer (within-line line n long)
+  text-answer = into-room (take (min n 2049) line) output room ∙ ap answer (within-line line n long)
 
   pub text-short : length text ≤ 1041
   text-short = rw text-answer (answer-short (take n line))

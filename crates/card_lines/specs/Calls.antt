@@ -1,6 +1,7 @@
--- Calls of `feed` in turn, each on the line in progress that the one before it left.
+-- Calls of `feed` in turn, each on the line in progress that the one before it left. Document 01 leaves it to the program how input and output
+-- are cut; what is common to every choice is `output`.
 use mathlib.Core.List.{List, [], _∷_, _++_}
-use Prim.Native.Nat.{ℕ, zero, suc}
+use Prim.Native.Nat.{ℕ, zero, suc, _+_}
 use lib.ListN.{length, drop}
 use Rattle.card_lines.specs.Stream.{writes, takes, lengthAfter, lineAfter, lastAnswer}
 
@@ -37,15 +38,18 @@ unfoldable pub joined : List (List ℕ) → List ℕ
 joined [] = []
 joined (piece ∷ pieces) = piece ++ joined pieces
 
--- The calls of a caller that lends a piece, then what the call left of it, and so on until none is left, always with the same output. The
--- first argument bounds how often; the length of the piece is enough.
-unfoldable pub callsOf : ℕ → List ℕ → List ℕ → List Call
-callsOf zero output piece = []
-callsOf (suc k) output [] = []
-callsOf (suc k) output (b ∷ bs) =
-    record { piece = b ∷ bs; output = output } ∷ callsOf k output (drop (length (takes (b ∷ bs) output)) (b ∷ bs))
+-- The calls of a caller that lends a piece, then what the call left of it, and so on until none is left. Call number n is lent the output
+-- `outputs n`, whatever is in it: a caller may lend one buffer again. The first of these calls has the number n. The first argument bounds
+-- how many there are; the length of the piece is enough.
+unfoldable pub callsOf : ℕ → (ℕ → List ℕ) → ℕ → List ℕ → List Call
+callsOf zero outputs n piece = []
+callsOf (suc k) outputs n [] = []
+callsOf (suc k) outputs n (b ∷ bs) =
+    record { piece = b ∷ bs; output = outputs n } ∷ callsOf k outputs (n + 1) (drop (length (takes (b ∷ bs) (outputs n))) (b ∷ bs))
 
 -- and so for piece after piece
-unfoldable pub callsOfAll : List ℕ → List (List ℕ) → List Call
-callsOfAll output [] = []
-callsOfAll output (piece ∷ pieces) = callsOf (length piece) output piece ++ callsOfAll output pieces
+unfoldable pub callsOfAll : (ℕ → List ℕ) → ℕ → List (List ℕ) → List Call
+callsOfAll outputs n [] = []
+callsOfAll outputs n (piece ∷ pieces) =
+    let calls = callsOf (length piece) outputs n piece in
+    calls ++ callsOfAll outputs (n + length calls) pieces

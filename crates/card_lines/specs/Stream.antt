@@ -1,5 +1,6 @@
 -- The input in pieces: what one call takes and writes. `line` is the 2,049 places of the line in progress, which no newline has ended yet,
--- and n how many bytes it has; one of 2,049 bytes is too long, whatever follows.
+-- and n how many bytes it has; one of 2,049 bytes is too long, whatever follows. Document 01 leaves it to the program how input and output are
+-- cut; what is common to every choice is `output`.
 use mathlib.Core.Bool.{Bool}
 use mathlib.Core.List.{List, [], _∷_, _++_}
 use Prim.Native.Nat.{ℕ, _+_, _-_, min}
@@ -37,7 +38,7 @@ writes line n piece output =
     (if endsLine piece then heldAnswer (extended line n (firstLine piece)) (extendedLength n (firstLine piece)) else [])
     else []
 
--- what a call takes of its piece: up to the first newline, and the newline
+-- what a call takes of its piece: up to the first newline, and the newline; all if there is no newline; nothing without room
 unfoldable pub takes : List ℕ → List ℕ → List ℕ
 takes piece output = if hasRoom output then take (length (firstLine piece) + 1) piece else []
 

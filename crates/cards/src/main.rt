@@ -55,7 +55,7 @@ fn take_line(line: &mut [u8; 2049], held: usize, piece: &[u8], output: &mut [u8]
     card_lines::feed(line, held, piece, output)
 }
 
-// Answers the lines of a piece. Answers are written together, when there is no room for another, and behind the piece.
+// Answers the lines of a piece. Answers are written together, when there is no room for another, and at the end of the piece.
 fn answer_piece(line: &mut [u8; 2049], start: usize, piece: &[u8], output: &mut [u8]) -> State
     requires { ⌜ 1042 ≤ length (now output) ⌝ }
 {

@@ -1,5 +1,5 @@
--- Cards. `cardOf`, `answer`, `fed` and `outputAfter` are those that the contracts of `card_grammar`, `card` and `card_lines` cite; `output` is
--- what document 01 has the card program print for a whole input.
+-- Cards. `cardOf`, `answerInto`, `fed`, `lineAfter`, `outputAfter` and `lastAnswer` are those that the contracts of `card_grammar`, `card` and
+-- `card_lines` cite; `output` is what document 01 has the card program print for a whole input.
 use mathlib.Core.Path.{_≡_, refl, sym, ap, ap₂, _∙_}
 use mathlib.Core.Bool.{true}
 use mathlib.Core.List.{List, [], _∷_, _++_}
@@ -10,19 +10,21 @@ use Rattle.basics.specs.Logic.{if_then_else_, _or_, same, any}
 use Rattle.basics.specs.Digits.{digits}
 use Rattle.basics.specs.Lists.{sum}
 use Rattle.basics.specs.Numbers.{notCard}
+use Rattle.basics.proofs.Cases.{if-true}
 use Rattle.tag.specs.Pattern.{isAbsorb, lengthOf, phaseOf, wordOf, join, merge, phases, mergedWords}
 use Rattle.tag.specs.Start.{tooLong, startNumber}
 use Rattle.tag.specs.TagString.{wordBytes, tagString}
-use Rattle.tag.specs.Permutations.{blockCount, phasePermutations, permutationsAt}
+use Rattle.tag.specs.Permutations.{blockCount, phasePermutations, permutationsAt, fullPermutations}
 use Rattle.card_grammar.specs.Text.{ascii, hexDigit, hex, separatorText, decimalUpTo, decimal, callText, callsText, cardText}
 use Rattle.card_grammar.specs.Grammar.{Below, CardOf, card, none, NoCard}
 use Rattle.card_grammar.specs.Card.{cardOf}
 use Rattle.card_grammar.proofs.Laws as grammar
-use Rattle.card.specs.Answer.{fullPermutations, okText, noText, cardAnswer, answer, hasRoom}
+use Rattle.card.specs.Answer.{okText, noText, cardAnswer, answer, hasRoom, answerInto, beginning}
 use Rattle.card.proofs.Laws.{answer-card, answer-none, answer-long}
 use Rattle.card.proofs.CardAnswer.{accepted-answer}
+use Rattle.card.proofs.Placed.{beginning-front}
 use Rattle.card_lines.specs.Lines.{newline, before, lines, answers, output}
-use Rattle.card_lines.specs.Stream.{writes, takes, fed, outputAfter}
+use Rattle.card_lines.specs.Stream.{writes, takes, fed, outputAfter, lastAnswer}
 use Rattle.card_lines.specs.Calls.{Call, taken, written, joined, callsOfAll}
 use Rattle.card_lines.proofs.Progress.{takes-some}
 use Rattle.card_lines.proofs.AllTaken.{all-taken, written-bytes, used-bytes}
@@ -31,7 +33,8 @@ use Rattle.runs.specs.Runs.{Run, tagOf, permutationsOf}
 use Rattle.runs.proofs.Opened.{start-accepted}
 use Rattle.claims.specs.Sessions.{count-of-session}
 
--- A line is read as a card exactly if it is the text of a separator and words, byte for byte; and as no card exactly if it is not.
+-- A line is read as a card exactly if it has at most 2,048 bytes and is the text of a separator and words, byte for byte; and as no card
+-- exactly if it is not.
 pub cards-are-their-text : (line separator ws : List ℕ)
     → (CardOf line separator ws → cardOf line ≡ card separator ws) × (cardOf line ≡ card separator ws → CardOf line separator ws)
 cards-are-their-text line separator ws = (grammar.card-of line separator ws, grammar.of-card line separator ws)
@@ -70,6 +73,19 @@ pub written-and-used : (line : List ℕ) (n : ℕ) (piece buffer : List ℕ)
     × (take (fed line n piece buffer .used) piece ≡ takes piece buffer)
 written-and-used line n piece buffer = (written-bytes line n piece buffer, used-bytes line n piece buffer)
 
+-- The same for the other two that write: the first bytes of the buffer, as many as the call's answer says, are `lastAnswer` after a call of
+-- `end`,
+pub written-at-end : (line : List ℕ) (n : ℕ) (buffer : List ℕ)
+    → take (length (lastAnswer line n buffer)) (beginning (lastAnswer line n buffer) buffer) ≡ lastAnswer line n buffer
+written-at-end line n buffer = beginning-front (lastAnswer line n buffer) buffer
+
+-- and `answerInto` after a call of `card::answer`, which is the line's answer where the buffer has room.
+pub written-answer : (line buffer : List ℕ)
+    → (take (length (answerInto line buffer)) (beginning (answerInto line buffer) buffer) ≡ answerInto line buffer)
+    × (hasRoom buffer ≡ true → answerInto line buffer ≡ answer line)
+unfolding answerInto
+written-answer line buffer = (beginning-front (answerInto line buffer) buffer, λ room. if-true _ _ _ room)
+
 -- However an input is cut: calls of `feed` in turn, each with any piece and any output, and then `end`, with an output that has room, write
 -- the output of what the calls took. `line` is the 2,049 places for the line in progress, which may hold anything at the start.
 pub output-however-cut : (line : List ℕ) (cs : List Call) (last : List ℕ) → length line ≡ 2049 → hasRoom last ≡ true
@@ -80,19 +96,25 @@ output-however-cut line cs last long room = written-output cs (record { line = l
 pub something-is-taken : (piece buffer : List ℕ) → hasRoom buffer ≡ true → 0 < length piece → 0 < length (takes piece buffer)
 something-is-taken = takes-some
 
--- So a caller that lends what is left of each piece has all of its input answered, whatever the pieces;
-pub output-of-pieces : (line buffer : List ℕ) (pieces : List (List ℕ)) → length line ≡ 2049 → hasRoom buffer ≡ true
-    → written (record { line = line; held = 0 }) (callsOfAll buffer pieces) buffer ≡ output (joined pieces)
-output-of-pieces line buffer pieces long room =
-    output-however-cut line (callsOfAll buffer pieces) buffer long room ∙ ap output (all-taken buffer pieces room)
+-- So a caller that lends what is left of each piece has all of its input answered, whatever the pieces, and whatever is in the outputs: call
+-- number n is lent `outputs n`, and the end of the input `last`;
+pub output-of-pieces : (line : List ℕ) (outputs : ℕ → List ℕ) (last : List ℕ) (pieces : List (List ℕ)) → length line ≡ 2049
+    → ((n : ℕ) → hasRoom (outputs n) ≡ true) → hasRoom last ≡ true
+    → written (record { line = line; held = 0 }) (callsOfAll outputs 0 pieces) last ≡ output (joined pieces)
+output-of-pieces line outputs last pieces long room roomLast =
+    output-however-cut line (callsOfAll outputs 0 pieces) last long roomLast ∙ ap output (all-taken outputs 0 pieces room)
 
--- and two ways of cutting the same input into pieces give the same output.
-pub two-ways-of-cutting : (line buffer : List ℕ) (pieces pieces′ : List (List ℕ)) → length line ≡ 2049 → hasRoom buffer ≡ true
+-- and two ways of cutting the same input into pieces give the same output, each with outputs of its own.
+pub two-ways-of-cutting : (line line′ : List ℕ) (outputs outputs′ : ℕ → List ℕ) (last last′ : List ℕ) (pieces pieces′ : List (List ℕ))
+    → length line ≡ 2049 → ((n : ℕ) → hasRoom (outputs n) ≡ true) → hasRoom last ≡ true
+    → length line′ ≡ 2049 → ((n : ℕ) → hasRoom (outputs′ n) ≡ true) → hasRoom last′ ≡ true
     → joined pieces ≡ joined pieces′
-    → written (record { line = line; held = 0 }) (callsOfAll buffer pieces) buffer
-    ≡ written (record { line = line; held = 0 }) (callsOfAll buffer pieces′) buffer
-two-ways-of-cutting line buffer pieces pieces′ long room e =
-    output-of-pieces line buffer pieces long room ∙ ap output e ∙ sym (output-of-pieces line buffer pieces′ long room)
+    → written (record { line = line; held = 0 }) (callsOfAll outputs 0 pieces) last
+    ≡ written (record { line = line′; held = 0 }) (callsOfAll outputs′ 0 pieces′) last′
+two-ways-of-cutting line line′ outputs outputs′ last last′ pieces pieces′ long room roomLast long′ room′ roomLast′ e =
+    output-of-pieces line outputs last pieces long room roomLast
+    ∙ ap output e
+    ∙ sym (output-of-pieces line′ outputs′ last′ pieces′ long′ room′ roomLast′)
 
 -- document 01's three lines
 line1 : List ℕ

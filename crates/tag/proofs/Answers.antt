@@ -17,17 +17,16 @@ use Rattle.tag.specs.Steps.{mergeNumber, merged, Holds, Stepped}
 use Rattle.tag.specs.declared.Merged.{Merged}
 use Rattle.tag.proofs.MergeStep.{stays-too-long, merged-refused, merged-accepted, merged-words-length, lastWord, step-first, step-other-kind, step-too-long, step-same-kind}
 
--- words in 64 places, and one word more
-pub push-word : (ws : List ℕ) (w : ℕ) → length ws < 64
-    → set (ws ++ replicate (64 - length ws) 0) (length ws) w ≡ ws ++ (w ∷ []) ++ replicate (64 - length (ws ++ (w ∷ []))) 0
-push-word ws w h =
-    let room : 64 - length ws ≡ suc (63 - length ws) = omega arith in
-    let longer = length-append ws (w ∷ []) in
-    let rest : 63 - length ws ≡ 64 - length (ws ++ (w ∷ [])) = omega arith in
-    ap (λ (k : ℕ). set (ws ++ replicate k 0) (length ws) w) room
-    ∙ set-at ws 0 (replicate (63 - length ws) 0) w (length ws) refl
-    ∙ sym (append-snoc ws w (replicate (63 - length ws) 0))
-    ∙ ap (λ (k : ℕ). ws ++ (w ∷ []) ++ replicate k 0) rest
+-- numbers in n places, zeros behind them, and one number more
+pub push-number : (n : ℕ) (xs : List ℕ) (x : ℕ) → length xs < n
+    → set (xs ++ replicate (n - length xs) 0) (length xs) x ≡ xs ++ (x ∷ []) ++ replicate (n - length (xs ++ (x ∷ []))) 0
+push-number n xs x h =
+    let longer = length-append xs (x ∷ []) in
+    let left = n - length (xs ++ (x ∷ [])) in
+    let room : n - length xs ≡ suc left = omega arith in
+    ap (λ (k : ℕ). set (xs ++ replicate k 0) (length xs) x) room
+    ∙ set-at xs 0 (replicate left 0) x (length xs) refl
+    ∙ sym (append-snoc xs x (replicate left 0))
 
 -- an answer with another word at a place, and another count
 abbrev changed : Merged → ℕ → ℕ → ℕ → Merged
@@ -53,7 +52,7 @@ module _ (n : ℕ) (ws : List ℕ) where
   -- one word more, where there is room for it
   pub push : (w : ℕ) → length ws < 64 → changed (withWords n ws) (length ws) w (length ws + 1) ≡ withWords n (ws ++ (w ∷ []))
   unfolding withWords
-  push w h = λ i. record { number = n; words = push-word ws w h i; count = sym (length-append ws (w ∷ [])) i }
+  push w h = λ i. record { number = n; words = push-number 64 ws w h i; count = sym (length-append ws (w ∷ [])) i }
 
   -- another word at a place
   pub replace : (i w : ℕ) → i < length ws → changed (withWords n ws) i w (length ws) ≡ withWords n (set ws i w)

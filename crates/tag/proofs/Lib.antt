@@ -6,6 +6,7 @@ pub mod Answers
 pub mod Bytes
 pub mod Soundness
 pub mod StartCheck
+pub mod Checked
 pub mod Writing
 pub mod Reading
 pub mod MergedWords

@@ -8,7 +8,7 @@ use native.Mathlib.Nat.{add-assoc, not-suc-le-zero}
 use native.Mathlib.Omega.{arith}
 use borrow.Author.Tests.{ltb-true, ltb-false, lt-ltb, le-ltb}
 use lib.ListN.{length, getD, set, length-append, length-map}
-use lib.Seq.{append-snoc, getD-at, set-at}
+use lib.Seq.{take-all, append-snoc, getD-at, set-at}
 use Rattle.basics.specs.Logic.{if_then_else_, _or_, same, any}
 use Rattle.basics.specs.Numbers.{accepted, mergedLengthTooLong}
 use Rattle.basics.proofs.Cases.{by, if-true, if-false, or-false, or-end, or-either, any-append}
@@ -134,10 +134,6 @@ short : (a : Phase) → a .elements < 2147483648 → any tooLong (a ∷ []) ≡ 
 unfolding any tooLong _or_
 short a h = rw (le-ltb 2147483647 (a .elements) (omega arith))
 
-empty : (ps : List Phase) → length ps ≡ 0 → ps ≡ []
-empty [] e = refl
-empty (a ∷ ps) e = absurd (let z : suc (length ps) ≡ 0 = e in omega arith)
-
 -- the last merged word
 abbrev pub lastWord : List ℕ → ℕ
 lastWord ws = getD (mergedWords ws) (length (mergedWords ws) - 1) 0
@@ -159,7 +155,7 @@ module _ (ws : List ℕ) (w : ℕ) where
       → merged more ≡ withWords accepted (mergedWords ws ++ (w ∷ []))
   unfolding mergedWords addLast
   step-first bound fine e =
-      let none : phases ws ≡ [] = empty (phases ws) (sym (length-map (phases ws) wordOf) ∙ e) in
+      let none : phases ws ≡ [] = sym (take-all 0 (phases ws) (omega (arith, e, length-map (phases ws) wordOf))) in
       appended bound fine
       (phases-snoc ws w
       ∙ ap (λ (ps : List Phase). addLast ps (phaseOf w)) none

@@ -54,13 +54,6 @@ words-of-bytes (w ∷ ws) h =
     words-of-four _ _ _ _ (wordBytes ws)
     ∙ ap₂ (λ (x : ℕ) (l : List ℕ). x ∷ l) (number-digits 256 4 w (lit< tt) (h 0)) (words-of-bytes ws (λ k. h (suc k)))
 
-four-below : (a b c d : ℕ) (rest : List ℕ) → ((k : ℕ) → getD (a ∷ b ∷ c ∷ d ∷ rest) k 0 < 256) → (k : ℕ) → getD (a ∷ b ∷ c ∷ d ∷ []) k 0 < 256
-four-below a b c d rest h zero = h 0
-four-below a b c d rest h (suc zero) = h 1
-four-below a b c d rest h (suc (suc zero)) = h 2
-four-below a b c d rest h (suc (suc (suc zero))) = h 3
-four-below a b c d rest h (suc (suc (suc (suc k)))) = lit< tt
-
 -- a string of whole words, written from its words
 bytes-of-words : (s : List ℕ) → length s % 4 ≡ 0 → ((k : ℕ) → getD s k 0 < 256) → wordBytes (wordsOf s) ≡ s
 unfolding wordBytes
@@ -69,7 +62,7 @@ bytes-of-words (a ∷ []) e h = absurd (omega arith)
 bytes-of-words (a ∷ b ∷ []) e h = absurd (omega arith)
 bytes-of-words (a ∷ b ∷ c ∷ []) e h = absurd (omega arith)
 bytes-of-words (a ∷ b ∷ c ∷ d ∷ s) e h =
-    let four = digits-number 256 4 (a ∷ b ∷ c ∷ d ∷ []) refl (four-below a b c d s h) in
+    let four = digits-number 256 4 (a ∷ b ∷ c ∷ d ∷ []) refl (take-below 256 4 (a ∷ b ∷ c ∷ d ∷ s) (lit< tt) h) in
     let rest = bytes-of-words s (omega arith) (λ k. h (suc (suc (suc (suc k))))) in
     ap wordBytes (words-of-four a b c d s) ∙ ap₂ (λ (x y : List ℕ). x ++ y) four rest
 

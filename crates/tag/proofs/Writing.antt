@@ -4,21 +4,21 @@ use mathlib.Core.Path.{_≡_, sym, ap, ap₂, _∙_}
 use mathlib.Core.List.{List, [], _++_}
 use mathlib.Core.Logic.{_≢_}
 use Prim.Native.Nat.{ℕ, _+_, _*_, _≤_, _<_}
-use borrow.Author.Tests.{ne-eqb, lt-ltb, le-ltb}
+use borrow.Author.Tests.{ltb-false, ne-eqb, lt-ltb, le-ltb}
 use native.Mathlib.Omega.{arith}
 use lib.ListN.{length, take, drop, length-append}
 use lib.Seq.{take-at, take-append-seam, drop-append-add, drop-drop}
 use Rattle.basics.specs.Logic.{if_then_else_}
 use Rattle.basics.specs.Numbers.{accepted, bufferTooShort}
 use Rattle.tag.specs.Pattern.{mergedWords}
-use Rattle.tag.specs.Start.{startNumber, withWords, checked}
+use Rattle.tag.specs.Start.{startNumber, checked}
 use Rattle.tag.specs.TagString.{wordBytes, tagString, writeNumber, writtenBytes, written, bufferAfter}
 use Rattle.tag.specs.declared.Merged.{Merged}
 use Rattle.tag.specs.declared.Written.{Written}
 use Rattle.tag.proofs.Given.{given-accepted, given-refused}
 use Rattle.tag.proofs.Bytes.{length-word-bytes}
-use Rattle.tag.proofs.Answers.{count-at, count-within, words-used}
-use Rattle.tag.proofs.StartCheck.{checked-number, checked-accepted, few-words}
+use Rattle.tag.proofs.StartCheck.{rows, few-words}
+use Rattle.tag.proofs.Checked.{number-checked, started, count-checked, words-checked}
 
 module _ (ws separator : List ℕ) where
   pub length-tag-string : length (tagString ws separator) ≡ 4 * length (mergedWords ws) + length separator
@@ -26,6 +26,11 @@ module _ (ws separator : List ℕ) where
   length-tag-string =
       length-append (wordBytes (mergedWords ws)) separator
       ∙ ap (λ (n : ℕ). n + length separator) (length-word-bytes (mergedWords ws))
+
+  -- every accepted pattern's: 64 words of four bytes, and 256 bytes
+  pub tag-string-short : startNumber ws separator ≡ accepted → length (tagString ws separator) ≤ 512
+  tag-string-short e =
+      omega (arith, length-tag-string, few-words ws separator e, ltb-false 256 (length separator) (rows ws separator e .e6))
 
   module _ (buffer : List ℕ) where
     pub number-of-check : startNumber ws separator ≢ 0 → writeNumber ws separator buffer ≡ startNumber ws separator
@@ -39,6 +44,16 @@ module _ (ws separator : List ℕ) where
     pub number-0 : startNumber ws separator ≡ 0 → length (tagString ws separator) ≤ length buffer → writeNumber ws separator buffer ≡ accepted
     unfolding writeNumber if_then_else_
     number-0 e h = rw (e, le-ltb (length buffer) (length (tagString ws separator)) h)
+
+    -- a buffer of 512 bytes holds every tag string
+    pub room-for-any : startNumber ws separator ≡ accepted → 512 ≤ length buffer → writeNumber ws separator buffer ≡ accepted
+    room-for-any e h = number-0 e (omega (arith, tag-string-short e))
+
+    pub string-inside : written ws separator buffer .length ≤ length (bufferAfter ws separator buffer)
+    unfolding written bufferAfter
+    string-inside =
+        let bytes = writtenBytes ws separator buffer in
+        omega (arith, length-append bytes (drop (length bytes) buffer))
 
     module _ (number : writeNumber ws separator buffer ≢ 0) where
       none : writtenBytes ws separator buffer ≡ []
@@ -68,34 +83,13 @@ module _ (ws separator : List ℕ) where
 
 -- ---- from the answer r of the start check
 
-module _ (ws separator : List ℕ) (r : Merged) (e : r ≡ checked ws separator) where
-  number-checked : r .number ≡ startNumber ws separator
-  number-checked = ap (λ (m : Merged). m .number) e ∙ checked-number ws separator
+module _ (ws separator : List ℕ) (r : Merged) (e : r ≡ checked ws separator) (n : r .number ≡ accepted) where
+  string-length : length (tagString ws separator) ≡ 4 * r .count + length separator
+  string-length =
+      length-tag-string ws separator ∙ ap (λ (k : ℕ). 4 * k + length separator) (sym (count-checked ws separator r e n))
 
-  module _ (n : r .number ≡ 0) where
-    started : startNumber ws separator ≡ 0
-    started = sym number-checked ∙ n
-
-    answer : r ≡ withWords accepted (mergedWords ws)
-    answer = e ∙ checked-accepted ws separator started
-
-    counted : r .count ≡ length (mergedWords ws)
-    counted = ap (λ (m : Merged). m .count) answer ∙ count-at accepted (mergedWords ws)
-
-    pub count-fits : r .count ≤ 64
-    count-fits = rw counted (few-words ws separator started)
-
-    pub count-inside : r .count ≤ length (r .words)
-    count-inside = rw answer (count-within accepted (mergedWords ws))
-
-    merged-words : take (r .count) (r .words) ≡ mergedWords ws
-    merged-words = ap (λ (m : Merged). take (m .count) (m .words)) answer ∙ words-used accepted (mergedWords ws)
-
-    string-length : length (tagString ws separator) ≡ 4 * r .count + length separator
-    string-length = length-tag-string ws separator ∙ ap (λ (k : ℕ). 4 * k + length separator) (sym counted)
-
-    words-length : length (wordBytes (mergedWords ws)) ≡ 4 * r .count
-    words-length = length-word-bytes (mergedWords ws) ∙ ap (λ (k : ℕ). 4 * k) (sym counted)
+  words-length : length (wordBytes (mergedWords ws)) ≡ 4 * r .count
+  words-length = length-word-bytes (mergedWords ws) ∙ ap (λ (k : ℕ). 4 * k) (sym (count-checked ws separator r e n))
 
 module _ (ws separator buffer : List ℕ) (r : Merged) (e : r ≡ checked ws separator) where
   refused-answer : (number : ℕ) → number ≡ writeNumber ws separator buffer → number ≢ 0
@@ -125,8 +119,8 @@ module _ (ws separator buffer : List ℕ) (r : Merged) (e : r ≡ checked ws sep
 
     half-words : half ≡ wordBytes (mergedWords ws) ++ drop (4 * r .count) buffer
     half-words =
-        rw (merged-words ws separator r e n)
-        (ap (λ (k : ℕ). wordBytes (mergedWords ws) ++ drop (4 * k) buffer) (sym (counted ws separator r e n)))
+        rw (words-checked ws separator r e n)
+        (ap (λ (k : ℕ). wordBytes (mergedWords ws) ++ drop (4 * k) buffer) (sym (count-checked ws separator r e n)))
 
     pub whole-string : 4 * r .count + length separator ≤ length buffer
         → (record { number = 0; length = 4 * r .count + length separator } ≡ written ws separator buffer)

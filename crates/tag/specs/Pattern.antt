@@ -20,9 +20,11 @@ pub record Phase : Type 0 where
   pub absorbs : Bool
   pub elements : ℕ
 
+-- the call that a word declares
 unfoldable pub phaseOf : ℕ → Phase
 phaseOf w = record { absorbs = isAbsorb w; elements = lengthOf w }
 
+-- the word that declares a call
 unfoldable pub wordOf : Phase → ℕ
 wordOf a = if a .absorbs then 2147483648 + a .elements else a .elements
 
@@ -33,6 +35,7 @@ join a (b ∷ bs) =
     if same (a .absorbs) (b .absorbs) then record { absorbs = a .absorbs; elements = a .elements + b .elements } ∷ bs
     else a ∷ b ∷ bs
 
+-- a pattern, merged from its last call to its first
 unfoldable pub merge : List Phase → List Phase
 merge [] = []
 merge (a ∷ rest) = join a (merge rest)
@@ -45,7 +48,7 @@ phases ws = merge (map phaseOf ws)
 unfoldable pub mergedWords : List ℕ → List ℕ
 mergedWords ws = map wordOf (phases ws)
 
--- kinds alternate, and the first is ABSORB if the test is true
+-- kinds alternate: the first is ABSORB where `first` is true, else SQUEEZE
 unfoldable pub alternate : Bool → List ℕ → Bool
 alternate first [] = true
 alternate first (w ∷ ws) = same first (isAbsorb w) and alternate (not first) ws

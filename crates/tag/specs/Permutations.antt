@@ -1,11 +1,12 @@
--- How many permutations a pattern takes. From document 01, "Session steps". Words are those of the merged pattern.
+-- How many permutations a pattern takes. From document 01, "Session steps" and "Cards". Words are those of the merged pattern, where nothing
+-- else is said.
 use mathlib.Core.List.{List}
 use Prim.Native.Nat.{ℕ, _+_, _-_, _/_}
 use lib.Dec.{eqb}
-use lib.ListN.{getD}
+use lib.ListN.{length, getD}
 use Rattle.basics.specs.Logic.{if_then_else_}
 use Rattle.basics.specs.Lists.{sum}
-use Rattle.tag.specs.Pattern.{isAbsorb, lengthOf}
+use Rattle.tag.specs.Pattern.{isAbsorb, lengthOf, mergedWords}
 
 -- how many blocks of eight n elements fill or begin: ceil(n/8)
 unfoldable pub blockCount : ℕ → ℕ
@@ -19,3 +20,7 @@ phasePermutations word d = if isAbsorb word then (if eqb d 0 then 0 else blockCo
 unfoldable pub permutationsAt : List ℕ → ℕ → ℕ → ℕ
 permutationsAt ws phase done =
     sum phase (λ k. phasePermutations (getD ws k 0) (lengthOf (getD ws k 0))) + phasePermutations (getD ws phase 0) done
+
+-- "permutations of a full session": at the end of the merged pattern of the words that declare it
+unfoldable pub fullPermutations : List ℕ → ℕ
+fullPermutations ws = permutationsAt (mergedWords ws) (length (mergedWords ws)) 0

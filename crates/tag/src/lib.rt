@@ -1,4 +1,5 @@
-// Patterns and tag strings: the check of a pattern, merging, and tag strings written, read back and cut to elements.
+// Patterns and tag strings: the check of a pattern, merging, tag strings written and read back, the elements cut from a tag string's digest,
+// and how many permutations a pattern takes.
 mod merging;
 pub mod permutations;
 pub mod words;

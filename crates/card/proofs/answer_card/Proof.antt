@@ -6,10 +6,11 @@ use Prim.Native.Nat.{ℕ}
 use native.Mathlib.Omega.{arith}
 use lib.ListN.{length}
 use lib.Seq.{length-take-le}
-use Rattle.tag.proofs.Writing.{count-fits, count-inside}
+use Rattle.tag.proofs.Checked.{number-checked, started, count-fits, count-inside}
+use Rattle.tag.proofs.Writing.{tag-string-short, string-inside}
 use Rattle.card.specs.Answer.{okText, beginning}
-use Rattle.card.proofs.Bounds.{tag-string-short, few-permutations, small-number}
-use Rattle.card.proofs.CardAnswer.{checks, refuses, accepts, counts, string-written, string-inside, answers}
+use Rattle.card.proofs.Bounds.{few-permutations, small-number}
+use Rattle.card.proofs.CardAnswer.{refuses, counts, string-written, answers}
 use borrow.Author.Needs.{needs}
 use Rattle.card.proofs.answer_card.Statement.{statement}
 use Rattle.card.proofs.answer_card.Tie as tie
@@ -18,7 +19,7 @@ put-no-requires : tie.Need-put-no-requires
 put-no-requires c κs =
     let at-check = c .before .before .before in
     let args = at-check .before .before .before .before .args in
-    let number = checks _ _ _ (at-check .check .ensures) in
+    let number = number-checked _ _ _ (at-check .check .ensures) in
     let small = small-number (args .words .now) (args .separator .now) in
     (search needs, omega arith)
 
@@ -48,21 +49,13 @@ cast-permutations-at c =
 
 array-share-prefix-string : tie.Need-array-share-prefix-string
 array-share-prefix-string c =
-    let at-write = c .before .before .before .before .before in
-    let at-accepted = at-write .before .before in
-    string-inside _ _ _ (at-accepted .before .before .check .ensures) (at-accepted .if1 .left) _ _
-    (at-write .write .ensures .0)
-    (at-write .write .ensures .1)
+    let write = c .before .before .before .before .before .write .ensures in
+    rw (write .0, write .1) (string-inside _ _ _)
 
 slice-aggregate-put-ok : tie.Need-slice-aggregate-put-ok
 slice-aggregate-put-ok c =
-    let at-write = c .before .before .before .before .before .before in
-    let at-accepted = at-write .before .before in
-    let inside =
-    string-inside _ _ _ (at-accepted .before .before .check .ensures) (at-accepted .if1 .left) _ _
-    (at-write .write .ensures .0)
-    (at-write .write .ensures .1) in
-    sym (length-take-le _ _ inside)
+    let write = c .before .before .before .before .before .before .write .ensures in
+    sym (length-take-le _ _ (rw (write .0, write .1) (string-inside _ _ _)))
 
 put-ok-requires : tie.Need-put-ok-requires
 put-ok-requires c κs =
@@ -72,7 +65,7 @@ put-ok-requires c κs =
     let at-check = at-accepted .before .before in
     let args = at-check .before .before .before .before .args in
     let checked = at-check .check .ensures in
-    let accepted = accepts _ _ _ checked (at-accepted .if1 .left) in
+    let accepted = started _ _ _ checked (at-accepted .if1 .left) in
     let string = string-written _ _ _ checked (at-accepted .if1 .left) _ _ (at-write .write .ensures .0) (at-write .write .ensures .1) in
     let short = tag-string-short (args .words .now) (args .separator .now) accepted in
     let few = few-permutations (args .words .now) (args .separator .now) accepted in

@@ -5,14 +5,13 @@ use denote.Enum.Declared.{tagOf}
 use mathlib.Core.Path.{_≡_, sym, ap, subst, _∙_}
 use mathlib.Core.List.{List, [], _∷_}
 use Prim.Native.Nat.{ℕ, _-_}
-use native.Mathlib.Omega.{arith}
 use lib.ListN.{length}
 use Rattle.card_grammar.specs.Card.{reading}
 use Rattle.card_grammar.specs.declared.machine.Mode.{Mode}
 use Rattle.card_grammar.specs.declared.machine.Mode.the-variants.{End}
 use Rattle.card_grammar.specs.declared.machine.Move.the-variants.{To, Byte, Word}
 use Rattle.card_grammar.proofs.machine.Mode.{the-type}
-use Rattle.card_grammar.proofs.Kept.{kept-room, kept-full}
+use Rattle.card_grammar.proofs.Kept.{kept-more}
 use Rattle.card_grammar.proofs.ReadLoop.{Held, held-start, held-next, held-card, held-none}
 use borrow.Author.Needs.{needs}
 use Rattle.card_grammar.proofs.read_short.Statement.{statement}
@@ -45,35 +44,27 @@ loop-again c =
 
 loop-again-2 : tie.Need-loop-again-2 Inv-loop μ-loop
 loop-again-2 c =
-    let held = c .before .before .before .before .before .before .before .loop .inv in
-    let known = c .before .before .value .given in
-    let does = sym (c .before .before .before .before .step .ensures) ∙ known .1 in
-    held-next held (Byte (known .0 .0)) (c .before .before .before .before .before .before .loop-test .taken) does
-    (kept-room _ (held .bytes-kept) (omega (arith, c .if1 .taken))) (held .calls-kept)
+    let at-value = c .before .before .before in
+    let at-step = at-value .before .before in
+    let at-loop = at-step .before .before .before in
+    let held = at-loop .loop .inv in
+    let known = at-value .value .given in
+    let value = known .0 .0 in
+    let kept = c .keep-byte .ensures in
+    held-next held (Byte value) (at-step .before .before .loop-test .taken) (sym (at-step .step .ensures) ∙ known .1)
+    (rw (kept .0, kept .1) (kept-more value (held .bytes-kept))) (held .calls-kept)
 
 loop-again-3 : tie.Need-loop-again-3 Inv-loop μ-loop
 loop-again-3 c =
-    let held = c .before .before .before .before .before .before .before .loop .inv in
-    let known = c .before .before .value .given in
-    let does = sym (c .before .before .before .before .step .ensures) ∙ known .1 in
-    held-next held (Byte (known .0 .0)) (c .before .before .before .before .before .before .loop-test .taken) does
-    (kept-full _ (held .bytes-kept) (c .if1 .left)) (held .calls-kept)
-
-loop-again-4 : tie.Need-loop-again-4 Inv-loop μ-loop
-loop-again-4 c =
-    let held = c .before .before .before .before .before .before .before .loop .inv in
-    let known = c .before .before .word .given in
-    let does = sym (c .before .before .before .before .step .ensures) ∙ known .1 in
-    held-next held (Word (known .0 .0)) (c .before .before .before .before .before .before .loop-test .taken) does
-    (held .bytes-kept) (kept-room _ (held .calls-kept) (omega (arith, c .if2 .taken)))
-
-loop-again-5 : tie.Need-loop-again-5 Inv-loop μ-loop
-loop-again-5 c =
-    let held = c .before .before .before .before .before .before .before .loop .inv in
-    let known = c .before .before .word .given in
-    let does = sym (c .before .before .before .before .step .ensures) ∙ known .1 in
-    held-next held (Word (known .0 .0)) (c .before .before .before .before .before .before .loop-test .taken) does
-    (held .bytes-kept) (kept-full _ (held .calls-kept) (c .if2 .left))
+    let at-word = c .before .before .before in
+    let at-step = at-word .before .before in
+    let at-loop = at-step .before .before .before in
+    let held = at-loop .loop .inv in
+    let known = at-word .word .given in
+    let word = known .0 .0 in
+    let kept = c .keep-word .ensures in
+    held-next held (Word word) (at-step .before .before .loop-test .taken) (sym (at-step .step .ensures) ∙ known .1)
+    (held .bytes-kept) (rw (kept .0, kept .1) (kept-more word (held .calls-kept)))
 
 returns : tie.Need-returns Inv-loop μ-loop
 returns c =
@@ -99,20 +90,13 @@ read-short-spec =
     (λ c. search needs)
     loop-again
     (λ c. search needs)
-    (λ c. search needs)
-    (λ c. search needs)
+    (λ c κs. search needs)
     (λ c. search needs)
     loop-again-2
     (λ c. search needs)
+    (λ c κs. search needs)
+    (λ c. search needs)
     loop-again-3
-    (λ c. search needs)
-    (λ c. search needs)
-    (λ c. search needs)
-    (λ c. search needs)
-    (λ c. search needs)
-    loop-again-4
-    (λ c. search needs)
-    loop-again-5
     (λ c. search needs)
     (λ c κs. search needs)
     returns

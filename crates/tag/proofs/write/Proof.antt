@@ -6,7 +6,8 @@ use Prim.Native.Nat.{ℕ, _+_, _*_}
 use native.Mathlib.Omega.{arith}
 use lib.ListN.{length, take, drop}
 use lib.Seq.{length-take-le}
-use Rattle.tag.proofs.Writing.{check-refuses, count-fits, count-inside, buffer-too-short, whole-string}
+use Rattle.tag.proofs.Checked.{count-fits, count-inside}
+use Rattle.tag.proofs.Writing.{check-refuses, buffer-too-short, whole-string}
 use borrow.Author.Needs.{needs}
 use Rattle.tag.proofs.write.Statement.{statement}
 use Rattle.tag.proofs.write.Tie as tie

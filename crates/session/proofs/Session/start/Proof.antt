@@ -1,23 +1,22 @@
 -- `session::Session::start` meets its contract.
 -- Assumes nothing.
-use mathlib.Core.Path.{_≡_, sym, ap, ap₂, _∙_}
+use mathlib.Core.Path.{sym, ap, ap₂, _∙_}
 use mathlib.Core.List.{List}
-use Prim.Native.Nat.{ℕ, _≤_}
-use native.Mathlib.Omega.{arith}
-use lib.ListN.{length, take, replicate}
+use Prim.Native.Nat.{ℕ}
+use lib.Dec.{lit≤}
+use lib.ListN.{take, replicate}
 use lib.Seq.{length-take-le}
 use Rattle.basics.specs.Numbers.{accepted}
 use Rattle.keccak.specs.Sponge.{sha3}
-use Rattle.tag.specs.Start.{startNumber, withWords}
+use Rattle.tag.specs.Start.{withWords}
 use Rattle.tag.specs.Elements.{tagElements}
-use Rattle.tag.specs.declared.Merged.{Merged}
 use Rattle.tag.specs.declared.Written.{Written}
-use Rattle.tag.proofs.StartCheck.{checked-number, checked-accepted, few-words}
-use Rattle.tag.proofs.Writing.{front-of-buffer}
+use Rattle.tag.proofs.Checked.{number-checked, started, answer-checked, count-fits}
+use Rattle.tag.proofs.Writing.{room-for-any, string-inside, front-of-buffer}
 use Rattle.session.specs.Sponge.{tagState}
 use Rattle.session.specs.Record.{opened, wiped, openRecord}
 use Rattle.session.specs.Calls.{giving, startRecord}
-use Rattle.session.proofs.Opening.{string-inside, start-refused, start-opens, string-written}
+use Rattle.session.proofs.Opening.{start-refused, start-opens}
 use borrow.Author.Needs.{needs}
 use Rattle.session.proofs.Session.start.Statement.{statement}
 use Rattle.session.proofs.Session.start.Tie as tie
@@ -29,47 +28,25 @@ returns c =
     let at-entry = at-check .before .before .before in
     let words = at-entry .args .words .now in
     let separator = at-entry .args .separator .now in
-    let number = ap (λ (k : Merged). k .number) (at-check .check .ensures) ∙ checked-number words separator in
+    let number = number-checked words separator _ (at-check .check .ensures) in
     c .wipe .ensures
     ∙ ap (λ (n : ℕ). giving n wiped) number
     ∙ sym (start-refused words separator (λ e. at-if1 .if1 .taken (number ∙ e)))
 
 array-share-prefix-string : tie.Need-array-share-prefix-string
 array-share-prefix-string c =
-    let at-write = c .before in
-    let at-entry = at-write .before .before .before .before .before .before .before .before in
-    let words = at-entry .args .words .now in
-    let separator = at-entry .args .separator .now in
-    let write = at-write .write in
-    let length-written = ap (λ (w : Written). w .length) (write .ensures .0) in
-    let length-buffer = ap length (write .ensures .1) in
-    let short : write .result .length ≤ length (write .last .1 .1 .0) = omega (arith, string-inside words separator (replicate 512 0)) in
-    short
+    let write = c .before .write .ensures in
+    rw (write .0, write .1) (string-inside _ _ _)
 
 slice-aggregate-sha3-256 : tie.Need-slice-aggregate-sha3-256
 slice-aggregate-sha3-256 c =
-    let at-write = c .before .before in
-    let at-entry = at-write .before .before .before .before .before .before .before .before in
-    let words = at-entry .args .words .now in
-    let separator = at-entry .args .separator .now in
-    let write = at-write .write in
-    let length-written = ap (λ (w : Written). w .length) (write .ensures .0) in
-    let length-buffer = ap length (write .ensures .1) in
-    let short : write .result .length ≤ length (write .last .1 .1 .0) = omega (arith, string-inside words separator (replicate 512 0)) in
-    sym (length-take-le _ _ short)
+    let write = c .before .before .write .ensures in
+    sym (length-take-le _ _ (rw (write .0, write .1) (string-inside _ _ _)))
 
 cast-t16 : tie.Need-cast-t16
-unfolding withWords
 cast-t16 c =
     let at-if1 = c .before .before .before .before .before .before .before .before .before in
-    let at-check = at-if1 .before .before in
-    let at-entry = at-check .before .before .before in
-    let words = at-entry .args .words .now in
-    let separator = at-entry .args .separator .now in
-    let number = ap (λ (k : Merged). k .number) (at-check .check .ensures) ∙ checked-number words separator in
-    let opens : startNumber words separator ≡ accepted = sym number ∙ at-if1 .if1 .left in
-    let few = few-words words separator opens in
-    let count = ap (λ (k : Merged). k .count) (at-check .check .ensures ∙ checked-accepted words separator opens) in
+    let few = count-fits _ _ _ (at-if1 .before .before .check .ensures) (at-if1 .if1 .left) in
     search needs
 
 returns-2 : tie.Need-returns-2
@@ -84,15 +61,14 @@ returns-2 c =
     let at-entry = at-check .before .before .before in
     let words = at-entry .args .words .now in
     let separator = at-entry .args .separator .now in
-    let number = ap (λ (k : Merged). k .number) (at-check .check .ensures) ∙ checked-number words separator in
-    let opens : startNumber words separator ≡ accepted = sym number ∙ at-if1 .if1 .left in
+    let opens = started words separator _ (at-check .check .ensures) (at-if1 .if1 .left) in
     let write = at-write .write .ensures in
     let written-string =
     ap₂ (λ (w : Written) (l : List ℕ). take (w .length) l) (write .0) (write .1)
-    ∙ front-of-buffer words separator (replicate 512 0) (string-written words separator opens) in
+    ∙ front-of-buffer words separator (replicate 512 0) (room-for-any words separator (replicate 512 0) opens (lit≤ tt)) in
     let digest = at-sha3-256 .sha3-256 .ensures ∙ ap sha3 written-string in
     let state = at-tag-state .tag-state .ensures ∙ ap tagState (at-elements .elements .ensures ∙ ap tagElements digest) in
-    let merged = at-check .check .ensures ∙ checked-accepted words separator opens in
+    let merged = answer-checked words separator _ (at-check .check .ensures) (at-if1 .if1 .left) in
     (λ i.
     giving accepted (record {
       status = opened;

@@ -1,22 +1,23 @@
 -- `tag::permutations::permutations_at` meets its contract.
 -- Assumes nothing.
 use mathlib.Core.Path.{_≡_, refl, ap, ap₂, _∙_}
-use Prim.Native.Nat.{ℕ, _+_, _-_, _≤_}
+use Prim.Native.Nat.{ℕ, _+_, _-_, _≤_, min}
 use native.Mathlib.Numerals.{add-one}
 use native.Mathlib.Omega.{arith}
+use lib.ListN.{length}
 use Rattle.basics.specs.Lists.{sum}
 use Rattle.tag.specs.Pattern.{lengthOf}
 use Rattle.tag.specs.Permutations.{phasePermutations, permutationsAt}
-use Rattle.tag.proofs.PermutationCounts.{wholePhase, phase-bound, sum-bound}
+use Rattle.tag.proofs.PermutationCounts.{wholePhase, phase-bound, sum-bound, sum-stops}
 use borrow.Author.Needs.{needs}
 use Rattle.tag.proofs.permutations.permutations_at.Statement.{statement}
 use Rattle.tag.proofs.permutations.permutations_at.Tie as tie
 
 abbrev Inv-loop : tie.InvT-loop
-Inv-loop words phase done permutations₀ k₀ permutations k = (k ≤ phase) × (permutations ≡ sum k (wholePhase words))
+Inv-loop words phase done permutations₀ k₀ k-end permutations k = (k ≤ k-end) × (permutations ≡ sum k (wholePhase words))
 
 abbrev μ-loop : tie.MeasureT-loop
-μ-loop words phase done permutations₀ k₀ permutations k = phase - k
+μ-loop words phase done permutations₀ k₀ k-end permutations k = k-end - k
 
 loop-holds : tie.Need-loop-holds Inv-loop μ-loop
 unfolding sum
@@ -25,7 +26,7 @@ loop-holds c = (search needs, refl)
 add-permutations : tie.Need-add-permutations Inv-loop μ-loop
 add-permutations c =
     let at-loop = c .before .before .before .before in
-    let at-entry = at-loop .before .before in
+    let at-entry = at-loop .before .before .before in
     let words = at-entry .args .words .now in
     let word = c .before .before .phase-word .ensures in
     let bound = sum-bound words (at-loop .loop .k) in
@@ -44,7 +45,7 @@ loop-again c =
 add-result : tie.Need-add-result Inv-loop μ-loop
 add-result c =
     let at-loop = c .before .before .before in
-    let at-entry = at-loop .before .before in
+    let at-entry = at-loop .before .before .before in
     let words = at-entry .args .words .now in
     let bound = sum-bound words (at-loop .loop .k) in
     let phase = c .phase-permutations2 .ensures in
@@ -55,9 +56,13 @@ returns : tie.Need-returns Inv-loop μ-loop
 unfolding permutationsAt
 returns c =
     let at-loop = c .before .before .before in
-    let at-entry = at-loop .before .before in
-    let all-phases : at-loop .loop .k ≡ at-entry .args .phase = omega arith in
-    let before = at-loop .loop .inv .1 ∙ ap (λ (k : ℕ). sum k (wholePhase (at-entry .args .words .now))) all-phases in
+    let at-entry = at-loop .before .before .before in
+    let words = at-entry .args .words .now in
+    let all-words : at-loop .loop .k ≡ min (at-entry .args .phase) (length words) = omega arith in
+    let before =
+    at-loop .loop .inv .1
+    ∙ ap (λ (k : ℕ). sum k (wholePhase words)) all-words
+    ∙ sum-stops words (at-entry .args .phase) in
     let now = c .phase-permutations2 .ensures ∙ ap (λ (w : ℕ). phasePermutations w (at-entry .args .done)) (c .before .phase-word2 .ensures) in
     ap₂ (λ (a b : ℕ). a + b) before now
 
@@ -67,6 +72,7 @@ permutations-at-spec =
     (tie.spec
     Inv-loop
     μ-loop
+    (λ c κs. search needs)
     loop-holds
     (λ c κs. search needs)
     (λ c κs. search needs)

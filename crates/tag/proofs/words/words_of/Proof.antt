@@ -9,7 +9,7 @@ use lib.ListN.{length, set, replicate}
 use Rattle.basics.specs.Lists.{tabulate}
 use Rattle.basics.proofs.Fill.{length-tabulate}
 use Rattle.tag.specs.TagString.{wordAt, wordsOf}
-use Rattle.tag.proofs.Answers.{push-word}
+use Rattle.tag.proofs.Answers.{push-number}
 use borrow.Author.Needs.{needs}
 use Rattle.tag.proofs.words.words_of.Statement.{statement}
 use Rattle.tag.proofs.words.words_of.Tie as tie
@@ -39,7 +39,7 @@ loop-again c =
       rw add-one
           (ap₂ (λ (l : List ℕ) (w : ℕ). set l k w) (c .before .before .loop .inv .1) (c .word-at .ensures)
           ∙ ap (λ (j : ℕ). set (words ++ replicate (64 - length words) 0) j (wordAt string k)) (sym long)
-          ∙ push-word words (wordAt string k) (omega (arith, c .before .before .before .before .pre))),
+          ∙ push-number 64 words (wordAt string k) (omega (arith, c .before .before .before .before .pre))),
     )
 
 returns : tie.Need-returns Inv-loop μ-loop
