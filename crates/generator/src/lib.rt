@@ -14,7 +14,7 @@ const DROPPED: usize = 160;
 // How many new bits may be taken, those dropped included.
 const LIMIT: usize = 262144;
 
-// How many new bits may be taken behind those dropped.
+// How many new bits may be taken after those dropped.
 const USABLE: usize = LIMIT - DROPPED;
 
 // The constants found, then zeros, and how many were found.

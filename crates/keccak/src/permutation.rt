@@ -98,7 +98,7 @@ fn effects(a: &[u64; 25]) -> [u64; 5]
     ]
 }
 
-// The lane x, y behind theta, from the effects D, which the five planes share.
+// The lane x, y after theta, from the effects D, which the five planes share.
 fn theta_lane(a: &[u64; 25], d: &[u64; 5], x: usize, y: usize) -> u64
     requires { ⌜ (x < 5) × (now d ≡ plane (effect (now a))) ⌝ }
     ensures { λ r. ⌜ r ≡ thetaLane (now (a .entry)) x y ⌝ }
@@ -132,7 +132,7 @@ fn theta(a: [u64; 25]) -> [u64; 25]
     )
 }
 
-// The lane x, y behind rho: rotated by its offset.
+// The lane x, y after rho: rotated by its offset.
 fn rho_lane(a: &[u64; 25], table: &[u64; 25], x: usize, y: usize) -> u64
     requires { ⌜ now table ≡ offsets ⌝ }
     ensures { λ r. ⌜ r ≡ rhoLane (now (a .entry)) x y ⌝ }
@@ -166,7 +166,7 @@ fn rho(a: [u64; 25]) -> [u64; 25]
     )
 }
 
-// The plane y behind pi: its lane x was the lane x + 3 y, x. The five sums are written alike, for x from 0 to 4.
+// The plane y after pi: its lane x was the lane x + 3 y, x. The five sums are written alike, for x from 0 to 4.
 fn pi_plane(a: &[u64; 25], y: usize) -> [u64; 5]
     requires { ⌜ y < 5 ⌝ }
     ensures { λ r. ⌜ r ≡ plane (λ x. piLane (now (a .entry)) x y) ⌝ }
@@ -192,7 +192,7 @@ fn pi(a: [u64; 25]) -> [u64; 25]
     )
 }
 
-// The lane x, y behind chi.
+// The lane x, y after chi.
 fn chi_lane(a: &[u64; 25], x: usize, y: usize) -> u64
     requires { ⌜ x < 5 ⌝ }
     ensures { λ r. ⌜ r ≡ chiLane (now (a .entry)) x y ⌝ }
