@@ -9,12 +9,12 @@ use Rattle.card_grammar.proofs.keep_byte.Tie as tie
 
 returns : tie.Need-returns
 returns c =
-    let room = lt-ltb (c .before .args .count) 257 (search needs) in
+    let room = lt-ltb _ _ (c .if1 .taken) in
     (sym (if-true _ _ _ room), sym (if-true _ _ _ room))
 
 returns-2 : tie.Need-returns-2
 returns-2 c =
-    let full = le-ltb (c .before .args .count) 257 (search needs) in
+    let full = le-ltb _ _ (c .if1 .left) in
     (sym (if-false _ _ _ full), sym (if-false _ _ _ full))
 
 pub keep-byte-spec : {M : Type 1} → statement M
