@@ -3,11 +3,11 @@
 -- `start`, `absorb`, `squeeze` and `finish` are those that the contracts of `session` cite.
 use mathlib.Core.Path.{_≡_, sym, _∙_}
 use mathlib.Core.Bool.{true}
-use mathlib.Core.List.{List, _++_}
+use mathlib.Core.List.{List, [], _++_}
 use Prim.Native.Nat.{ℕ, _+_, _≤_, _<_}
 use native.Mathlib.Omega.{arith}
 use borrow.Author.Tests.{eqb-true, eq-eqb}
-use lib.ListN.{length, getD}
+use lib.ListN.{length, getD, take}
 use Rattle.basics.specs.Logic.{all}
 use Rattle.basics.specs.Numbers.{accepted}
 use Rattle.basics.proofs.Cases.{if-true}
@@ -20,7 +20,7 @@ use Rattle.session.specs.Calls.{start, absorb, squeeze, squeezeBuffer}
 use Rattle.session.specs.declared.Session.{Session}
 use Rattle.session.proofs.SoundRecord.{parts}
 use Rattle.session.proofs.Counts.{positions-bound}
-use Rattle.runs.specs.Calls.{Call, SQUEEZE, answered, accepts, left, leftBy, OpenAt, absorbed, squeezedIn, squeezed}
+use Rattle.runs.specs.Calls.{Call, SQUEEZE, answered, accepts, left, leftBy, OpenAt, OpenLike, absorbed, squeezedIn, squeezed}
 use Rattle.runs.specs.Lengths.{absorbLength}
 use Rattle.runs.specs.Runs.{Run, patternOf, absorbedOf, permutationsOf}
 use Rattle.runs.proofs.SoundCalls.{sound-left}
@@ -29,6 +29,7 @@ use Rattle.runs.proofs.Counted.{count-run, count-whole}
 use Rattle.runs.proofs.Compared.{all-absorbed}
 use Rattle.runs.proofs.Finishing.{finishable}
 use Rattle.runs.proofs.Reached.{place-reached, end-reached}
+use Rattle.runs.proofs.SoundPlaces.{pattern-opens, like-reached}
 use Rattle.runs.proofs.Forks.{left-by-append, absorbed-append, squeezed-append}
 use Rattle.runs.proofs.SqueezedElements.{squeezed-reduced}
 use Rattle.runs.proofs.Cuts.{absorb-part, absorb-cut, squeeze-part, squeeze-cut, squeezed-cut}
@@ -56,13 +57,19 @@ pub count-at-every-place : (words separator : List ℕ) → start words separato
 count-at-every-place words separator e cs o = count-run words separator e cs (eq-eqb _ _ o)
 
 -- Every place of an accepted pattern is reached: some calls lead START's record to an open record in any phase, with any number of elements
--- below that phase's length done, and some to one after the last phase. So the count and the positions that `sound` wants at a place are
--- "those the steps give at that place".
+-- below that phase's length done, and some to one after the last phase.
 pub every-place-is-reached : (words separator : List ℕ) → start words separator .number ≡ accepted
     → ((phase done : ℕ) → phase < length (mergedWords words) → done < lengthOf (getD (mergedWords words) phase 0)
     → (cs : List Call) × OpenAt (leftBy (start words separator .session) cs) phase done)
     × ((cs : List Call) × OpenAt (leftBy (start words separator .session) cs) (length (mergedWords words)) 0)
 every-place-is-reached words separator e = (place-reached words separator e, end-reached words separator e)
+
+-- "count and positions are those the steps give at that place": START takes the words of a sound record, and some calls then lead to an open
+-- record that is like it in all but the state. (Words are of 32 bits in every record that a caller can hand over.)
+pub sound-records-are-reached : (r : Session) → ((k : ℕ) → getD (r .words) k 0 < 4294967296) → sound r ≡ true
+    → let words = take (r .count) (r .words) in
+    (start words [] .number ≡ accepted) × ((cs : List Call) × OpenLike (leftBy (start words [] .session) cs) r)
+sound-records-are-reached r fits e = (pattern-opens r fits (parts r e), like-reached r fits (parts r e))
 
 -- A finished session has counted the permutations of its whole merged pattern, whichever calls its list holds.
 pub count-of-session : (a : Run) → permutationsOf a ≡ permutationsAt (mergedWords (a .words)) (length (mergedWords (a .words))) 0

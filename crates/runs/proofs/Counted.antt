@@ -5,7 +5,7 @@ use mathlib.Core.Bool.{true}
 use mathlib.Core.List.{List, _++_}
 use Prim.Native.Nat.{ℕ, _+_, _-_}
 use lib.Dec.{eqb}
-use lib.ListN.{length, replicate}
+use lib.ListN.{length, getD, replicate}
 use Rattle.basics.specs.Numbers.{accepted}
 use Rattle.basics.proofs.Sums.{sum-same}
 use Rattle.basics.proofs.Zeros.{zeros-behind}
@@ -21,13 +21,14 @@ use Rattle.runs.proofs.Outcomes.{finish-ended}
 use Rattle.runs.proofs.Opened.{start-record, sound-run}
 use Rattle.runs.proofs.SamePattern.{same-left-by}
 
--- unused words read as words past the end do
-permutations-padded : (ws : List ℕ) (n phase done : ℕ) → permutationsAt (ws ++ replicate n 0) phase done ≡ permutationsAt ws phase done
+-- the count depends on the words at each place alone, so that unused words read as words past the end do
+pub permutations-same : (vs ws : List ℕ) → ((k : ℕ) → getD vs k 0 ≡ getD ws k 0) → (phase done : ℕ)
+    → permutationsAt vs phase done ≡ permutationsAt ws phase done
 unfolding permutationsAt
-permutations-padded ws n phase done =
+permutations-same vs ws h phase done =
     ap₂ (λ (a b : ℕ). a + b)
-    (sum-same phase _ _ (λ k _. ap (λ (w : ℕ). phasePermutations w (lengthOf w)) (zeros-behind ws n k)))
-    (ap (λ (w : ℕ). phasePermutations w done) (zeros-behind ws n phase))
+    (sum-same phase _ _ (λ k _. ap (λ (w : ℕ). phasePermutations w (lengthOf w)) (h k)))
+    (ap (λ (w : ℕ). phasePermutations w done) (h phase))
 
 module _ (ws separator : List ℕ) (e : start ws separator .number ≡ accepted) where
   pub start-words : start ws separator .session .words ≡ mergedWords ws ++ replicate (64 - length (mergedWords ws)) 0
@@ -45,7 +46,7 @@ module _ (ws separator : List ℕ) (e : start ws separator .number ≡ accepted)
       let r = leftBy (start ws separator .session) cs in
       parts r (sound-run ws separator e cs o) .counted
       ∙ ap (λ (vs : List ℕ). permutationsAt vs (r .phase) (r .done)) (same-left-by _ cs o .words ∙ start-words)
-      ∙ permutations-padded (mergedWords ws) (64 - length (mergedWords ws)) (r .phase) (r .done)
+      ∙ permutations-same _ _ (zeros-behind (mergedWords ws) (64 - length (mergedWords ws))) (r .phase) (r .done)
 
 pub count-whole : (a : Run) → permutationsOf a ≡ permutationsAt (mergedWords (a .words)) (length (mergedWords (a .words))) 0
 count-whole a =

@@ -15,5 +15,6 @@ pub mod BlockLists
 pub mod Compared
 pub mod Finishing
 pub mod Reached
+pub mod SoundPlaces
 pub mod Cuts
 pub mod SqueezedElements

@@ -9,6 +9,7 @@ use lib.Dec.{eqb}
 use lib.ListN.{length}
 use Rattle.basics.specs.Logic.{if_then_else_}
 use Rattle.basics.specs.Numbers.{accepted}
+use Rattle.basics.proofs.Cases.{if-true, if-false}
 use Rattle.session.specs.Sponge.{absorbElement, squeezeElement}
 use Rattle.session.specs.Record.{wiped, spongeOf, absorbOne, squeezeOne, squeezedOne, absorbAll, squeezeAll, squeezedAll}
 use Rattle.session.specs.Calls.{giving, absorb, squeeze, finish}
@@ -74,31 +75,42 @@ wiped-stays (FINISH ∷ cs) = wiped-stays cs
 wiped-not-finished : (cs : List Call) → finish (leftBy wiped cs) .number ≡ accepted → ⊥
 wiped-not-finished cs e = wiped-not-open (finish-ended wiped (sym (ap (λ (r : Session). finish r .number) (wiped-stays cs)) ∙ e) .opens)
 
+-- what is counted of a call with an answer: a list if it is accepted, and nothing if it is refused
+record Counts (a : Answer) (xs counted : List ℕ) : Type 0 where
+  all-accepted : eqb (a .number) accepted ≡ true → counted ≡ xs
+  none-refused : eqb (a .number) accepted ≡ false → counted ≡ []
+
+counts-absorbed : (r : Session) (xs : List ℕ) → Counts (absorb r xs) xs (absorbedIn r (ABSORB xs))
+unfolding absorbedIn accepts answered
+counts-absorbed r xs = record { all-accepted = if-true _ _ _; none-refused = if-false _ _ _ }
+
+counts-squeezed : (r : Session) (n : ℕ) → Counts (squeeze r n) (squeezedAll r n) (squeezedIn r (SQUEEZE n))
+unfolding squeezedIn accepts answered
+counts-squeezed r n = record { all-accepted = if-true _ _ _; none-refused = if-false _ _ _ }
+
 -- one call before others that go through what it left
 module _ (r : Session) (cs : List Call) (zs ys : List ℕ) (t : Session) where
   abbrev Later : Session → Type 0
   Later s = (finish (leftBy s cs) .number ≡ accepted) × Trace (toDo s) s zs ys t
 
-  absorb-call : (xs : List ℕ) → Later (absorb r xs .session)
-      → Trace (toDo r) r ((if eqb (absorb r xs .number) accepted then xs else []) ++ zs) ys t
-  unfolding giving if_then_else_
-  absorb-call xs =
-      absorb-outcome r (λ (a : Answer). Later (a .session) → Trace (toDo r) r ((if eqb (a .number) accepted then xs else []) ++ zs) ys t)
-      (λ _ z l. rw z (l .1))
-      (λ _ _ l. absurd (wiped-not-finished cs (l .0)))
+  absorb-call : (xs counted : List ℕ) → Counts (absorb r xs) xs counted → Later (absorb r xs .session) → Trace (toDo r) r (counted ++ zs) ys t
+  unfolding giving
+  absorb-call xs counted =
+      absorb-outcome r (λ (a : Answer). Counts a xs counted → Later (a .session) → Trace (toDo r) r (counted ++ zs) ys t)
+      (λ _ z f l. rw (f .none-refused z) (l .1))
+      (λ _ _ _ l. absurd (wiped-not-finished cs (l .0)))
       xs
-      λ takes _ l. absorb-all xs r (takes .fits) (l .1)
+      λ takes _ f l. rw (f .all-accepted refl) (absorb-all xs r (takes .fits) (l .1))
 
-  squeeze-call : (n : ℕ) → Later (squeeze r n .session)
-      → Trace (toDo r) r zs ((if eqb (squeeze r n .number) accepted then squeezedAll r n else []) ++ ys) t
-  unfolding giving if_then_else_
-  squeeze-call n =
-      squeeze-outcome r
-      (λ (a : Answer). Later (a .session) → Trace (toDo r) r zs ((if eqb (a .number) accepted then squeezedAll r n else []) ++ ys) t)
-      (λ _ z l. rw z (l .1))
-      (λ _ _ l. absurd (wiped-not-finished cs (l .0)))
+  squeeze-call : (n : ℕ) (counted : List ℕ) → Counts (squeeze r n) (squeezedAll r n) counted → Later (squeeze r n .session)
+      → Trace (toDo r) r zs (counted ++ ys) t
+  unfolding giving
+  squeeze-call n counted =
+      squeeze-outcome r (λ (a : Answer). Counts a (squeezedAll r n) counted → Later (a .session) → Trace (toDo r) r zs (counted ++ ys) t)
+      (λ _ z f l. rw (f .none-refused z) (l .1))
+      (λ _ _ _ l. absurd (wiped-not-finished cs (l .0)))
       n
-      λ takes l. squeeze-all n r (takes .fits) (l .1)
+      λ takes f l. rw (f .all-accepted refl) (squeeze-all n r (takes .fits) (l .1))
 
   -- FINISH among them is refused
   finish-call : Later (finish r .session) → Trace (toDo r) r zs ys t
@@ -114,6 +126,6 @@ pub traced : (r : Session) (cs : List Call) → finish (leftBy r cs) .number ≡
     → Trace (toDo r) r (absorbed r (cs ++ (FINISH ∷ []))) (squeezed r (cs ++ (FINISH ∷ []))) (leftBy r cs)
 unfolding leftBy left answered accepts absorbed absorbedIn squeezed squeezedIn
 traced r [] e = let ends = finish-ended r e in rw (none-to-do r (parts r (ends .sounds)) (ends .ended)) end
-traced r (ABSORB xs ∷ cs) e = absorb-call r cs _ _ _ xs (e, traced (absorb r xs .session) cs e)
-traced r (SQUEEZE n ∷ cs) e = squeeze-call r cs _ _ _ n (e, traced (squeeze r n .session) cs e)
+traced r (ABSORB xs ∷ cs) e = absorb-call r cs _ _ _ xs _ (counts-absorbed r xs) (e, traced (absorb r xs .session) cs e)
+traced r (SQUEEZE n ∷ cs) e = squeeze-call r cs _ _ _ n _ (counts-squeezed r n) (e, traced (squeeze r n .session) cs e)
 traced r (FINISH ∷ cs) e = finish-call r cs _ _ _ (e, traced (finish r .session) cs e)

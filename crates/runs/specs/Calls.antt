@@ -5,6 +5,7 @@ use mathlib.Core.Bool.{Bool}
 use mathlib.Core.List.{List, [], _∷_, _++_}
 use Prim.Native.Nat.{ℕ}
 use lib.Dec.{eqb}
+use lib.ListN.{getD}
 use Rattle.basics.specs.Logic.{if_then_else_}
 use Rattle.basics.specs.Numbers.{accepted}
 use Rattle.session.specs.Record.{opened, squeezedAll}
@@ -42,6 +43,15 @@ pub record OpenAt (r : Session) (phaseNumber elementsDone : ℕ) : Type 0 where
   pub opens : r .status ≡ opened
   pub phase : r .phase ≡ phaseNumber
   pub done : r .done ≡ elementsDone
+
+-- an open record that is like another in all but the state: in its words, its place, its positions and its count of permutations
+pub record OpenLike (t r : Session) : Type 0 where
+  pub place : OpenAt t (r .phase) (r .done)
+  pub count : t .count ≡ r .count
+  pub words : (k : ℕ) → getD (t .words) k 0 ≡ getD (r .words) k 0
+  pub absorbs-at : t .«absorb_position» ≡ r .«absorb_position»
+  pub squeezes-at : t .«squeeze_position» ≡ r .«squeeze_position»
+  pub permutations : t .permutations ≡ r .permutations
 
 -- "Absorbed are the elements of the accepted ABSORB calls, in list order; a refused call adds none."
 unfoldable pub absorbedIn : Session → Call → List ℕ

@@ -1,0 +1,109 @@
+-- A sound record is, but for its state, one that START and some calls lead to.
+-- Assumes nothing.
+use mathlib.Core.Path.{_≡_, refl, sym, ap, _∙_}
+use mathlib.Core.Bool.{true}
+use mathlib.Core.List.{List, [], _∷_}
+use Prim.Native.Nat.{ℕ, zero, suc, _-_, _<_}
+use native.Mathlib.Omega.{arith}
+use borrow.Author.Tests.{ltb-true, ltb-false, eqb-true, eq-eqb}
+use lib.Dec.{ltb, eqb}
+use lib.ListN.{length, getD, take, drop}
+use lib.Seq.{length-take-le}
+use Rattle.basics.specs.Logic.{all}
+use Rattle.basics.specs.Numbers.{accepted}
+use Rattle.basics.proofs.Cases.{cases, and-left, and-right}
+use Rattle.basics.proofs.Zeros.{zeros-behind}
+use Rattle.tag.specs.Pattern.{lengthOf, mergedWords}
+use Rattle.tag.specs.Permutations.{permutationsAt}
+use Rattle.tag.proofs.MergedWords.{sound-merged, sound-accepted}
+use Rattle.session.specs.Record.{phaseWord}
+use Rattle.session.specs.Soundness.{positionsAfter, positionsAt}
+use Rattle.session.specs.Calls.{giving, start}
+use Rattle.session.specs.declared.Session.{Session}
+use Rattle.session.specs.declared.Answer.{Answer}
+use Rattle.session.proofs.SoundRecord.{Sound, parts, element-left, none-done}
+use Rattle.session.proofs.Opening.{start-opens}
+use Rattle.runs.specs.Calls.{Call, leftBy, OpenAt, OpenLike}
+use Rattle.runs.proofs.Opened.{sound-run}
+use Rattle.runs.proofs.SamePattern.{same-left-by}
+use Rattle.runs.proofs.Counted.{permutations-same, start-words, start-count}
+use Rattle.runs.proofs.Reached.{place-reached, end-reached}
+
+-- words behind which all are 0 read as the whole list does
+used-words : (n : ℕ) (ws : List ℕ) → all (λ w. eqb w 0) (drop n ws) ≡ true → (k : ℕ) → getD ws k 0 ≡ getD (take n ws) k 0
+unfolding all
+used-words zero [] e k = refl
+used-words zero (w ∷ ws) e zero = eqb-true w 0 (and-left _ _ e)
+used-words zero (w ∷ ws) e (suc k) = used-words zero ws (and-right _ _ e) k
+used-words (suc n) [] e k = refl
+used-words (suc n) (w ∷ ws) e zero = refl
+used-words (suc n) (w ∷ ws) e (suc k) = used-words n ws e k
+
+-- positions depend on the words at each place alone
+positions-same : (vs ws : List ℕ) → ((k : ℕ) → getD vs k 0 ≡ getD ws k 0) → (phase done : ℕ) → positionsAt vs phase done ≡ positionsAt ws phase done
+unfolding positionsAt
+positions-same vs ws h phase (suc d) = ap (λ (w : ℕ). positionsAfter w (suc d)) (h phase)
+positions-same vs ws h (suc k) zero = ap (λ (w : ℕ). positionsAfter w (lengthOf w)) (h k)
+positions-same vs ws h zero zero = refl
+
+module _ (r : Session) (fits : (k : ℕ) → getD (r .words) k 0 < 4294967296) (s : Sound r) where
+  abbrev pattern : List ℕ
+  pattern = take (r .count) (r .words)
+
+  word-used : (k : ℕ) → getD (r .words) k 0 ≡ getD pattern k 0
+  word-used = used-words (r .count) (r .words) (s .unused)
+
+  pub pattern-opens : start pattern [] .number ≡ accepted
+  unfolding giving
+  pattern-opens = ap (λ (a : Answer). a .number) (start-opens pattern [] (sound-accepted pattern [] (s .pattern) (omega arith)))
+
+  merged : mergedWords pattern ≡ pattern
+  merged = sound-merged pattern (s .pattern) (λ k. rw (← word-used k) (fits k))
+
+  words-merged : length (mergedWords pattern) ≡ r .count
+  words-merged = ap length merged ∙ length-take-le (r .count) (r .words) (s .long)
+
+  word-merged : (k : ℕ) → getD (mergedWords pattern) k 0 ≡ getD (r .words) k 0
+  word-merged k = ap (λ (ws : List ℕ). getD ws k 0) merged ∙ sym (word-used k)
+
+  reached : (cs : List Call) × OpenAt (leftBy (start pattern [] .session) cs) (r .phase) (r .done)
+  unfolding phaseWord
+  reached =
+      cases (ltb (r .phase) (r .count))
+      (λ l.
+      let early = ltb-true _ _ l in
+      place-reached pattern [] pattern-opens (r .phase) (r .done) (rw words-merged early)
+      (rw (ap lengthOf (word-merged (r .phase))) (element-left r s early)))
+      λ l.
+      let late = ltb-false (r .phase) (r .count) l in
+      let within = s .within in
+      let ended : r .phase ≡ r .count = omega arith in
+      rw (ended ∙ sym words-merged, none-done r s ended) (end-reached pattern [] pattern-opens)
+
+  pub like-reached : (cs : List Call) × OpenLike (leftBy (start pattern [] .session) cs) r
+  like-reached =
+      let cs = reached .0 in
+      let at = reached .1 in
+      let t = leftBy (start pattern [] .session) cs in
+      let o = eq-eqb _ _ (at .opens) in
+      let sounds = parts t (sound-run pattern [] pattern-opens cs o) in
+      let same = same-left-by (start pattern [] .session) cs o in
+      let words : (k : ℕ) → getD (t .words) k 0 ≡ getD (r .words) k 0 = λ k.
+      ap (λ (ws : List ℕ). getD ws k 0) (same .words ∙ start-words pattern [] pattern-opens)
+      ∙ zeros-behind (mergedWords pattern) (64 - length (mergedWords pattern)) k
+      ∙ word-merged k in
+      let positions : positionsAt (t .words) (t .phase) (t .done) ≡ positionsAt (r .words) (r .phase) (r .done) =
+      positions-same _ _ words (t .phase) (t .done) ∙ (λ i. positionsAt (r .words) (at .phase i) (at .done i)) in (
+        cs,
+        record {
+          place = at;
+          count = same .count ∙ start-count pattern [] pattern-opens ∙ words-merged;
+          words = words;
+          absorbs-at = sounds .absorbs-at ∙ (λ i. positions i .absorb) ∙ sym (s .absorbs-at);
+          squeezes-at = sounds .squeezes-at ∙ (λ i. positions i .squeeze) ∙ sym (s .squeezes-at);
+          permutations = sounds .counted
+              ∙ permutations-same _ _ words (t .phase) (t .done)
+              ∙ (λ i. permutationsAt (r .words) (at .phase i) (at .done i))
+              ∙ sym (s .counted);
+        },
+      )
