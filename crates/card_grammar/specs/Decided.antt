@@ -1,12 +1,12 @@
 -- Every line is a card or none. Proofs, which a reader of the statements may pass over, but for the type of `decided`.
+use mathlib.Core.Path.{_≡_, refl, ap, _∙_}
 use mathlib.Core.List.{List}
 use mathlib.Core.Logic.{_⊎_, inl, inr, ⊎-elim}
-use mathlib.Core.Path.{_≡_, refl, ap, _∙_}
 use Prim.Native.Nat.{ℕ, _<_, _≤_}
 use native.Mathlib.Omega.{arith}
+use borrow.Author.Tests.{leb-true, leb-false}
 use lib.Dec.{leb}
 use lib.ListN.{length}
-use borrow.Author.Tests.{leb-true, leb-false}
 use Rattle.basics.proofs.Cases.{cases}
 use Rattle.card_grammar.specs.Grammar.{CardOf, IsCard, NoCard}
 use Rattle.card_grammar.specs.Machine.{State, at, run, fresh}

@@ -1,11 +1,11 @@
 -- Digits: what is printed reads back, and a byte that reads as a digit was printed so. Proofs, which a reader of the statements may pass over.
+use mathlib.Core.Path.{_≡_, refl, sym, ap, _∙_}
 use mathlib.Core.Bool.{false}
 use mathlib.Core.List.{List, [], _∷_, _++_}
-use mathlib.Core.Path.{_≡_, refl, sym, ap, _∙_}
 use Prim.Native.Nat.{ℕ, zero, suc, _+_, _-_, _*_, _/_, _%_, _<_, _≤_}
 use native.Mathlib.Omega.{arith}
-use lib.Dec.{ltb, leb}
 use borrow.Author.Tests.{lt-ltb, le-ltb, ltb-true, ltb-false, le-leb, lt-leb, leb-true}
+use lib.Dec.{ltb, leb}
 use Rattle.basics.specs.Logic.{if_then_else_}
 use Rattle.basics.proofs.Cases.{cases}
 use Rattle.card_grammar.specs.Text.{hexDigit, hex, decimalUpTo, decimal}

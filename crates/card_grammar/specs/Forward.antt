@@ -1,10 +1,10 @@
 -- The machine takes a card's text to its end, with its separator and words. Proofs, which a reader of the statements may pass over.
-use mathlib.Core.List.{List, [], _∷_, _++_, append-assoc, append-nil}
 use mathlib.Core.Path.{_≡_, refl, ap, _∙_}
+use mathlib.Core.List.{List, [], _∷_, _++_, append-assoc, append-nil}
 use Prim.Native.Nat.{ℕ, zero, suc, _+_, _*_, _/_, _%_, _<_, _≤_}
 use native.Mathlib.Omega.{arith}
-use lib.Dec.{ltb, leb, eqb}
 use borrow.Author.Tests.{lt-ltb, ltb-true, ltb-false, le-leb, leb-true, leb-false, ne-eqb, eqb-true, eqb-false}
+use lib.Dec.{ltb, leb, eqb}
 use Rattle.basics.specs.Logic.{if_then_else_}
 use Rattle.basics.proofs.Cases.{cases}
 use Rattle.tag.specs.Pattern.{isAbsorb, lengthOf}

@@ -38,16 +38,16 @@ unfoldable pub joined : List (List ℕ) → List ℕ
 joined [] = []
 joined (piece ∷ pieces) = piece ++ joined pieces
 
--- The calls of a caller that lends a piece, then what the call left of it, and so on until none is left. Call number n is lent the output
--- `outputs n`, whatever is in it: a caller may lend one buffer again. The first of these calls has the number n. The first argument bounds
--- how many there are; the length of the piece is enough.
+-- The calls of a caller that lends a piece, then what the call left of it, and so on until none is left. They are numbered from n on, and
+-- call number i is lent `outputs i`, whatever is in it: so one buffer may be lent again, with what the calls before left there. The first
+-- argument bounds how many calls there are; the length of the piece is enough.
 unfoldable pub callsOf : ℕ → (ℕ → List ℕ) → ℕ → List ℕ → List Call
 callsOf zero outputs n piece = []
 callsOf (suc k) outputs n [] = []
 callsOf (suc k) outputs n (b ∷ bs) =
     record { piece = b ∷ bs; output = outputs n } ∷ callsOf k outputs (n + 1) (drop (length (takes (b ∷ bs) (outputs n))) (b ∷ bs))
 
--- and so for piece after piece
+-- and so for piece after piece, numbered on
 unfoldable pub callsOfAll : (ℕ → List ℕ) → ℕ → List (List ℕ) → List Call
 callsOfAll outputs n [] = []
 callsOfAll outputs n (piece ∷ pieces) =

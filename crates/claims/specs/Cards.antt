@@ -15,6 +15,8 @@ use Rattle.tag.specs.Pattern.{isAbsorb, lengthOf, phaseOf, wordOf, join, merge,
 use Rattle.tag.specs.Start.{tooLong, startNumber}
 use Rattle.tag.specs.TagString.{wordBytes, tagString}
 use Rattle.tag.specs.Permutations.{blockCount, phasePermutations, permutationsAt, fullPermutations}
+use Rattle.runs.specs.Runs.{Run, tagOf, permutationsOf}
+use Rattle.runs.proofs.Opened.{start-accepted}
 use Rattle.card_grammar.specs.Text.{ascii, hexDigit, hex, separatorText, decimalUpTo, decimal, callText, callsText, cardText}
 use Rattle.card_grammar.specs.Grammar.{Below, CardOf, card, none, NoCard}
 use Rattle.card_grammar.specs.Card.{cardOf}
@@ -29,8 +31,6 @@ use Rattle.card_lines.specs.Calls.{Call, taken, written, joined, callsOfAll}
 use Rattle.card_lines.proofs.Progress.{takes-some}
 use Rattle.card_lines.proofs.AllTaken.{all-taken, written-bytes, used-bytes}
 use Rattle.card_lines.proofs.Cutting.{written-output, start-holds}
-use Rattle.runs.specs.Runs.{Run, tagOf, permutationsOf}
-use Rattle.runs.proofs.Opened.{start-accepted}
 use Rattle.claims.specs.Sessions.{count-of-session}
 
 -- A line is read as a card exactly if it has at most 2,048 bytes and is the text of a separator and words, byte for byte; and as no card

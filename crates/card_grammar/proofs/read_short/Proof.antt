@@ -1,10 +1,10 @@
 -- `card_grammar::read_short` meets its contract.
 -- Assumes nothing.
-use types.Run.{OneOf, miss}
-use denote.Enum.Declared.{tagOf}
 use mathlib.Core.Path.{_≡_, sym, ap, subst, _∙_}
 use mathlib.Core.List.{List, [], _∷_}
 use Prim.Native.Nat.{ℕ, _-_}
+use denote.Enum.Declared.{tagOf}
+use types.Run.{OneOf, miss}
 use lib.ListN.{length}
 use Rattle.card_grammar.specs.Card.{reading}
 use Rattle.card_grammar.specs.declared.machine.Mode.{Mode}

@@ -1,8 +1,8 @@
 -- `card::text::put_decimal` meets its contract. It calls itself with a smaller number.
 -- Assumes nothing.
-use Prim.Native.Nat.{ℕ, _+_, _%_, _<_}
-use mathlib.Core.List.{List}
 use mathlib.Core.Path.{ap₂, _∙_}
+use mathlib.Core.List.{List}
+use Prim.Native.Nat.{ℕ, _+_, _%_, _<_}
 use native.Mathlib.Omega.{arith}
 use lib.ListN.{set, length-set}
 use Rattle.card.proofs.Bounds.{length-decimal-small, length-decimal-more}
