@@ -2,7 +2,7 @@
 
 use tuilarder::{Call, Pattern, Refusal, Session};
 
-/// Opens a session, and prints its tag string. Sessions of one tag string are the same session until they absorb different elements.
+/// Opens a session, and prints its tag string: sessions of one tag string begin with the same state.
 pub fn open(calls: &[Call], separator: &[u8]) -> Result<Session, Refusal> {
     let pattern = Pattern::new(calls)?;
     let mut buffer = [0; Pattern::MAX_TAG_STRING];
