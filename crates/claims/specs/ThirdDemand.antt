@@ -1,24 +1,10 @@
 -- The third demand, as one theorem of every two finished sessions. A `Run` is a session that START opened, with its whole list of calls,
 -- refused ones included, that ends in an accepted FINISH (`runs/specs/Runs.antt`).
-use mathlib.Core.Path.{_≡_, refl, sym, ap, ap₂, _∙_}
-use mathlib.Core.Logic.{_≢_, _↔_}
-use mathlib.Core.List.{List, [], _∷_}
-use Prim.Native.Nat.{ℕ}
-use native.Mathlib.Omega.{arith}
+use mathlib.Core.Path.{_≡_}
+use mathlib.Core.Logic.{_↔_}
 use lib.ListN.{length}
-use Rattle.basics.specs.Logic.{if_then_else_, _and_, _or_, same, all, any}
-use Rattle.basics.specs.Digits.{digits}
-use Rattle.basics.specs.Numbers.{accepted}
-use Rattle.tag.specs.Pattern.{Phase, isAbsorb, lengthOf, phaseOf, wordOf, join, merge, phases, mergedWords}
-use Rattle.tag.specs.Start.{tooLong, startNumber}
-use Rattle.tag.specs.TagString.{wordBytes, tagString}
-use Rattle.session.specs.Calls.{giving, start}
-use Rattle.session.specs.declared.Answer.{Answer}
-use Rattle.session.proofs.Opening.{start-opens}
-use Rattle.runs.specs.Lengths.{absorbLength}
 use Rattle.runs.specs.Runs.{Run, tagOf, patternOf, absorbedOf, squeezedOf, blocksOf, permutationsOf}
 use Rattle.runs.proofs.Compared.{demand-3}
-use Rattle.runs.proofs.Finishing.{finishable}
 
 -- "Let START open two sessions, with separators of equal length in bytes .. Then for every two such lists the two tag strings are equal
 -- exactly when merged patterns and separators are both equal. Where they are, the two lists of blocks are equal exactly when the same
@@ -30,48 +16,3 @@ pub third-demand : (a b : Run) → length (a .separator) ≡ length (b .separato
     → ((blocksOf a ≡ blocksOf b) ↔ (absorbedOf a ≡ absorbedOf b))
     × (blocksOf a ≡ blocksOf b → (squeezedOf a ≡ squeezedOf b) × (permutationsOf a ≡ permutationsOf b)))
 third-demand = demand-3
-
--- the words and the separator of B2's first pattern
-twoWords : List ℕ
-twoWords = 0x80000001 ∷ 1 ∷ []
-
-eightBytes : List ℕ
-eightBytes = 0x80 ∷ 0 ∷ 0 ∷ 2 ∷ 0 ∷ 0 ∷ 0 ∷ 2 ∷ []
-
--- the words of its second, which has no separator
-fourWords : List ℕ
-fourWords = 0x80000001 ∷ 1 ∷ 0x80000002 ∷ 2 ∷ []
-
--- accepted words and separator are opened
-opens : (words separator : List ℕ) → startNumber words separator ≡ accepted → start words separator .number ≡ accepted
-unfolding giving
-opens words separator e = ap (λ (a : Answer). a .number) (start-opens words separator e)
-
--- a finished session of each, with zeros absorbed
-short-session : (a : Run) × (a .words ≡ twoWords) × (a .separator ≡ eightBytes) × (absorbedOf a ≡ 0 ∷ [])
-unfolding twoWords eightBytes startNumber tooLong phases merge join phaseOf isAbsorb lengthOf absorbLength if_then_else_ _and_ _or_ same all any
-short-session = finishable twoWords eightBytes (0 ∷ []) (opens twoWords eightBytes refl) refl refl
-
-long-session : (a : Run) × (a .words ≡ fourWords) × (a .separator ≡ []) × (absorbedOf a ≡ 0 ∷ 0 ∷ 0 ∷ [])
-unfolding fourWords startNumber tooLong phases merge join phaseOf isAbsorb lengthOf absorbLength if_then_else_ _and_ _or_ same all any
-long-session = finishable fourWords [] (0 ∷ 0 ∷ 0 ∷ []) (opens fourWords [] refl) refl refl
-
-same-string : tagString twoWords eightBytes ≡ tagString fourWords []
-unfolding twoWords eightBytes fourWords tagString wordBytes digits mergedWords wordOf phases merge join phaseOf isAbsorb lengthOf if_then_else_ same
-same-string = refl
-
-other-phases : phases twoWords ≢ phases fourWords
-unfolding twoWords fourWords phases merge join phaseOf isAbsorb lengthOf if_then_else_ same
-other-phases e = let q : _≡_ {A = ℕ} 2 4 = ap (λ (ps : List Phase). length ps) e in omega arith
-
--- "Hence equal lengths in the third demand.": there are two finished sessions, with separators of different length, whose tag strings are
--- equal and whose merged patterns are not.
-pub equal-lengths-are-needed : (a : Run) × (b : Run) × (tagOf a ≡ tagOf b) × (patternOf a ≢ patternOf b)
-equal-lengths-are-needed =
-    let a = short-session in
-    let b = long-session in (
-      a .0,
-      b .0,
-      ap₂ tagString (a .1) (a .2) ∙ same-string ∙ sym (ap₂ tagString (b .1) (b .2)),
-      λ e. other-phases (sym (ap phases (a .1)) ∙ e ∙ ap phases (b .1)),
-    )
