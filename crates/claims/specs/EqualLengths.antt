@@ -1,4 +1,5 @@
--- Why the third demand is of separators of equal length: two finished sessions of document 01's sample B2, whose tag strings are equal.
+-- Why the third demand is one of separators of equal length: without that it does not hold. The two patterns are those of document 01's
+-- sample B2.
 use mathlib.Core.Path.{_≡_, refl, sym, ap, ap₂, _∙_}
 use mathlib.Core.Logic.{_≢_}
 use mathlib.Core.List.{List, [], _∷_}
@@ -7,15 +8,12 @@ use native.Mathlib.Omega.{arith}
 use lib.ListN.{length}
 use Rattle.basics.specs.Logic.{if_then_else_, _and_, _or_, same, all, any}
 use Rattle.basics.specs.Digits.{digits}
-use Rattle.basics.specs.Numbers.{accepted}
 use Rattle.tag.specs.Pattern.{Phase, isAbsorb, lengthOf, phaseOf, wordOf, join, merge, phases, mergedWords}
 use Rattle.tag.specs.Start.{tooLong, startNumber}
 use Rattle.tag.specs.TagString.{wordBytes, tagString}
-use Rattle.session.specs.Calls.{giving, start}
-use Rattle.session.specs.declared.Answer.{Answer}
-use Rattle.session.proofs.Opening.{start-opens}
 use Rattle.runs.specs.Lengths.{absorbLength}
 use Rattle.runs.specs.Runs.{Run, tagOf, patternOf, absorbedOf}
+use Rattle.runs.proofs.Opened.{accepted-start}
 use Rattle.runs.proofs.Finishing.{finishable}
 
 -- the words and the separator of B2's first pattern
@@ -29,19 +27,14 @@ eightBytes = 0x80 ∷ 0 ∷ 0 ∷ 2 ∷ 0 ∷ 0 ∷ 0 ∷ 2 ∷ []
 fourWords : List ℕ
 fourWords = 0x80000001 ∷ 1 ∷ 0x80000002 ∷ 2 ∷ []
 
--- accepted words and separator are opened
-opens : (words separator : List ℕ) → startNumber words separator ≡ accepted → start words separator .number ≡ accepted
-unfolding giving
-opens words separator e = ap (λ (a : Answer). a .number) (start-opens words separator e)
-
 -- a finished session of each, with zeros absorbed
 short-session : (a : Run) × (a .words ≡ twoWords) × (a .separator ≡ eightBytes) × (absorbedOf a ≡ 0 ∷ [])
 unfolding twoWords eightBytes startNumber tooLong phases merge join phaseOf isAbsorb lengthOf absorbLength if_then_else_ _and_ _or_ same all any
-short-session = finishable twoWords eightBytes (0 ∷ []) (opens twoWords eightBytes refl) refl refl
+short-session = finishable twoWords eightBytes (0 ∷ []) (accepted-start twoWords eightBytes refl) refl refl
 
 long-session : (a : Run) × (a .words ≡ fourWords) × (a .separator ≡ []) × (absorbedOf a ≡ 0 ∷ 0 ∷ 0 ∷ [])
 unfolding fourWords startNumber tooLong phases merge join phaseOf isAbsorb lengthOf absorbLength if_then_else_ _and_ _or_ same all any
-long-session = finishable fourWords [] (0 ∷ 0 ∷ 0 ∷ []) (opens fourWords [] refl) refl refl
+long-session = finishable fourWords [] (0 ∷ 0 ∷ 0 ∷ []) (accepted-start fourWords [] refl) refl refl
 
 same-string : tagString twoWords eightBytes ≡ tagString fourWords []
 unfolding twoWords eightBytes fourWords tagString wordBytes digits mergedWords wordOf phases merge join phaseOf isAbsorb lengthOf if_then_else_ same

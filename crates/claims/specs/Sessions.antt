@@ -56,13 +56,18 @@ pub count-at-every-place : (words separator : List ℕ) → start words separato
     r .status ≡ opened → r .permutations ≡ permutationsAt (mergedWords words) (r .phase) (r .done)
 count-at-every-place words separator e cs o = count-run words separator e cs (eq-eqb _ _ o)
 
+-- A finished session has counted the permutations of its whole merged pattern, whichever calls its list holds.
+pub count-of-session : (a : Run) → permutationsOf a ≡ permutationsAt (mergedWords (a .words)) (length (mergedWords (a .words))) 0
+count-of-session = count-whole
+
 -- Every place of an accepted pattern is reached: some calls lead START's record to an open record in any phase, with any number of elements
 -- below that phase's length done, and some to one after the last phase.
 pub every-place-is-reached : (words separator : List ℕ) → start words separator .number ≡ accepted
     → ((phase done : ℕ) → phase < length (mergedWords words) → done < lengthOf (getD (mergedWords words) phase 0)
     → (cs : List Call) × OpenAt (leftBy (start words separator .session) cs) phase done)
     × ((cs : List Call) × OpenAt (leftBy (start words separator .session) cs) (length (mergedWords words)) 0)
-every-place-is-reached words separator e = (place-reached words separator e, end-reached words separator e)
+every-place-is-reached words separator e =
+    (λ phase done h l. place-reached words separator e phase done h l, end-reached words separator e)
 
 -- "count and positions are those the steps give at that place": START takes the words of a sound record, and some calls then lead to an open
 -- record that is like it in all but the state. (Words are of 32 bits in every record that a caller can hand over.)
@@ -70,10 +75,6 @@ pub sound-records-are-reached : (r : Session) → ((k : ℕ) → getD (r .words)
     → let words = take (r .count) (r .words) in
     (start words [] .number ≡ accepted) × ((cs : List Call) × OpenLike (leftBy (start words [] .session) cs) r)
 sound-records-are-reached r fits e = (pattern-opens r fits (parts r e), like-reached r fits (parts r e))
-
--- A finished session has counted the permutations of its whole merged pattern, whichever calls its list holds.
-pub count-of-session : (a : Run) → permutationsOf a ≡ permutationsAt (mergedWords (a .words)) (length (mergedWords (a .words))) 0
-count-of-session = count-whole
 
 -- "an absorb and a squeeze position (0 to 8)": neither position of a sound record is above 8.
 pub positions-are-0-to-8 : (r : Session) → sound r ≡ true → (r .«absorb_position» ≤ 8) × (r .«squeeze_position» ≤ 8)

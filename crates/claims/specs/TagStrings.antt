@@ -17,7 +17,8 @@ pub written-string : (words separator buffer : List ℕ) → writeNumber words s
     → take (written words separator buffer .length) (bufferAfter words separator buffer) ≡ tagString words separator
 written-string = front-of-buffer
 
--- "With its separator's length given, a tag string reads back to the merged pattern and separator it was written from"
+-- "With its separator's length given, a tag string reads back to the merged pattern and separator it was written from", for every accepted
+-- pattern.
 pub reading-back : (words separator : List ℕ) → startNumber words separator ≡ accepted
     → (readWords (tagString words separator) (length separator) ≡ withWords accepted (mergedWords words))
     × (readSeparator (tagString words separator) (length separator) ≡ separator)
@@ -33,11 +34,11 @@ writing-again string n bytes e = (writes string n bytes e, writes-string string 
 -- length.
 pub no-tag-string : (string : List ℕ) (n : ℕ) → readNumber string n ≡ notTagString
     → (words separator : List ℕ) → startNumber words separator ≡ accepted → length separator ≡ n → tagString words separator ≢ string
-no-tag-string = refused-string
+no-tag-string string n e words separator f h = refused-string string n e words separator f h
 
 -- "the two tag strings are equal exactly when merged patterns and separators are both equal", for separators of equal length in bytes.
 -- Merged patterns are compared as kinds and lengths.
 pub tag-strings-tell : (words separator words′ separator′ : List ℕ)
     → startNumber words separator ≡ accepted → startNumber words′ separator′ ≡ accepted → length separator ≡ length separator′
     → (tagString words separator ≡ tagString words′ separator′) ↔ ((phases words ≡ phases words′) × (separator ≡ separator′))
-tag-strings-tell = strings-tell
+tag-strings-tell words separator words′ separator′ e f h = strings-tell words separator words′ separator′ e f h

@@ -15,4 +15,6 @@ pub third-demand : (a b : Run) → length (a .separator) ≡ length (b .separato
     × (tagOf a ≡ tagOf b
     → ((blocksOf a ≡ blocksOf b) ↔ (absorbedOf a ≡ absorbedOf b))
     × (blocksOf a ≡ blocksOf b → (squeezedOf a ≡ squeezedOf b) × (permutationsOf a ≡ permutationsOf b)))
-third-demand = demand-3
+third-demand a b h =
+    let d = demand-3 a b h in
+    (d .0, λ e. (d .1 e .0, λ q. d .1 e .1 q))

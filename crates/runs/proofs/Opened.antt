@@ -71,6 +71,10 @@ module _ (ws separator : List ℕ) where
   unfolding start giving
   start-accepted = by (λ (a : Answer). a .number ≡ accepted → startNumber ws separator ≡ accepted) _ _ _ (λ e _. eqb-true _ _ e) λ _ e. e
 
+  pub accepted-start : startNumber ws separator ≡ accepted → start ws separator .number ≡ accepted
+  unfolding giving
+  accepted-start e = ap (λ (a : Answer). a .number) (start-opens ws separator e)
+
   module _ (e : start ws separator .number ≡ accepted) where
     pub start-record : start ws separator .session ≡ startRecord ws separator
     unfolding giving

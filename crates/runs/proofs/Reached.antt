@@ -103,6 +103,7 @@ module _ (ws separator : List ℕ) (e : start ws separator .number ≡ accepted)
     same-length : lengthOf (phaseWord last) ≡ long i
     same-length = length-there (reached .0) (reached .1 .opens) within ∙ ap long (reached .1 .phase)
 
+    -- from a place to the next one, in this phase or at the begin of the next
     forward : (suc d ≡ long i → Reached (suc i) 0) × (suc d ≢ long i → Reached i (suc d))
     forward =
         next-place last (λ (k b : ℕ). Reached k b → (suc d ≡ long i → Reached (suc i) 0) × (suc d ≢ long i → Reached i (suc d)))
@@ -113,10 +114,12 @@ module _ (ws separator : List ℕ) (e : start ws separator .number ≡ accepted)
         ))
         (next (reached .0) (reached .1 .opens) within)
 
+  -- from the begin of a phase to each of its places
   in-phase : (i d : ℕ) → i < length (mergedWords ws) → Reached i 0 → d < long i → Reached i d
   in-phase i zero h t l = t
   in-phase i (suc d) h t l = forward i d h (in-phase i d h t (omega arith)) .1 (λ q. omega arith)
 
+  -- the begin of each phase, and the end of the last
   phase-begun : (i : ℕ) → i ≤ length (mergedWords ws) → Reached i 0
   unfolding leftBy startRecord openRecord
   phase-begun zero h =

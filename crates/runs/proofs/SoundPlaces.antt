@@ -18,13 +18,11 @@ use Rattle.tag.specs.Permutations.{permutationsAt}
 use Rattle.tag.proofs.MergedWords.{sound-merged, sound-accepted}
 use Rattle.session.specs.Record.{phaseWord}
 use Rattle.session.specs.Soundness.{positionsAfter, positionsAt}
-use Rattle.session.specs.Calls.{giving, start}
+use Rattle.session.specs.Calls.{start}
 use Rattle.session.specs.declared.Session.{Session}
-use Rattle.session.specs.declared.Answer.{Answer}
 use Rattle.session.proofs.SoundRecord.{Sound, parts, element-left, none-done}
-use Rattle.session.proofs.Opening.{start-opens}
 use Rattle.runs.specs.Calls.{Call, leftBy, OpenAt, OpenLike}
-use Rattle.runs.proofs.Opened.{sound-run}
+use Rattle.runs.proofs.Opened.{accepted-start, sound-run}
 use Rattle.runs.proofs.SamePattern.{same-left-by}
 use Rattle.runs.proofs.Counted.{permutations-same, start-words, start-count}
 use Rattle.runs.proofs.Reached.{place-reached, end-reached}
@@ -54,8 +52,7 @@ module _ (r : Session) (fits : (k : ℕ) → getD (r .words) k 0 < 4294967296) (
   word-used = used-words (r .count) (r .words) (s .unused)
 
   pub pattern-opens : start pattern [] .number ≡ accepted
-  unfolding giving
-  pattern-opens = ap (λ (a : Answer). a .number) (start-opens pattern [] (sound-accepted pattern [] (s .pattern) (omega arith)))
+  pattern-opens = accepted-start pattern [] (sound-accepted pattern [] (s .pattern) (omega arith))
 
   merged : mergedWords pattern ≡ pattern
   merged = sound-merged pattern (s .pattern) (λ k. rw (← word-used k) (fits k))
