@@ -110,8 +110,8 @@ pub fn is_sound(words: &[u32]) -> bool
 
 // Writes the tag string from the buffer's start on, where the pattern is accepted and the buffer is long enough.
 pub fn write(words: &[u32], separator: &[u8], buffer: &mut [u8]) -> Written
-    ensures { λ r. ⌜ r ≡ written (now (words .entry)) (now (separator .entry)) (now (buffer .entry)) ⌝ }
-    ensures { λ _. ⌜ now (buffer .exit) ≡ bufferAfter (now (words .entry)) (now (separator .entry)) (now (buffer .entry)) ⌝ }
+    ensures { λ r. ⌜ (r ≡ written (now (words .entry)) (now (separator .entry)) (now (buffer .entry))) ×
+        (now (buffer .exit) ≡ bufferAfter (now (words .entry)) (now (separator .entry)) (now (buffer .entry))) ⌝ }
 {
     let merged = check(words, separator);
     if merged.number != basics::ACCEPTED {
@@ -177,8 +177,8 @@ pub fn read(string: &[u8], separator_length: usize) -> Merged
 // The separator of a tag string, as that part of the string itself, empty where `read` refuses. It lies in the string's memory and ends
 // where the string ends.
 pub fn read_separator(string: &[u8], separator_length: usize) -> &[u8]
-    ensures { λ r. ⌜ now r ≡ readSeparator (now (string .entry)) «separator_length» ⌝ }
-    ensures { λ r. ⌜ ptr r ≡ (ptr (string .entry) .0, length (now (string .entry)) - length (now r) + ptr (string .entry) .1) ⌝ }
+    ensures { λ r. ⌜ (now r ≡ readSeparator (now (string .entry)) «separator_length») ×
+        (ptr r ≡ (ptr (string .entry) .0, length (now (string .entry)) - length (now r) + ptr (string .entry) .1)) ⌝ }
 {
     let merged = read(string, separator_length);
     if merged.number != basics::ACCEPTED {
