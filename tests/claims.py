@@ -5,8 +5,8 @@
   tests/claims.py papers FOLDER
 
 `test` fails where a name that a document cites is not in the tree, where docs/CLAIMS.md does not name a public function with two of the wrong
-answers that its contract rules out, where it leaves out a must-fail edit, and where the README shows another closing line of the gate. `papers`
-prints the sentences of documents 00 and 01, in FOLDER, that docs/CLAIMS.md does not quote.
+answers that its contract rules out, where it leaves out a must-fail edit or counts the lines to read wrongly, and where the README shows another
+closing line of the gate. `papers` prints the sentences of documents 00 and 01, in FOLDER, that docs/CLAIMS.md does not quote.
 """
 import glob
 import os
@@ -20,7 +20,7 @@ RULED_OUT = "## What each public contract rules out"
 # words in docs/CLAIMS.md that name nothing in the tree
 WORDS = {"requires", "ensures", "bool", "u32", "permutations", "axioms=", "native=nat,char,string", "logic-built=trusted",
          "libraries-built=trusted", "rattle-kit-5b-plain", "rt ci", "rt version", "tests/claims.py test", "tests/claims.py papers FOLDER",
-         "libc::read", "libc::write", "merge", "Pattern.antt", "specs/", "proofs/", "src/", "must-fail/"}
+         "libc::read", "libc::write", "memcpy", "memset", "target=x86_64-unknown-linux-gnu", "merge", "Pattern.antt", "specs/", "proofs/", "src/", "must-fail/"}
 
 
 def read(path):
@@ -110,6 +110,17 @@ def rows():
                 yield contract, set(re.findall(r"`([^`]+)`", refused))
 
 
+def miscounted():
+    """Rows of the reading table whose number of lines is not that of their files, tables of numbers left out."""
+    for line in read(CLAIMS).splitlines():
+        row = re.fullmatch(r"\| \d+\. .* \| (.*) \| (\d+) \|", line)
+        if row:
+            paths = [path for path in re.findall(r"`([^`]+/specs/[^`]+)`", row[1]) if not path.endswith("/Tables.antt")]
+            count = sum(bool(text) and not text.startswith("use ") for path in paths for text in read("crates/" + path).splitlines())
+            if count != int(row[2]):
+                yield f"{CLAIMS}: {count} lines: {line[:60]}"
+
+
 def test():
     known = edits() | statements() | items(False) | set(crates())
     missing = [f"{document}: {name}" for document in DOCUMENTS for name in cited(document)
@@ -118,7 +129,7 @@ def test():
     for function in sorted(items(True)):
         if len(table.get(function, set()) & edits()) < 2:
             missing.append(f"{CLAIMS}: two edits for {function}")
-    missing += [f"{CLAIMS}: the edit {edit}" for edit in sorted(edits() - set(cited(CLAIMS)))]
+    missing += [f"{CLAIMS}: the edit {edit}" for edit in sorted(edits() - set(cited(CLAIMS)))] + list(miscounted())
     # the gate counts a crate and an edit as one each
     closing = f"{len(crates()) + len(edits())} passed, 0 failed"
     if f"\n{closing}\n" not in read("README.md"):

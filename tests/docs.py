@@ -152,9 +152,11 @@ def pattern(out):
         out.append(f"{name} is {Refused(oracle.start_number(words(calls), b''))}")
 
 
+def bytes_of(string):
+    return f"[{', '.join('%02x' % byte for byte in string)}]"
+
+
 def tag_string(out):
-    def bytes_of(string):
-        return f"[{', '.join('%02x' % byte for byte in string)}]"
     string = oracle.tag_string(words("a3 a3 s3"), b"AB")
     number, merged, count, separator = oracle.read_tag(string, 2)
     assert (number, merged[:count]) == (0, words("a6 s3"))
@@ -267,6 +269,7 @@ def foreign_record(out):
 
 
 def two_rounds(out):
+    out.append(f"tag string {bytes_of(oracle.tag_string(words('a4 s1 a2 s1'), b'two rounds'))}")
     first, second = whole([], "a4 s1 a2 s1", b"two rounds", [11, 22, 33, 44], [55, 66])
     out.append(f"challenges {first} and {second}")
 
