@@ -91,6 +91,8 @@ def cited(document):
 
 def looked_for(name, document):
     """Whether a name is one of something in the tree: any name in docs/CLAIMS.md, and elsewhere what has the form of a path."""
+    if name.startswith("target/"):  # what rt writes
+        return False
     if document == CLAIMS:
         return name not in WORDS
     return "::" in name or bool(re.fullmatch(r"[\w.*-]+(/[\w.*+-]+)+/?", name))
