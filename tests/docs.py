@@ -5,8 +5,8 @@
   tests/docs.py oracle safe_oracle.py
 
 `test` runs every example and compares what it prints with the documents, looks for the code that they show in the examples, and draws
-docs/session.svg again. What the documents show is from another implementation: safe_oracle.py, in Python, written from document 01 by other
-hands. `oracle` does every example once more over that, and compares.
+docs/session.svg again. `oracle` does every example once more over another implementation, safe_oracle.py, in Python, written from document 01
+by other hands, and compares the documents and the picture with what that gives.
 """
 import glob
 import importlib.util
@@ -54,6 +54,12 @@ def printed(example):
     return subprocess.run(command, cwd=os.path.dirname(EXAMPLES), stdout=subprocess.PIPE, text=True, check=True).stdout
 
 
+def picture(states):
+    script = os.path.join(ROOT, "docs", "session_picture.py")
+    drawn = subprocess.run([script], input=states, stdout=subprocess.PIPE, text=True, check=True).stdout
+    assert drawn == read("docs", "session.svg"), "docs/session.svg is not what docs/session_picture.py draws"
+
+
 def test():
     examples = {os.path.basename(path)[:-3]: open(path).read() for path in glob.glob(os.path.join(EXAMPLES, "*.rs"))}
     outputs = shown()
@@ -62,9 +68,7 @@ def test():
         assert printed(example) == output, example
     for code in blocks("rust"):
         assert any(code in text for text in examples.values()), code
-    picture = os.path.join(ROOT, "docs", "session_picture.py")
-    drawn = subprocess.run([picture], input=printed("states"), stdout=subprocess.PIPE, text=True, check=True).stdout
-    assert drawn == read("docs", "session.svg"), "docs/session.svg is not what docs/session_picture.py draws"
+    picture(printed("states"))
     print(f"docs: {len(outputs)} examples print what is shown")
 
 
@@ -274,12 +278,32 @@ def two_rounds(out):
     out.append(f"challenges {first} and {second}")
 
 
+def states(out):
+    def kept(call):
+        numbers = [session.record[name] for name in ("phase", "done", "absorb_at", "squeeze_at", "permutations")]
+        place = "phase {}, {} done; positions {} {}; permutations {}".format(*numbers)
+        out.append(f"{call}; {place}; state {session.record['state']}")
+    session = opened([], "a10 s3 a2 s2", b"picture")
+    kept("START")
+    for elements in ([*range(1, 9)], [9, 10], 3, [11, 12], 2):
+        if isinstance(elements, int):
+            session.squeeze(elements)
+            kept(f"SQUEEZE {elements}")
+        else:
+            session.absorb(elements)
+            kept(f"ABSORB {len(elements)}")
+    session.finish()
+
+
 def compare():
     for example, output in shown().items():
         out = []
         globals()[example](out)
         assert "\n".join(out) + "\n" == output, example
-    print(f"docs: {len(shown())} examples are shown with what the second implementation gives")
+    out = []
+    states(out)
+    picture("\n".join(out) + "\n")
+    print(f"docs: {len(shown())} examples, and the picture, show what the second implementation gives")
 
 
 if __name__ == "__main__":
