@@ -11,23 +11,13 @@ use lib.Seq.{take-append-seam, set-at, set-append-left, append-snoc}
 use Rattle.basics.specs.Logic.{if_then_else_, same, any}
 use Rattle.basics.specs.Numbers.{accepted, mergedLengthTooLong}
 use Rattle.basics.proofs.Cases.{cases}
+use Rattle.basics.proofs.Zeros.{push-number}
 use Rattle.words.specs.Words.{isAbsorb, lengthOf}
 use Rattle.pattern.specs.Pattern.{merge, phases, mergedWords}
 use Rattle.pattern.specs.Opening.{tooLong, given, withWords, answerWith}
 use Rattle.pattern.specs.Steps.{mergeNumber, merged, Holds, Stepped}
 use Rattle.pattern.specs.declared.Merged.{Merged}
 use Rattle.pattern.proofs.MergeStep.{stays-too-long, merged-refused, merged-accepted, merged-words-length, lastWord, step-first, step-other-kind, step-too-long, step-same-kind}
-
--- numbers in n places, zeros behind them, and one number more
-pub push-number : (n : ℕ) (xs : List ℕ) (x : ℕ) → length xs < n
-    → set (xs ++ replicate (n - length xs) 0) (length xs) x ≡ xs ++ (x ∷ []) ++ replicate (n - length (xs ++ (x ∷ []))) 0
-push-number n xs x h =
-    let longer = length-append xs (x ∷ []) in
-    let left = n - length (xs ++ (x ∷ [])) in
-    let room : n - length xs ≡ suc left = omega arith in
-    ap (λ (k : ℕ). set (xs ++ replicate k 0) (length xs) x) room
-    ∙ set-at xs 0 (replicate left 0) x (length xs) refl
-    ∙ sym (append-snoc xs x (replicate left 0))
 
 -- an answer with another word at a place, and another count
 abbrev changed : Merged → ℕ → ℕ → ℕ → Merged

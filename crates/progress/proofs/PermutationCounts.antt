@@ -10,9 +10,9 @@ use lib.ListN.{length, getD, List·getD-eq-default}
 use Rattle.basics.specs.Logic.{if_then_else_}
 use Rattle.basics.specs.Lists.{sum}
 use Rattle.basics.proofs.Cases.{by, cases}
-use Rattle.tag.specs.Pattern.{isAbsorb, lengthOf}
-use Rattle.tag.specs.Permutations.{blockCount, phasePermutations}
-use Rattle.tag.proofs.WordKinds.{length-below}
+use Rattle.words.specs.Words.{isAbsorb, lengthOf}
+use Rattle.progress.specs.Permutations.{blockCount, phasePermutations}
+use Rattle.words.proofs.WordKinds.{length-below}
 
 -- the permutations of a whole phase
 abbrev pub wholePhase : List ℕ → ℕ → ℕ

@@ -6,7 +6,8 @@ use lib.Dec.{eqb}
 use lib.ListN.{length, getD}
 use Rattle.basics.specs.Logic.{if_then_else_}
 use Rattle.basics.specs.Lists.{sum}
-use Rattle.tag.specs.Pattern.{isAbsorb, lengthOf, mergedWords}
+use Rattle.words.specs.Words.{isAbsorb, lengthOf}
+use Rattle.pattern.specs.Pattern.{mergedWords}
 
 -- how many blocks of eight n elements fill or begin: ceil(n/8)
 unfoldable pub blockCount : ℕ → ℕ

@@ -9,7 +9,7 @@ use lib.ListN.{length, set, replicate}
 use Rattle.basics.specs.Lists.{tabulate}
 use Rattle.basics.proofs.Fill.{length-tabulate}
 use Rattle.tag.specs.TagString.{wordAt, wordsOf}
-use Rattle.pattern.proofs.Answers.{push-number}
+use Rattle.basics.proofs.Zeros.{push-number}
 use borrow.Author.Needs.{needs}
 use Rattle.tag.proofs.bytes.words_of.Statement.{statement}
 use Rattle.tag.proofs.bytes.words_of.Tie as tie
