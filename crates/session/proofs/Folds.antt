@@ -53,6 +53,10 @@ sponge-moved : (r : Session) (s : Sponge) (place : Place) → spongeOf (moved r 
 unfolding spongeOf moved
 sponge-moved r s place = refl
 
+moved-twice : (r : Session) (s t : Sponge) (here there : Place) → moved (moved r s here) t there ≡ moved r t there
+unfolding moved
+moved-twice r s t here there = refl
+
 -- no element leaves the record as it was
 stays : (r : Session) → r ≡ moved r (spongeOf r) (placeLater r 0)
 unfolding moved spongeOf
@@ -68,7 +72,8 @@ absorb-some (y ∷ xs) x r i =
     let more : suc (r .done) < lengthOf (phaseWord r) = omega (arith, i .room) in
     let n = suc (length xs) in
     absorb-some xs y (absorbOne r x) (in-phase-further r early more s true n i)
-    ∙ rw (sponge-moved r s (placeNext r)) (rw (further r early more s n) refl)
+    ∙ rw (sponge-moved r s (placeNext r))
+    (moved-twice r s (absorbElements babyBear s (y ∷ xs)) _ _ ∙ ap (moved r (absorbElements babyBear s (y ∷ xs))) (further r early more s n))
 
 squeeze-some : (n : ℕ) (r : Session) → InPhase r false (suc n)
     → squeezeAll r (suc n) ≡ moved r (squeezeElements babyBear (spongeOf r) (suc n)) (placeLater r (suc n))
@@ -79,7 +84,8 @@ squeeze-some (suc n) r i =
     let early = i .before-end in
     let more : suc (r .done) < lengthOf (phaseWord r) = omega (arith, i .room) in
     squeeze-some n (squeezeOne r) (in-phase-further r early more s false (suc n) i)
-    ∙ rw (sponge-moved r s (placeNext r)) (rw (further r early more s (suc n)) refl)
+    ∙ rw (sponge-moved r s (placeNext r))
+    (moved-twice r s (squeezeElements babyBear s (suc n)) _ _ ∙ ap (moved r (squeezeElements babyBear s (suc n))) (further r early more s (suc n)))
 
 squeezed-some : (n : ℕ) (r : Session) → squeezedAll r n ≡ squeezedElements babyBear (spongeOf r) n
 unfolding squeezedAll squeezeOne squeezedOne squeezedElements

@@ -9,20 +9,25 @@ use native.Mathlib.Omega.{arith}
 use borrow.Author.Tests.{eqb-true, eqb-false, eq-eqb, ne-eqb, not-false}
 use lib.Dec.{eqb}
 use lib.ListN.{length}
-use Rattle.basics.specs.Logic.{if_then_else_, all}
+use Rattle.basics.specs.Logic.{if_then_else_, _or_, all}
 use Rattle.basics.specs.Numbers.{accepted, callNotInPattern, elementNotReduced, patternNotDone}
 use Rattle.basics.specs.Refusals.{firstNumber}
 use Rattle.basics.proofs.Cases.{by, cases, if-true, if-false}
 use Rattle.basics.proofs.FirstRow.{refused-before}
 use Rattle.field.specs.Field.{isElement}
+use Rattle.words.proofs.WordKinds.{length-below}
 use Rattle.progress.specs.Place.{inPattern}
 use Rattle.progress.proofs.Calls.{in-phase, in-pattern}
-use Rattle.session.specs.Record.{opened}
+use Rattle.poseidon.specs.Permutation.{babyBear}
+use Rattle.sponge.specs.Sponge.{absorbElements, squeezeElements}
+use Rattle.sponge.proofs.Folds.{absorb-bound, squeeze-bound}
+use Rattle.session.specs.Record.{opened, wiped, phaseWord}
 use Rattle.session.specs.Soundness.{sound}
-use Rattle.session.specs.Calls.{giving, recordRows, callRows, absorbRows, finishRows, answerOf}
-use Rattle.session.specs.Steps.{refusedWith}
+use Rattle.session.specs.Calls.{giving, recordRows, callRows, absorbRows, finishRows, wipes, answerOf}
+use Rattle.session.specs.Steps.{refusedWith, Countable}
 use Rattle.session.specs.declared.Session.{Session}
-use Rattle.session.proofs.Folds.{InPhase}
+use Rattle.session.proofs.Folds.{InPhase, uncounted}
+use Rattle.session.proofs.SoundRecord.{parts, few-permutations}
 
 -- an open sound record
 pub record OpenSound (r : Session) : Type 0 where
@@ -35,12 +40,21 @@ pub record Takes (r : Session) (absorbs : Bool) (n : ℕ) : Type 0 where
   pub sounds : sound r ≡ true
   pub fits : 0 < n → InPhase r absorbs n
 
+-- an empty list holds elements alone
+none-listed : accepted ≡ (if not (all isElement []) then elementNotReduced else accepted)
+unfolding all if_then_else_
+none-listed = refl
+
 -- ---- the answer, by its number
 
 module _ (r next : Session) (n : ℕ) where
   pub answer-accepted : n ≡ accepted → answerOf n r next ≡ giving accepted next
   unfolding answerOf if_then_else_
   answer-accepted e = rw e refl
+
+  pub wiped-answer : n ≡ patternNotDone → answerOf n r next ≡ giving patternNotDone wiped
+  unfolding answerOf wipes _or_ if_then_else_
+  wiped-answer e = rw e refl
 
   pub answer-refused : n ≢ accepted → answerOf n r next ≡ refusedWith n r
   unfolding answerOf refusedWith
@@ -115,10 +129,6 @@ module _ (r : Session) where
   unfolding firstNumber absorbRows callRows recordRows
   to-elements [] t =
       if-false _ _ _ (ap not (t .opens)) ∙ if-false _ _ _ (ap not (t .sounds)) ∙ if-true _ _ _ refl ∙ none-listed
-    where
-      none-listed : accepted ≡ (if not (all isElement []) then elementNotReduced else accepted)
-      unfolding all if_then_else_
-      none-listed = refl
   to-elements (x ∷ xs) t =
       if-false _ _ _ (ap not (t .opens))
       ∙ if-false _ _ _ (ap not (t .sounds))
@@ -147,3 +157,23 @@ module _ (r : Session) where
 
     pub finish-passes : r .phase ≡ r .count → firstNumber (finishRows r) ≡ accepted
     finish-passes e = to-end ∙ if-false _ _ _ (ap not (eq-eqb _ _ e))
+
+-- ---- the permutations of the record and of a call can be added
+
+module _ (r : Session) where
+  some-or-none : (absorbs : Bool) (n : ℕ) → Takes r absorbs n → n < 2147483648
+  some-or-none absorbs n t =
+      cases (eqb n 0)
+      (λ e. omega (arith, eqb-true n 0 e))
+      λ e. let i = t .fits (omega (arith, eqb-false n 0 e)) in
+      omega (arith, i .room, length-below (phaseWord r))
+
+  pub absorb-countable : (xs : List ℕ) → Takes r true (length xs) → Countable r (absorbElements babyBear (uncounted r) xs)
+  absorb-countable xs t =
+      let few = some-or-none true (length xs) t in
+      record { fits = omega (arith, few-permutations r (parts r (t .sounds)), absorb-bound babyBear xs (uncounted r)) }
+
+  pub squeeze-countable : (n : ℕ) → Takes r false n → Countable r (squeezeElements babyBear (uncounted r) n)
+  squeeze-countable n t =
+      let few = some-or-none false n t in
+      record { fits = omega (arith, few-permutations r (parts r (t .sounds)), squeeze-bound babyBear n (uncounted r)) }

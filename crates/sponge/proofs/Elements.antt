@@ -1,6 +1,6 @@
 -- One element absorbed or squeezed, by the parts of the sponge, for any parameters of the permutation.
 -- Assumes nothing.
-use mathlib.Core.Path.{_≡_, refl}
+use mathlib.Core.Path.{_≡_, refl, ap, _∙_}
 use mathlib.Core.Bool.{Bool, true}
 use mathlib.Core.List.{List}
 use Prim.Native.Nat.{ℕ, _+_, _%_, _≤_, _<_}
@@ -13,9 +13,10 @@ use Rattle.basics.specs.Logic.{if_then_else_, all}
 use Rattle.basics.specs.Figures.{rate}
 use Rattle.basics.proofs.Cases.{by, cases, all-set}
 use Rattle.poseidon.specs.Permutation.{Parameters, permutation}
-use Rattle.poseidon.proofs.Bounds.{all-reduced, permutation-reduced}
+use Rattle.poseidon.proofs.Bounds.{reduced-all, all-reduced, permutation-reduced}
 use Rattle.sponge.specs.Sponge.{sponge, outer, readyToAbsorb, absorbElement, readyToSqueeze, squeezedElement, squeezeElement}
 use Rattle.sponge.specs.Steps.{stateFor, permutationsFor, stateWith, absorbFor}
+use Rattle.sponge.specs.declared.Sponge.{Sponge}
 
 pub at-most-one : (n : ℕ) → permutationsFor n ≤ 1
 unfolding permutationsFor
@@ -61,3 +62,20 @@ module _ (F : Parameters) (s : List ℕ) (a q n : ℕ) where
       cases (eqb q rate)
       (λ e. let at-0 : q % rate ≡ 0 = omega (arith, eqb-true q rate e) in rw (e, at-0) refl)
       λ e. rw e refl
+
+-- ---- what is squeezed is reduced
+
+module _ (F : Parameters) (pos : 0 < F .modulus) (s : Sponge) (e : all (λ x. ltb x (F .modulus)) (s .state) ≡ true) where
+  abbrev position : ℕ
+  position = s .«squeeze_position»
+
+  pub element-reduced : ltb (squeezedElement F s) (F .modulus) ≡ true
+  element-reduced =
+      let small = reduced-all (F .modulus) pos _ (state-reduced F pos position (s .state) e) .below (outer position) in
+      ap (λ (x : ℕ). ltb x (F .modulus)) (squeezed-parts F (s .state) (s .«absorb_position») position (s .permutations))
+      ∙ lt-ltb _ (F .modulus) small
+
+  pub left-reduced : all (λ x. ltb x (F .modulus)) (squeezeElement F s .state) ≡ true
+  left-reduced =
+      ap (λ (t : Sponge). all (λ x. ltb x (F .modulus)) (t .state)) (squeeze-parts F (s .state) (s .«absorb_position») position (s .permutations))
+      ∙ state-reduced F pos position (s .state) e
