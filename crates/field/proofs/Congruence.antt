@@ -1,8 +1,8 @@
--- Congruence modulo any m: remainders may be taken before or after products.
+-- Congruence modulo any m: remainders may be taken before or after sums and products.
 -- Assumes nothing.
 use mathlib.Core.Path.{_≡_, _∙_, sym, ap, refl}
 use Prim.Native.Nat.{ℕ, _+_, _*_, _/_, _%_}
-use native.Mathlib.Nat.{add-mul, mul-assoc, mul-comm, mod-add-div, mod-mod, add-mul-mod-self-left}
+use native.Mathlib.Nat.{add-mul, mul-assoc, mul-comm, add-mod, mod-add-div, mod-mod, add-mul-mod-self-left}
 
 pub record Congruent (m a b : ℕ) : Type 0 where
   pub same : a % m ≡ b % m
@@ -15,9 +15,6 @@ transitive ab bc = record { same = ab .same ∙ bc .same }
 
 pub remainder : (m a : ℕ) → Congruent m (a % m) a
 remainder m a = record { same = mod-mod a m }
-
-pub add-multiple : (m a k : ℕ) → Congruent m (a + m * k) a
-add-multiple m a k = record { same = add-mul-mod-self-left a m k }
 
 mul-left : (m a b : ℕ) → (a % m * b) % m ≡ (a * b) % m
 mul-left m a b =
@@ -33,6 +30,10 @@ mul-both m a b =
 pub mul-congruent : {m a b c d : ℕ} → Congruent m a b → Congruent m c d → Congruent m (a * c) (b * d)
 mul-congruent {m} {a} {b} {c} {d} ab cd =
     record { same = sym (mul-both m a c) ∙ (λ i. (ab .same i * cd .same i) % m) ∙ mul-both m b d }
+
+pub add-congruent : {m a b c d : ℕ} → Congruent m a b → Congruent m c d → Congruent m (a + c) (b + d)
+add-congruent {m} {a} {b} {c} {d} ab cd =
+    record { same = add-mod a c m ∙ (λ i. (ab .same i + cd .same i) % m) ∙ sym (add-mod b d m) }
 
 -- what a reduced result is congruent to
 pub reduced : {m a b : ℕ} → a ≡ b % m → Congruent m a b

@@ -1,3 +1,4 @@
 pub mod Congruence
 pub mod Modulus
 pub mod Product
+pub mod Reduced

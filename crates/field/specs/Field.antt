@@ -7,6 +7,10 @@ use lib.Dec.{ltb}
 abbrev pub p : ℕ
 p = 2013265921
 
+-- a number below a modulus
+abbrev pub isBelow : ℕ → ℕ → Bool
+isBelow m x = ltb x m
+
 -- document 00: "An element is a whole number from 0 to 2013265920."
 abbrev pub isElement : ℕ → Bool
-isElement x = ltb x p
+isElement = isBelow p

@@ -19,7 +19,7 @@ use Rattle.basics.specs.Digits.{digits, number, numberAfter}
 use Rattle.basics.proofs.Fill.{tabulate-at, tabulate-cons, tabulate-same}
 use Rattle.basics.proofs.Positional.{number-append}
 use Rattle.field.specs.Field.{p}
-use Rattle.poseidon.specs.Tables.{constants}
+use Rattle.poseidon_tables.specs.Tables.{constants}
 use Rattle.generator.specs.Generator.{firstRegister, nextBit, shifted, newBits, outputBits, candidates, kept, found, generated}
 use Rattle.generator.proofs.Streams.{drop-next, pair, candidate-whole, candidate-part}
 

@@ -15,7 +15,7 @@ fn main() {
     let generated = generator::generate();
     let found = generated.count as u64;
     let constants = generated.constants;
-    let table = poseidon::round_constants();
+    let table = poseidon_tables::round_constants();
     io::write_all(1, b"found ");
     io::print_decimal(1, found);
     io::write_all(1, b"\ndiffer ");

@@ -1,15 +1,14 @@
 -- Laws of the product with a row of the matrix.
 -- Assumes nothing.
-use mathlib.Core.Path.{_≡_, _∙_, sym, ap, refl}
+use mathlib.Core.Path.{_≡_, refl}
 use mathlib.Core.List.{List}
-use Prim.Native.Nat.{ℕ, _+_, _*_, _%_, _<_, _≤_}
-use native.Mathlib.Nat.{add-assoc, le-pred-of-lt, mul-le-mul}
+use Prim.Native.Nat.{ℕ, _+_, _-_, _*_, _%_, _^_, _<_, _≤_}
+use native.Mathlib.Nat.{add-assoc, mul-le-mul}
 use native.Mathlib.Numerals.{add-one}
 use native.Mathlib.Omega.{arith}
 use lib.ListN.{getD}
 use Rattle.basics.specs.Lists.{sum}
-use Rattle.field.specs.Field.{p}
-use Rattle.field.proofs.Congruence.{add-multiple}
+use Rattle.field.proofs.Congruence.{reflexive, remainder, add-congruent, mul-congruent}
 
 -- one term further, at a place that is written as the code writes it
 sum-next : (f : ℕ → ℕ) (n k : ℕ) → k ≡ n + 1 → sum k f ≡ sum n f + f n
@@ -36,11 +35,11 @@ row-four table state start n =
     rw (add-assoc start n 1, add-assoc start n 2, add-assoc start n 3)
     (sum-four (λ k. getD table (start + k) 0 * getD state k 0) n)
 
--- the product of two elements
-pub product-bound : (a b : ℕ) → a < p → b < p → a * b ≤ 4053239664633446400
-product-bound a b ha hb = mul-le-mul (le-pred-of-lt ha) (le-pred-of-lt hb)
+-- the product of two numbers below m
+pub product-bound : (m a b : ℕ) → a < m → b < m → a * b ≤ (m - 1) * (m - 1)
+product-bound m a b ha hb = mul-le-mul (omega arith) (omega arith)
 
--- 2^32 is 268435454 more than twice p
-pub high-half : (high low : ℕ) → (high * 268435454 + low) % p ≡ (high * 4294967296 + low) % p
-high-half high low =
-    sym (add-multiple p (high * 268435454 + low) (2 * high) .same) ∙ ap (λ (x : ℕ). x % p) (omega arith)
+-- the high 32 bits of a sum count as 2^32 does modulo m
+pub high-half : (m high low : ℕ) → (high * (2 ^ 32 % m) + low) % m ≡ (high * 2 ^ 32 + low) % m
+high-half m high low =
+    add-congruent (mul-congruent (reflexive high) (remainder m (2 ^ 32))) (reflexive low) .same

@@ -7,7 +7,7 @@ use Rattle.basics.specs.Logic.{if_then_else_, all}
 use Rattle.basics.specs.Lists.{tabulate, sum}
 use Rattle.basics.specs.Numbers.{accepted, elementNotReduced}
 use Rattle.field.specs.Field.{p, isElement}
-use Rattle.poseidon.specs.Tables.{constants, inverses}
+use Rattle.poseidon_tables.specs.Tables.{constants, inverses}
 use Rattle.poseidon.specs.declared.Permuted.{Permuted}
 
 -- the parameters of a Poseidon permutation of width 24 with 4 + 4 full rounds

@@ -1,8 +1,9 @@
 -- Definitions that no public contract cites: what private functions of the crate take and give.
 use mathlib.Core.List.{List}
-use Prim.Native.Nat.{ℕ, _<_}
+use Prim.Native.Nat.{ℕ, _%_}
 use lib.ListN.{getD}
+use Rattle.basics.specs.Lists.{tabulate}
 
--- every element of a list is below m; past its end the list reads as 0, so that no place needs a bound
-pub record Reduced (m : ℕ) (s : List ℕ) : Type 0 where
-  pub below : (k : ℕ) → getD s k 0 < m
+-- a state's remainders modulo m
+unfoldable pub remainders : ℕ → List ℕ → List ℕ
+remainders m s = tabulate 24 (λ i. getD s i 0 % m)

@@ -1,14 +1,13 @@
 // The Poseidon permutation of 24 field elements.
-mod tables;
-
 ghost use mathlib.Core.Path.{_≡_};
 ghost use Prim.Native.Nat.{_+_, _*_, _%_, _≤_, _<_};
 ghost use lib.ListN.{length, getD};
 ghost use Rattle.basics.specs.Lists.{sum};
 ghost use Rattle.field.specs.Field.{p};
-ghost use Rattle.poseidon.specs.Tables.{constants, inverses};
+ghost use Rattle.field.specs.Reduced.{Reduced};
+ghost use Rattle.poseidon_tables.specs.Tables.{constants, inverses};
 ghost use Rattle.poseidon.specs.Permutation.{babyBear, addConstants, raiseAll, raiseFirst, raise, multiply, permutation, permuted};
-ghost use Rattle.poseidon.specs.Steps.{Reduced};
+ghost use Rattle.poseidon.specs.Steps.{remainders};
 
 // Number 0 and the permuted state, or number 10 and the state as it came.
 pub struct Permuted {
@@ -123,8 +122,8 @@ fn permute_reduced(state: [u32; 24]) -> [u32; 24]
     requires { ⌜ Reduced p state ⌝ }
     ensures { λ r. ⌜ r ≡ permutation babyBear state ⌝ }
 {
-    let constants = tables::CONSTANTS;
-    let inverses = tables::INVERSES;
+    let constants = poseidon_tables::round_constants();
+    let inverses = poseidon_tables::inverses();
     let mut s = state;
     let mut round: usize = 0;
     while round < 29 {
@@ -134,6 +133,26 @@ fn permute_reduced(state: [u32; 24]) -> [u32; 24]
         round += 1;
     }
     s
+}
+
+// The remainders of a state's elements modulo p. A sum, which takes any number, needs no cast of an element.
+fn reduce_all(state: &[u32; 24]) -> [u32; 24]
+    ensures { λ r. ⌜ r ≡ remainders p (now (state .entry)) ⌝ }
+{
+    let mut out = [0u32; 24];
+    let mut i: usize = 0;
+    while i < 24 {
+        out[i] = field::add(state[i], 0);
+        i += 1;
+    }
+    out
+}
+
+// The permutation of any state. Elements of p or more are taken modulo p, as the sums of the first round take them in any case.
+pub fn permutation(state: [u32; 24]) -> [u32; 24]
+    ensures { λ r. ⌜ r ≡ permutation babyBear state ⌝ }
+{
+    permute_reduced(reduce_all(&state))
 }
 
 // One permutation; a state with an element of p or more gets 10 and comes back.
@@ -151,11 +170,4 @@ pub fn permute(state: [u32; 24]) -> Permuted
             state,
         }
     }
-}
-
-// The table of round constants, which the permutation reads: round by round, element 0 first.
-pub fn round_constants() -> [u32; 696]
-    ensures { λ r. ⌜ r ≡ constants ⌝ }
-{
-    tables::CONSTANTS
 }

@@ -6,9 +6,9 @@ use denote.Ref.{now}
 use lib.ListN.{getD}
 use Rattle.basics.proofs.Fill.{Filled, start, step, end}
 use Rattle.field.specs.Field.{p}
-use Rattle.poseidon.specs.Tables.{constants}
+use Rattle.poseidon_tables.specs.Tables.{constants}
 use Rattle.poseidon.specs.Permutation.{addConstants, babyBear}
-use Rattle.poseidon.proofs.Entries.{constants-reduced}
+use Rattle.poseidon_tables.proofs.Entries.{constants-reduced}
 use borrow.Author.Needs.{needs}
 use Rattle.poseidon.proofs.add_constants.Statement.{statement}
 use Rattle.poseidon.proofs.add_constants.Tie as tie

@@ -9,10 +9,10 @@ use lib.ListN.{length, getD}
 use Rattle.basics.specs.Lists.{sum}
 use Rattle.basics.proofs.Fill.{Filled, start, step, end}
 use Rattle.field.specs.Field.{p}
-use Rattle.poseidon.specs.Tables.{inverses}
+use Rattle.poseidon_tables.specs.Tables.{inverses}
 use Rattle.poseidon.specs.Permutation.{multiply, matrix, babyBear}
-use Rattle.poseidon.specs.Steps.{Reduced}
-use Rattle.poseidon.proofs.Entries.{inverses-reduced, inverses-length}
+use Rattle.field.specs.Reduced.{Reduced}
+use Rattle.poseidon_tables.proofs.Entries.{inverses-reduced, inverses-length}
 use borrow.Author.Needs.{needs}
 use Rattle.poseidon.proofs.multiply.Statement.{statement}
 use Rattle.poseidon.proofs.multiply.Tie as tie

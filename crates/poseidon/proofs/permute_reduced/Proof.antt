@@ -6,9 +6,8 @@ use native.Mathlib.Numerals.{add-one}
 use native.Mathlib.Omega.{arith}
 use lib.Dec.{lit<}
 use Rattle.field.specs.Field.{p}
-use Rattle.poseidon.specs.Tables.{constants, inverses}
+use Rattle.field.specs.Reduced.{Reduced}
 use Rattle.poseidon.specs.Permutation.{addConstants, raise, multiply, rounds, permutation, babyBear}
-use Rattle.poseidon.specs.Steps.{Reduced}
 use Rattle.poseidon.proofs.Bounds.{State, added, raised, multiplied}
 use borrow.Author.Needs.{needs}
 use Rattle.poseidon.proofs.permute_reduced.Statement.{statement}
@@ -22,16 +21,17 @@ abbrev μ-loop : tie.MeasureT-loop
 
 loop-holds : tie.Need-loop-holds Inv-loop μ-loop
 unfolding rounds
-loop-holds c = (search needs, record { long = search needs; reduced = c .pre }, refl)
+loop-holds c = (search needs, record { long = search needs; reduced = c .before .before .pre }, refl)
 
 add-constants-requires : tie.Need-add-constants-requires Inv-loop μ-loop
-unfolding constants
-add-constants-requires c κs = (search needs, refl, c .before .before .before .loop .inv .1 .reduced)
+add-constants-requires c κs =
+    let at-loop = c .before .before .before in
+    (search needs, at-loop .before .before .round-constants .ensures, at-loop .loop .inv .1 .reduced)
 
 multiply-requires : tie.Need-multiply-requires Inv-loop μ-loop
-unfolding babyBear inverses
+unfolding babyBear
 multiply-requires c κs = (
-  refl,
+  c .before .before .before .before .before .before .before .before .before .inverses .ensures,
   subst (Reduced p) (sym (c .before .before .raise .ensures))
       (raised babyBear (lit< tt) _ _ (subst (State p) (sym (c .before .before .before .before .add-constants .ensures)) (added babyBear (lit< tt) _ _)) .reduced),
 )
@@ -60,6 +60,8 @@ permute-reduced-spec =
     (tie.spec
     Inv-loop
     μ-loop
+    (λ c κs. search needs)
+    (λ c κs. search needs)
     loop-holds
     add-constants-requires
     (λ c κs. search needs)

@@ -49,7 +49,7 @@ returns : tie.Need-returns Inv-loop μ-loop
 returns c =
     let l = c .before .before .loop in
     let e : l .j ≡ 24 = omega arith in
-    c .reduce .ensures ∙ high-half (l .high) (l .low) ∙ ap (λ (x : ℕ). x % p) (rw e at (l .inv .4))
+    c .reduce .ensures ∙ high-half p (l .high) (l .low) ∙ ap (λ (x : ℕ). x % p) (rw e at (l .inv .4))
 
 pub row-product-spec : {M : Type 1} → statement M
 row-product-spec =

@@ -1,6 +1,7 @@
 -- `poseidon::term` meets its contract: the product of two numbers below p.
 -- Assumes nothing.
 use native.Mathlib.Omega.{arith}
+use Rattle.field.specs.Field.{p}
 use Rattle.poseidon.proofs.Sums.{product-bound}
 use borrow.Author.Needs.{needs}
 use Rattle.poseidon.proofs.term.Statement.{statement}
@@ -9,7 +10,7 @@ use Rattle.poseidon.proofs.term.Tie as tie
 returns : tie.Need-returns
 returns c =
     let at-start = c .before .before .before .before in
-    (c .wide-mul .ensures, omega (arith, product-bound _ _ (at-start .pre .2 .below (at-start .args .place)) (at-start .pre .3 .below (at-start .args .j))))
+    (c .wide-mul .ensures, omega (arith, product-bound p _ _ (at-start .pre .2 .below (at-start .args .place)) (at-start .pre .3 .below (at-start .args .j))))
 
 pub term-spec : {M : Type 1} → statement M
 term-spec =
