@@ -53,7 +53,7 @@ def exports():
 
 
 def exported(row):
-    return not row.calls or any(exports()[call] for call in row.calls)
+    return not row.calls or any(exports().get(call) for call in row.calls)
 
 
 def condition(number):
@@ -78,11 +78,15 @@ def sentence(text):
 
 # ---- the four places with a row for each number
 
-def rows_of(place, text, pattern):
-    """The rows of a place as number, name and comment, with whatever else stands there."""
-    found = [match.groupdict() for match in re.finditer(pattern, text)]
+def place(path, text, pattern, rows, name, comment=str):
+    """A place's path; what its text has, row by row, and whatever else stands there; and the rows that it has to have."""
+    found = ["{number} {name}: {comment}".format(**match.groupdict()) for match in re.finditer(pattern, text)]
     rest = re.sub(pattern, "", text).split()
-    return [f"{row['number']} {row['name']}: {row['comment']}" for row in found] + [f"{place}: {' '.join(rest)}"] * bool(rest)
+    return path, found + [" ".join(rest)] * bool(rest), [f"{row.number} {name(row.name)}: {comment(row.condition)}" for row in rows]
+
+
+def behind_heading(path):
+    return read(path).split("\n\n", 1)[1]
 
 
 def between(path, begin, end):
@@ -90,19 +94,16 @@ def between(path, begin, end):
 
 
 def places():
-    """Of each place: its path, the rows found there, and those that the table wants there."""
     rows = table()
+    known = [row for row in rows if exported(row)]
     code = r"// (?P<comment>.+)\npub const (?P<name>\w+): u32 = (?P<number>\d+);\n"
     definitions = r"-- (?P<comment>.+)\nabbrev pub (?P<name>\w+) : ℕ\n(?P=name) = (?P<number>\d+)\n"
     header = r" */\* (?P<comment>.+) \*/\n *(?P<name>\w+) = (?P<number>\d+),?\n"
     rust = r"(?: */// .+\n)* *(?P<number>\d+) (?P<name>\w+) \"(?P<comment>.+)\",\n"
-    yield CODE, rows_of(CODE, read(CODE).split("\n\n", 1)[1], code), [f"{row.number} {snake(row.name)}: {sentence(row.condition)}" for row in rows]
-    yield (DEFINITIONS, rows_of(DEFINITIONS, read(DEFINITIONS).split("\n\n", 1)[1], definitions),
-           [f"{row.number} {lower_camel(row.name)}: {row.condition}" for row in rows])
-    yield (HEADER, rows_of(HEADER, between(HEADER, "enum tuilarder_number {\n", "};"), header),
-           [f"{row.number} TUILARDER_{snake(row.name)}: {row.condition}" for row in rows if exported(row)])
-    yield (RUST, rows_of(RUST, between(RUST, "\nrefusals! {\n", "\n}\n") + "\n", rust),
-           [f"{row.number} {camel(row.name)}: {row.condition}" for row in rows if exported(row) and row.number])
+    yield place(CODE, behind_heading(CODE), code, rows, snake, sentence)
+    yield place(DEFINITIONS, behind_heading(DEFINITIONS), definitions, rows, lower_camel)
+    yield place(HEADER, between(HEADER, "enum tuilarder_number {\n", "};"), header, known, lambda name: "TUILARDER_" + snake(name))
+    yield place(RUST, between(RUST, "\nrefusals! {\n", "}\n"), rust, known[1:], camel)
 
 
 def quoted():
@@ -134,7 +135,7 @@ def given():
     """Whether each call gives exactly the numbers that name it."""
     for call in exports():
         if call not in ANSWERS:
-            yield f"{NUMBERS}: no stored answers are known of {call}"
+            yield f"tests/call_numbers.py: where are stored answers of {call}?"
             continue
         path, pattern = ANSWERS[call]
         answers = (re.match(pattern, line) for line in read(path).splitlines())
@@ -201,7 +202,7 @@ MISTAKES = [
     (NUMBERS, "| 7 | record not open", "| 17 | record not open", "one after the other"),
     (NUMBERS, "| record not open |", "| record not sound |", "the name record not sound"),
     (NUMBERS, "| 14 | not card |", "| 14 | not card line |", "NOT_CARD"),
-    (NUMBERS, "| 14 | not card |", "| 14 | a new one | of something | | an example | write |\n| 15 | not card |", "TUILARDER_A_NEW_ONE"),
+    (NUMBERS, "| 14 | not card |", "| 14 | another one | of something | | an example | write |\n| 15 | not card |", "TUILARDER_ANOTHER_ONE"),
     (NUMBERS, "ABSORB, permute |", "ABSORB |", "permute gives [0, 10]"),
     (NUMBERS, "| not a card line | | (card) | cards |", "| not a card line | | (card) | |", "NotCard"),
     (NUMBERS, "| permute | `tuilarder_permute` |", "| permute | |", "lacks tuilarder_permute"),

@@ -60,11 +60,9 @@ def items(crate, public):
     """crate::path of the items; or of the functions that another crate can call."""
     sources = {os.path.basename(path)[:-3]: read(path) for path in files(f"crates/{crate}/src/*.rt")}
     opened = re.findall(r"^pub mod (\w+);", sources.get("lib", ""), re.MULTILINE)
-    for module in sorted(sources, key=lambda module: ["lib", *opened].index(module) if module in ["lib", *opened] else len(sources)):
-        if public and module != "lib" and module not in opened:
-            continue
+    for module in dict.fromkeys(["lib", *opened] + ([] if public else [*sources])):
         prefix = crate + "::" + ("" if module in ("lib", "main") else module + "::")
-        yield from (prefix + name for name in items_of(sources[module], public))
+        yield from (prefix + name for name in items_of(sources.get(module, ""), public))
 
 
 def items_of(text, public):

@@ -38,10 +38,8 @@ def made(path, folder):
     made_at = os.path.join(folder, path.replace("/", "_"))
     if not os.path.exists(made_at):
         command, source = STORED[path]
-        text = made(source, folder) if source else os.devnull
-        with open(text, "rb") as read, open(made_at + ".part", "wb") as write:
-            subprocess.run(command.split(), cwd=ROOT, stdin=read, stdout=write, check=True)
-        os.rename(made_at + ".part", made_at)
+        with open(made(source, folder) if source else os.devnull, "rb") as cases, open(made_at, "wb") as output:
+            subprocess.run(command.split(), cwd=ROOT, stdin=cases, stdout=output, check=True)
     return made_at
 
 
