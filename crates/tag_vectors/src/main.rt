@@ -1,6 +1,6 @@
 // Checks, writes and reads the patterns and tag strings of standard input, and prints the answers. tests/tags.py says how lines are
-// laid out; stdin is what it makes, and stdout what another implementation answers to it: `safe_oracle.py`, in Python, written from
-// document 01 by other hands.
+// laid out; stdin is what it makes, and stdout what the second implementation answers to it, in Python, written from document 01 by
+// other hands (tests/oracle).
 
 ghost use mathlib.Core.Path.{_≡_};
 ghost use Prim.Native.Nat.{_+_, _≤_, _<_};
