@@ -44,10 +44,10 @@ module _ (o : Opening) (e : start o .number ≡ accepted) where
   pub count-run : (cs : List Call)
       → let r = leftBy (start o .session) cs in
       eqb (r .status) opened ≡ true → r .permutations ≡ permutationsAt (mergedWords (o .words)) (r .phase) (r .done)
-  count-run cs o =
+  count-run cs still =
       let r = leftBy (start o .session) cs in
-      parts r (sound-run o e cs o) .counted
-      ∙ ap (λ (vs : List ℕ). permutationsAt vs (r .phase) (r .done)) (same-left-by _ cs o .words ∙ start-words)
+      parts r (sound-run o e cs still) .counted
+      ∙ ap (λ (vs : List ℕ). permutationsAt vs (r .phase) (r .done)) (same-left-by _ cs still .words ∙ start-words)
       ∙ permutations-same _ _ (zeros-behind (mergedWords (o .words)) (64 - length (mergedWords (o .words)))) (r .phase) (r .done)
 
 pub count-whole : (a : Run) → permutationsOf a ≡ permutationsAt (mergedWords (a .opening .words)) (length (mergedWords (a .opening .words))) 0

@@ -67,19 +67,19 @@ module _ (o : Opening) (e : start o .number ≡ accepted) where
   abbrev long : ℕ → ℕ
   long phase = lengthOf (getD (mergedWords (o .words)) phase 0)
 
-  module _ (cs : List Call) (o : leftBy opened-record cs .status ≡ opened) (h : leftBy opened-record cs .phase < length (mergedWords (o .words))) where
+  module _ (cs : List Call) (still : leftBy opened-record cs .status ≡ opened) (h : leftBy opened-record cs .phase < length (mergedWords (o .words))) where
     abbrev there : Session
     there = leftBy opened-record cs
 
     sounds : Sound there
-    sounds = parts there (sound-run o e cs (eq-eqb _ _ o))
+    sounds = parts there (sound-run o e cs (eq-eqb _ _ still))
 
     early : there .phase < there .count
-    early = rw (same-left-by opened-record cs (eq-eqb _ _ o) .count ∙ start-count o e) h
+    early = rw (same-left-by opened-record cs (eq-eqb _ _ still) .count ∙ start-count o e) h
 
     length-there : lengthOf (phaseWord there) ≡ long (there .phase)
     length-there =
-        ap (λ (vs : List ℕ). lengthOf (getD vs (there .phase) 0)) (same-left-by opened-record cs (eq-eqb _ _ o) .words ∙ start-words o e)
+        ap (λ (vs : List ℕ). lengthOf (getD vs (there .phase) 0)) (same-left-by opened-record cs (eq-eqb _ _ still) .words ∙ start-words o e)
         ∙ ap lengthOf (zeros-behind (mergedWords (o .words)) (64 - length (mergedWords (o .words))) (there .phase))
 
     element-there : there .done < long (there .phase)
@@ -89,10 +89,10 @@ module _ (o : Opening) (e : start o .number ≡ accepted) where
     next : Reached (placeNext there .phase) (placeNext there .done)
     unfolding leftBy moved
     next =
-        let more = one-more there (eq-eqb _ _ o) sounds early in (
+        let more = one-more there (eq-eqb _ _ still) sounds early in (
           cs ++ (more .0 ∷ []),
           subst (λ (r : Session). OpenAt r (placeNext there .phase) (placeNext there .done)) (sym (left-by-append opened-record cs (more .0 ∷ []) ∙ more .2))
-              (record { opens = o; phase = refl; done = refl }),
+              (record { opens = still; phase = refl; done = refl }),
         )
 
   module _ (i d : ℕ) (h : i < length (mergedWords (o .words))) (reached : Reached i d) where

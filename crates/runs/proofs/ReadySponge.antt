@@ -45,10 +45,10 @@ module _
         by (λ (t : Sponge). Ready F word d before (t .«absorb_position») t) _ _ _
         (λ q.
         let n = absorb-full word e d (sym a ∙ eqb-true _ _ q) in
-        record { reduced = permuted-reduced F pos (s .state); after = outer-after _ _ (n .after); counted = omega (arith, n .counted) })
+        record { reduced = permuted-reduced F pos (s .state); after = outer-after 0 (suc d) (n .after); counted = omega (arith, n .counted) })
         λ q.
         let n = absorb-room word e d (λ z. eqb-false _ _ q (a ∙ z)) in
-        record { reduced = reduced; after = outer-after _ (suc d) (omega (arith, n .after)); counted = omega (arith, n .counted) }
+        record { reduced = reduced; after = outer-after (s .«absorb_position») (suc d) (omega (arith, n .after)); counted = omega (arith, n .counted) }
 
     pub ready-to-squeeze : isAbsorb word ≡ false → s .«squeeze_position» ≡ position rate d
         → Ready F word d before (readyToSqueeze F s .«squeeze_position») (readyToSqueeze F s)
@@ -57,7 +57,7 @@ module _
         by (λ (t : Sponge). Ready F word d before (t .«squeeze_position») t) _ _ _
         (λ q.
         let n = squeeze-full word e d (sym a ∙ eqb-true _ _ q) in
-        record { reduced = permuted-reduced F pos (s .state); after = outer-after _ _ (n .after); counted = omega (arith, n .counted) })
+        record { reduced = permuted-reduced F pos (s .state); after = outer-after 0 (suc d) (n .after); counted = omega (arith, n .counted) })
         λ q.
         let n = squeeze-room word e d (λ z. eqb-false _ _ q (a ∙ z)) in
-        record { reduced = reduced; after = outer-after _ (suc d) (omega (arith, n .after)); counted = omega (arith, n .counted) }
+        record { reduced = reduced; after = outer-after (s .«squeeze_position») (suc d) (omega (arith, n .after)); counted = omega (arith, n .counted) }
