@@ -7,7 +7,7 @@ use lib.ListN.{length}
 use Rattle.basics.specs.Logic.{if_then_else_, _and_, same, all}
 use Rattle.basics.specs.Numbers.{accepted, recordNotOpen, recordNotSound, callNotInPattern, elementNotReduced, patternNotDone}
 use Rattle.field.specs.Field.{isElement}
-use Rattle.keccak.specs.Sponge.{sha3}
+use Rattle.sha3.specs.Sponge.{sha3}
 use Rattle.tag.specs.Pattern.{isAbsorb, lengthOf, mergedWords}
 use Rattle.tag.specs.Start.{startNumber}
 use Rattle.tag.specs.TagString.{tagString}

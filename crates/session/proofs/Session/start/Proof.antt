@@ -7,7 +7,7 @@ use lib.Dec.{lit≤}
 use lib.ListN.{take, replicate}
 use lib.Seq.{length-take-le}
 use Rattle.basics.specs.Numbers.{accepted}
-use Rattle.keccak.specs.Sponge.{sha3}
+use Rattle.sha3.specs.Sponge.{sha3}
 use Rattle.tag.specs.Start.{withWords}
 use Rattle.tag.specs.Elements.{tagElements}
 use Rattle.tag.specs.declared.Written.{Written}
