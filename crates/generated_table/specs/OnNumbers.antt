@@ -1,6 +1,5 @@
--- The table of round constants is what the generator gives. A register is taken as the number whose binary digits it holds, bit 0 lowest;
--- the generator on such numbers is shown to be the generator of the definitions, and run to the end.
--- Assumes nothing.
+-- The generator on numbers: a register is taken as the number whose binary digits it holds, bit 0 lowest. It is shown to be the generator of
+-- the definitions, over any modulus. Proofs, which a reader of the statements may pass over.
 use mathlib.Core.Path.{_≡_, _∙_, refl, sym, ap, ap₂, subst}
 use mathlib.Core.Bool.{Bool, true, false}
 use mathlib.Core.List.{List, [], _∷_, _++_, append-nil}
@@ -10,28 +9,26 @@ use native.Mathlib.Numerals.{add-one, lt-of-le-of-ne}
 use native.Mathlib.Omega.{arith}
 use borrow.Author.Tests.{eqb-true, eqb-false}
 use lib.Dec.{lit<, eqb, ltb}
-use lib.ListN.{length, getD, take, drop, length-append}
+use lib.ListN.{length, getD, drop, length-append}
 use lib.Seq.{append-snoc}
 use lib.Pow.{pow-pos, pow-add, shr-shr, high}
 use Rattle.basics.specs.Logic.{if_then_else_}
-use Rattle.basics.specs.Lists.{tabulate, sum}
-use Rattle.basics.specs.Digits.{digits, number, numberAfter}
+use Rattle.basics.specs.Lists.{tabulate}
+use Rattle.basics.specs.Digits.{number, numberAfter}
 use Rattle.basics.proofs.Fill.{tabulate-at, tabulate-cons, tabulate-same}
 use Rattle.basics.proofs.Positional.{number-append}
-use Rattle.field.specs.Field.{p}
-use Rattle.poseidon_tables.specs.Tables.{constants}
-use Rattle.generator.specs.Generator.{firstRegister, nextBit, shifted, newBits, outputBits, candidates, kept, found, generated}
+use Rattle.generator.specs.Generator.{nextBit, shifted, newBits, outputBits, candidates, kept}
 use Rattle.generator.proofs.Streams.{drop-next, pair, candidate-whole, candidate-part}
 
 -- ---- registers as numbers
 
-bitsOf : ℕ → List ℕ
+unfoldable pub bitsOf : ℕ → List ℕ
 bitsOf n = tabulate 80 (λ k. n / 2 ^ k % 2)
 
-next : ℕ → ℕ
+unfoldable pub next : ℕ → ℕ
 next n = (n / 2 ^ 62 % 2 + n / 2 ^ 51 % 2 + n / 2 ^ 38 % 2 + n / 2 ^ 23 % 2 + n / 2 ^ 13 % 2 + n / 2 ^ 0 % 2) % 2
 
-step : ℕ → ℕ
+unfoldable pub step : ℕ → ℕ
 step n = next n * 2 ^ 79 + n / 2
 
 next-is : (n : ℕ) → nextBit (bitsOf n) ≡ next n
@@ -71,16 +68,16 @@ shift-is n h =
     (next-is n ∙ top)
 
 -- the register behind some new bits
-after : ℕ → ℕ → ℕ
+unfoldable pub after : ℕ → ℕ → ℕ
 after zero n = n
 after (suc i) n = step (after i n)
 
-after-bound : (i n : ℕ) → n < 2 ^ 80 → after i n < 2 ^ 80
+pub after-bound : (i n : ℕ) → n < 2 ^ 80 → after i n < 2 ^ 80
 unfolding after
 after-bound zero n h = h
 after-bound (suc i) n h = step-bound (after i n) (after-bound i n h)
 
-dropped : (i n : ℕ) → n < 2 ^ 80 → (count : ℕ) → drop i (newBits (i + count) (bitsOf n)) ≡ newBits count (bitsOf (after i n))
+pub dropped : (i n : ℕ) → n < 2 ^ 80 → (count : ℕ) → drop i (newBits (i + count) (bitsOf n)) ≡ newBits count (bitsOf (after i n))
 unfolding after
 dropped zero n h count = rw (zero-add count)
 dropped (suc i) n h count =
@@ -89,21 +86,21 @@ dropped (suc i) n h count =
 
 -- ---- the generator on numbers: value and size are the number that the bits held write, and how many they are
 
-emitted : ℕ → ℕ → ℕ → List ℕ
-emitted first size value = if eqb first 1 then if eqb size 30 then if ltb value p then value ∷ [] else [] else [] else []
+unfoldable pub emitted : ℕ → ℕ → ℕ → ℕ → List ℕ
+emitted m first size value = if eqb first 1 then if eqb size 30 then if ltb value m then value ∷ [] else [] else [] else []
 
-valueAfter : ℕ → ℕ → ℕ → ℕ → ℕ
+unfoldable pub valueAfter : ℕ → ℕ → ℕ → ℕ → ℕ
 valueAfter first size value longer = if eqb first 1 then if eqb size 30 then 0 else longer else value
 
-sizeAfter : ℕ → ℕ → ℕ
+unfoldable pub sizeAfter : ℕ → ℕ → ℕ
 sizeAfter first size = if eqb first 1 then if eqb size 30 then 0 else size + 1 else size
 
-run : ℕ → ℕ → ℕ → ℕ → List ℕ
-run zero n value size = []
-run (suc pairs) n value size =
+unfoldable pub run : ℕ → ℕ → ℕ → ℕ → ℕ → List ℕ
+run m zero n value size = []
+run m (suc pairs) n value size =
     let first = next n in
     let longer = value * 2 + next (step n) in
-    emitted first size longer ++ run pairs (step (step n)) (valueAfter first size value longer) (sizeAfter first size)
+    emitted m first size longer ++ run m pairs (step (step n)) (valueAfter first size value longer) (sizeAfter first size)
 
 -- one pair of new bits, of which the first decides
 pair-is : (pairs n : ℕ) → n < 2 ^ 80
@@ -115,15 +112,15 @@ pair-is pairs n h =
     rw (pair (suc pairs * 2) (bitsOf n) (omega arith), shift-is n h, shift-is (step n) (step-bound n h), next-is n, next-is (step n), size)
 
 -- what a pair does, whatever is done with the bits behind it
-module _ (first second : ℕ) (held rest : List ℕ) (short : length held < 31) (after-pair : ℕ → ℕ → List ℕ)
-    (same : (held′ : List ℕ) → length held′ < 31 → kept p (candidates (held′ ++ rest)) ≡ after-pair (number 2 held′) (length held′)) where
+module _ (m first second : ℕ) (held rest : List ℕ) (short : length held < 31) (after-pair : ℕ → ℕ → List ℕ)
+    (same : (held′ : List ℕ) → length held′ < 31 → kept m (candidates (held′ ++ rest)) ≡ after-pair (number 2 held′) (length held′)) where
   longer : ℕ
   longer = number 2 held * 2 + second
 
   Turn : Type 0
   Turn =
-      kept p (candidates (held ++ ((if eqb first 1 then second ∷ [] else []) ++ rest)))
-      ≡ emitted first (length held) longer ++ after-pair (valueAfter first (length held) (number 2 held) longer) (sizeAfter first (length held))
+      kept m (candidates (held ++ ((if eqb first 1 then second ∷ [] else []) ++ rest)))
+      ≡ emitted m first (length held) longer ++ after-pair (valueAfter first (length held) (number 2 held) longer) (sizeAfter first (length held))
 
   one-longer : length (held ++ (second ∷ [])) ≡ length held + 1
   one-longer = length-append held (second ∷ [])
@@ -141,41 +138,10 @@ module _ (first second : ℕ) (held rest : List ℕ) (short : length held < 31) 
   turn : Turn
   turn = turn-by (eqb first 1) (eqb (length held) 30) refl refl
 
-run-is : (pairs n : ℕ) (held : List ℕ) → n < 2 ^ 80 → length held < 31
-    → kept p (candidates (held ++ outputBits (newBits (pairs * 2) (bitsOf n)))) ≡ run pairs n (number 2 held) (length held)
+pub run-is : (m pairs n : ℕ) (held : List ℕ) → n < 2 ^ 80 → length held < 31
+    → kept m (candidates (held ++ outputBits (newBits (pairs * 2) (bitsOf n)))) ≡ run m pairs n (number 2 held) (length held)
 unfolding run newBits outputBits kept Turn longer
-run-is zero n held h l = rw (append-nil held, candidate-part held l)
-run-is (suc pairs) n held h l =
-    ap (λ (bits : List ℕ). kept p (candidates (held ++ bits))) (pair-is pairs n h)
-    ∙ turn (next n) (next (step n)) held _ l (run pairs (step (step n))) (λ held′ l′. run-is pairs (step (step n)) held′ (step-bound _ (step-bound n h)) l′)
-
--- ---- the run to the end
-
-first : ℕ
-first = sum 80 (λ k. getD firstRegister k 0 * 2 ^ k)
-
-first-is : firstRegister ≡ bitsOf first
-unfolding firstRegister digits bitsOf tabulate first sum
-first-is = refl
-
-first-bound : first < 2 ^ 80
-unfolding first firstRegister digits sum
-first-bound = lit< tt
-
--- the first 696 constants of all 130,992 pairs
-computed : take 696 (run 130992 (after 160 first) 0 0) ≡ constants
-unfolding run after step next emitted valueAfter sizeAfter first firstRegister digits sum if_then_else_ constants
-computed = refl
-
-pub table-found : found p 696 262144 ≡ constants
-unfolding found number numberAfter
-table-found =
-    ap (λ (bits : List ℕ). take 696 (kept p (candidates (outputBits bits))))
-    (ap (λ (r : List ℕ). drop 160 (newBits 262144 r)) first-is ∙ dropped 160 first first-bound 261984)
-    ∙ ap (take 696) (run-is 130992 (after 160 first) [] (after-bound 160 first first-bound) (lit< tt))
-    ∙ computed
-
--- "The 696 round constants come from Poseidon's Grain generator."
-pub table-generated : generated ≡ record { constants = constants; count = 696 }
-unfolding generated constants
-table-generated = rw table-found
+run-is m zero n held h l = rw (append-nil held, candidate-part held l)
+run-is m (suc pairs) n held h l =
+    ap (λ (bits : List ℕ). kept m (candidates (held ++ bits))) (pair-is pairs n h)
+    ∙ turn m (next n) (next (step n)) held _ l (run m pairs (step (step n))) (λ held′ l′. run-is m pairs (step (step n)) held′ (step-bound _ (step-bound n h)) l′)
