@@ -2,16 +2,16 @@
 """What the program cards is run on, what it must print, and a test on random lines.
 
   tests/cards.py book > crates/cards/stdin
-  safe_oracle.py cards < crates/cards/stdin > crates/cards/stdout
+  tests/cards.py oracle < crates/cards/stdin > crates/cards/stdout
   tests/cards.py test target/bin/cards [SEED [LINES]]
-  tests/cards.py compare target/bin/cards safe_oracle.py
+  tests/cards.py compare target/bin/cards
   tests/cards.py answers < BOOK
 
-The stored answers are those of another implementation: safe_oracle.py, in Python, written from document 01 by other hands. `test` needs
-no other file: it has document 01's rule once more, as `answer` below, and compares the program with it on mutated cards; then on books of
+The stored answers are those of the second implementation, in Python, written from document 01 by other hands (tests/oracle). `test` does
+not ask it: it has document 01's rule once more, as `answer` below, and compares the program with it on mutated cards; then on books of
 short lines, whose answers fill the program's output many times in a piece, and on the stored book, cut into pieces of given sizes; then it
 tries input and output that fail, a line of 64 MB with little memory, and docs/sample.cards with what the README says of it. `compare` gives
-random lines to the program and to safe_oracle.py. `answers` does the program's job by the rule of this file.
+random lines to the program and to the second implementation. `answers` does the program's job by the rule of this file.
 """
 import os
 import random
@@ -21,6 +21,8 @@ import socket
 import subprocess
 import sys
 import threading
+
+from second_implementation import oracle
 
 ABSORB = 1 << 31
 LONGEST = ABSORB - 1
@@ -299,19 +301,20 @@ def sample(program):
         assert printed in readme.read(), printed
 
 
-def compare(program, oracle):
+def compare(program):
     text = b"\n".join(random_lines(random.Random(2), 100000))
     printed = subprocess.run([program], input=text, stdout=subprocess.PIPE, check=True).stdout
-    wanted = subprocess.run([sys.executable, oracle, "cards"], input=text, stdout=subprocess.PIPE, check=True).stdout
-    assert printed == wanted
+    assert printed == oracle.answers(text, oracle.card_answer)
     assert printed == b"".join(answer(line) + b"\n" for line in text.split(b"\n"))
-    print(f"cards: {text.count(10) + 1} random lines agree with {oracle}, and with the rule of this file")
+    print(f"cards: {text.count(10) + 1} random lines agree with the second implementation, and with the rule of this file")
 
 
 if __name__ == "__main__":
     job, words = sys.argv[1], sys.argv[2:]
     if job == "book":
         sys.stdout.buffer.write(b"\n".join(book()))
+    elif job == "oracle":
+        sys.stdout.buffer.write(oracle.answers(sys.stdin.buffer.read(), oracle.card_answer))
     elif job == "test":
         pieces(words[0])
         failures(words[0])
@@ -319,7 +322,7 @@ if __name__ == "__main__":
         sample(words[0])
         random_cards(words[0], int(words[1]) if words[1:] else 1, int(words[2]) if words[2:] else 100000)
     elif job == "compare":
-        compare(*words)
+        compare(words[0])
     else:
         for line in sys.stdin.buffer:
             sys.stdout.buffer.write(answer(line.removesuffix(b"\n")) + b"\n")

@@ -2,71 +2,67 @@
 """What the documents cite, and whether docs/CLAIMS.md is complete.
 
   tests/claims.py test
+  tests/claims.py write
+  tests/claims.py selftest
   tests/claims.py papers FOLDER
 
-`test` fails where a name that a document cites is not in the tree, where docs/CLAIMS.md does not name a public function with two of the wrong
-answers that its contract rules out, where it leaves out a must-fail edit or counts the lines to read wrongly, and where the README shows another
-closing line of the gate. `papers` prints the sentences of documents 00 and 01, in FOLDER, that docs/CLAIMS.md does not quote.
+`write` writes what documents have from the tree itself: into docs/CLAIMS.md the table of what each contract rules out, by the line `of:` of every
+must-fail edit, and how many lines there are to read; into README.md the closing line of the gate. `test` fails where a document has not what
+`write` would write, where an edit names no contract, or one that is not in the tree, where a public function has fewer than two edits, and where
+a name that a document cites is not in the tree. `selftest` puts such mistakes into the tree, in memory, and fails where `test` would not notice
+one. `papers` prints the sentences of documents 00 and 01, in FOLDER, that docs/CLAIMS.md does not quote.
 """
-import glob
+import difflib
 import os
 import re
 import sys
+from collections import namedtuple
 
-ROOT = os.path.dirname(os.path.dirname(os.path.abspath(__file__)))
-CLAIMS = "docs/CLAIMS.md"
-DOCUMENTS = ["README.md"] + sorted(os.path.join("docs", name) for name in os.listdir(os.path.join(ROOT, "docs")) if name.endswith(".md"))
+from tree import files, read, report, trials, write
+
+CLAIMS, README = "docs/CLAIMS.md", "README.md"
+DOCUMENTS = [README] + files("docs/*.md")
 RULED_OUT = "## What each public contract rules out"
 # words in docs/CLAIMS.md that name nothing in the tree
 WORDS = {"requires", "ensures", "bool", "u32", "permutations", "axioms=", "native=nat,char,string", "logic-built=trusted",
          "libraries-built=trusted", "rattle-kit-5b-plain", "rt ci", "rt version", "tests/claims.py test", "tests/claims.py papers FOLDER",
-         "libc::read", "libc::write", "memcpy", "memset", "target=x86_64-unknown-linux-gnu", "merge", "Pattern.antt", "specs/", "proofs/", "src/", "must-fail/"}
+         "tests/claims.py write", "of:", "libc::read", "libc::write", "memcpy", "memset", "target=x86_64-unknown-linux-gnu", "merge",
+         "Pattern.antt", "specs/", "proofs/", "src/", "must-fail/"}
+# what the table says before edits of a function, by the folders that they change
+CHANGES = {("src",): "", ("specs", "src"): "of program and definition: ", ("specs",): "of the definition: "}
+# of a must-fail edit: its name, the contracts and theorems that rule it out, and the folders that it changes
+Edit = namedtuple("Edit", "name contracts changes")
 
 
-def read(path):
-    with open(os.path.join(ROOT, path)) as file:
-        return file.read()
-
-
-def files(pattern):
-    return sorted(os.path.relpath(path, ROOT) for path in glob.glob(os.path.join(ROOT, pattern), recursive=True))
-
-
-# ---- what is in the tree
+# ---- what is in the tree, in the order of crates.txt
 
 def crates():
     return re.findall(r"^(\w+):", read("crates.txt"), re.MULTILINE)
 
 
 def edits():
-    return {f"{path.split('/')[1]}/{os.path.basename(path)[:-5]}" for path in files("crates/*/must-fail/*.edit")}
-
-
-def statements():
-    """crate/File.name of every definition and theorem."""
-    found = set()
-    for path in files("crates/*/specs/*.antt") + files("crates/*/proofs/*.antt"):
-        for name in re.findall(r"^ *(?:unfoldable |abbrev )?(?:pub )?(?:record |data )?([^\s:(){}]+)[^:\n]* :(?:\s|$)", read(path), re.MULTILINE):
-            found.add(f"{path.split('/')[1]}/{os.path.basename(path)[:-5]}.{name}")
-    return found
-
-
-def items(public):
-    """crate::path of the items of every crate; or of the functions that another crate can call."""
-    found = set()
     for crate in crates():
-        opened = re.findall(r"^pub mod (\w+);", read_source(crate), re.MULTILINE)
-        for path in files(f"crates/{crate}/src/*.rt"):
-            module = os.path.basename(path)[:-3]
-            if public and module != "lib" and module not in opened:
-                continue
-            prefix = crate + "::" + ("" if module in ("lib", "main") else module + "::")
-            found |= {prefix + name for name in items_of(read(path), public)}
-    return found
+        for path in files(f"crates/{crate}/must-fail/*.edit"):
+            lines = read(path).splitlines()
+            contracts = [name for line in lines if line.startswith("of: ") for name in line[4:].split(", ")]
+            folders = {line[6:].split("/")[0] for line in lines if line.startswith("file: ")}
+            yield Edit(f"{crate}/{os.path.basename(path)[:-5]}", contracts, tuple(sorted(folders)))
 
 
-def read_source(crate):
-    return "".join(read(path) for path in files(f"crates/{crate}/src/lib.rt"))
+def statements(crate):
+    """crate/File.name of the definitions and theorems."""
+    for path in files(f"crates/{crate}/specs/*.antt") + files(f"crates/{crate}/proofs/*.antt"):
+        for name in re.findall(r"^ *(?:unfoldable |abbrev )?(?:pub )?(?:record |data )?([^\s:(){}]+)[^:\n]* :(?:\s|$)", read(path), re.MULTILINE):
+            yield f"{crate}/{os.path.basename(path)[:-5]}.{name}"
+
+
+def items(crate, public):
+    """crate::path of the items; or of the functions that another crate can call."""
+    sources = {os.path.basename(path)[:-3]: read(path) for path in files(f"crates/{crate}/src/*.rt")}
+    opened = re.findall(r"^pub mod (\w+);", sources.get("lib", ""), re.MULTILINE)
+    for module in dict.fromkeys(["lib", *opened] + ([] if public else [*sources])):
+        prefix = crate + "::" + ("" if module in ("lib", "main") else module + "::")
+        yield from (prefix + name for name in items_of(sources.get(module, ""), public))
 
 
 def items_of(text, public):
@@ -79,6 +75,58 @@ def items_of(text, public):
         item = re.match(rf"\s*(pub(?:\(crate\))? )?(?:extern \"C\" )?(?:{kinds}) (\w+)", line)
         if item and (item[1] == "pub " or not public):
             yield owner + item[2]
+
+
+def public_functions():
+    return [name for crate in crates() for name in items(crate, True)]
+
+
+def contracts():
+    """Public functions and statements, crate by crate."""
+    return list(dict.fromkeys(name for crate in crates() for name in [*items(crate, True), *statements(crate)]))
+
+
+# ---- what the documents have from the tree
+
+def row(contract, refused):
+    """A line of the table: the edits, those of the contract's own crate first, and of a function's those of the definition last."""
+    own, names = re.match(r"\w+", contract)[0] + "/", {}
+    for edit in sorted(refused, key=lambda edit: not edit.name.startswith(own)):
+        names.setdefault(CHANGES[edit.changes] if "::" in contract else "", []).append(f"`{edit.name}`")
+    return f"| `{contract}` | {'; '.join(kind + ', '.join(names[kind]) for kind in CHANGES.values() if kind in names)} |\n"
+
+
+def ruled_out():
+    """The table of the contracts and theorems that rule edits out."""
+    tried = list(edits())
+    rows = ((contract, [edit for edit in tried if contract in edit.contracts]) for contract in contracts())
+    return "| Contract or theorem | Edits |\n|---|---|\n" + "".join(row(*each) for each in rows if each[1])
+
+
+def lines_to_read(paths):
+    """How many lines the definitions have that are named there, tables of numbers left out."""
+    named = [path for path in re.findall(r"`([^`]+/specs/[^`]+)`", paths) if not path.endswith("/Tables.antt") and exists(path)]
+    return sum(bool(text) and not text.startswith("use ") for path in named for text in read("crates/" + path).splitlines())
+
+
+def closing():
+    """The last line of the gate, which counts a crate and an edit as one each."""
+    return f"{len(crates()) + len(list(edits()))} passed, 0 failed"
+
+
+def with_table(text):
+    before, after = text.split(RULED_OUT)
+    return before + RULED_OUT + re.sub(r"(^\|.*\n)+", lambda _: ruled_out(), after, count=1, flags=re.MULTILINE)
+
+
+def with_lines(text):
+    return re.sub(r"^(\| \d+\. .* \| (.*) \| )\d+ \|$", lambda found: f"{found[1]}{lines_to_read(found[2])} |", text, flags=re.MULTILINE)
+
+
+def written():
+    """Path and text of the documents as they have to be."""
+    return {CLAIMS: with_lines(with_table(read(CLAIMS))),
+            README: re.sub(r"^\d+ passed, \d+ failed$", closing(), read(README), flags=re.MULTILINE)}
 
 
 # ---- what the documents cite
@@ -102,43 +150,55 @@ def exists(path):
     return any(files(os.path.join(folder, path)) for folder in ("", "crates", "docs", "bindings/rust"))
 
 
-def rows():
-    """Of each contract and theorem in the table, the edits that it rules out."""
-    table = read(CLAIMS).split(RULED_OUT)[1].split("\n## ")[0]
-    for line in table.splitlines():
-        if line.startswith("| `"):
-            contracts, refused = line.strip("| ").split(" | ")
-            for contract in re.findall(r"`([^`]+)`", contracts):
-                yield contract, set(re.findall(r"`([^`]+)`", refused))
+def not_found():
+    known = {edit.name for edit in edits()} | set(crates()) | set(contracts()) | {name for crate in crates() for name in items(crate, False)}
+    for document in DOCUMENTS:
+        for name in cited(document):
+            if looked_for(name, document) and name not in known and not exists(name):
+                yield f"{document}: not in the tree: {name}"
 
 
-def miscounted():
-    """Rows of the reading table whose number of lines is not that of their files, tables of numbers left out."""
-    for line in read(CLAIMS).splitlines():
-        row = re.fullmatch(r"\| \d+\. .* \| (.*) \| (\d+) \|", line)
-        if row:
-            paths = [path for path in re.findall(r"`([^`]+/specs/[^`]+)`", row[1]) if not path.endswith("/Tables.antt")]
-            count = sum(bool(text) and not text.startswith("use ") for path in paths for text in read("crates/" + path).splitlines())
-            if count != int(row[2]):
-                yield f"{CLAIMS}: {count} lines: {line[:60]}"
+def untried():
+    known, tried = set(contracts()), list(edits())
+    for edit in tried:
+        if not edit.contracts:
+            yield f"{edit.name}: no line `of:` that names a contract or a theorem"
+        yield from (f"{edit.name}: not in the tree: {name}" for name in edit.contracts if name not in known)
+        if edit.changes not in CHANGES:
+            yield f"{edit.name}: changes neither program nor definition"
+    for function in public_functions():
+        if sum(function in edit.contracts for edit in tried) < 2:
+            yield f"fewer than two edits of {function}"
 
 
-def test():
-    known = edits() | statements() | items(False) | set(crates())
-    missing = [f"{document}: {name}" for document in DOCUMENTS for name in cited(document)
-               if looked_for(name, document) and name not in known and not exists(name)]
-    table = dict(rows())
-    for function in sorted(items(True)):
-        if len(table.get(function, set()) & edits()) < 2:
-            missing.append(f"{CLAIMS}: two edits for {function}")
-    missing += [f"{CLAIMS}: the edit {edit}" for edit in sorted(edits() - set(cited(CLAIMS)))] + list(miscounted())
-    # the gate counts a crate and an edit as one each
-    closing = f"{len(crates()) + len(edits())} passed, 0 failed"
-    if f"\n{closing}\n" not in read("README.md"):
-        missing.append(f"README.md: {closing}")
-    if missing:
-        sys.exit("not found:\n" + "\n".join(missing))
-    print(f"claims: {sum(len(cited(document)) for document in DOCUMENTS)} names, {len(items(True))} public functions, {len(edits())} edits")
+def not_written():
+    for path, text in written().items():
+        lines = difflib.unified_diff(read(path).splitlines(), text.splitlines(), lineterm="", n=0)
+        changed = [line[:120] for line in lines if not line.startswith(("---", "+++", "@@"))]
+        if changed:
+            yield "\n".join([f"{path}: `tests/claims.py write` changes {len(changed)} lines:", *changed[:20]])
+
+
+def findings():
+    return [*untried()] or [*not_written(), *not_found()]
+
+
+def mistakes():
+    return [
+        (README, closing(), "1 passed, 0 failed", closing()),
+        (CLAIMS, row("field::reduce", [edit for edit in edits() if "field::reduce" in edit.contracts]), "", "`field::reduce`"),
+        (CLAIMS, "`field/sum_of_first`", "`field/sum_of_second`", "`field::add`"),
+        (CLAIMS, "| `claims/ThirdDemand.third-demand` | `claims/", "| these theorems | `claims/", "these theorems"),
+        (CLAIMS, "`field/Field.isElement`", "`field/Field.isNumber`", "field/Field.isNumber"),
+        ("docs/GUIDE.md", "`claims/ThirdDemand.third-demand`", "`claims/Third.demand`", "claims/Third.demand"),
+        ("crates/field/specs/Field.antt", "\n\n", "\n\n-- one line more\n", "-| 1. The words"),
+        ("crates/field/must-fail/sum_of_first.edit", "of: field::add\n", "", "field/sum_of_first: no line"),
+        ("crates/field/must-fail/sum_of_first.edit", "of: field::add\n", "of: field::sum\n", "field/sum_of_first: not in the tree: field::sum"),
+        ("crates/field/must-fail/sum_of_first.edit", "of: field::add\n", "of: field::mul\n", "fewer than two edits of field::add"),
+        ("crates/field/must-fail/sum_of_first.edit", "file: src/", "file: proofs/", "changes neither"),
+        ("crates/field/src/lib.rt", "\npub fn ", "\npub fn untold() {}\n\npub fn ", "fewer than two edits of field::untold"),
+        ("crates.txt", "field: basics\n", "", "passed, 0 failed"),
+    ]
 
 
 # ---- what the papers say
@@ -163,7 +223,17 @@ def papers(folder):
 
 
 if __name__ == "__main__":
-    if sys.argv[1] == "test":
-        test()
+    job = sys.argv[1:]
+    if job == ["test"]:
+        names = sum(len(cited(document)) for document in DOCUMENTS)
+        report(findings(), f"claims: {names} names, {len(public_functions())} public functions, {len(list(edits()))} edits")
+    elif job == ["write"]:
+        report([*untried()], f"{CLAIMS} and {README} have what the tree has")
+        for path, text in written().items():
+            write(path, text)
+    elif job == ["selftest"]:
+        trials("claims", findings, mistakes())
+    elif len(job) == 2 and job[0] == "papers":
+        papers(job[1])
     else:
-        papers(sys.argv[2])
+        sys.exit(__doc__)

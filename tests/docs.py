@@ -2,32 +2,26 @@
 """What README.md and docs/GUIDE.md show of the examples in bindings/rust/examples.
 
   tests/docs.py test
-  tests/docs.py oracle safe_oracle.py
+  tests/docs.py oracle
+  tests/docs.py picture > docs/session.svg
 
 `test` runs every example and compares what it prints with the documents, looks for the code that they show in the examples, and draws
-docs/session.svg again. `oracle` does every example once more over another implementation, safe_oracle.py, in Python, written from document 01
-by other hands, and compares the documents and the picture with what that gives.
+docs/session.svg again. `oracle` does every example once more over the second implementation, in Python, written from document 01 by other hands
+(tests/oracle), and compares the documents with what that gives. `picture` draws the picture from its states.
 """
 import glob
-import importlib.util
 import os
 import re
 import subprocess
 import sys
 
+from call_numbers import condition
+from second_implementation import oracle
+
 ROOT = os.path.dirname(os.path.dirname(os.path.abspath(__file__)))
 EXAMPLES = os.path.join(ROOT, "bindings", "rust", "examples")
 ABSORB = 1 << 31
-REFUSALS = {
-    2: "a word of length 0",
-    3: "first word is SQUEEZE",
-    4: "last word is ABSORB",
-    7: "record not open",
-    8: "open record not sound",
-    9: "call of the wrong kind, past the phase's end, or after the last phase",
-    10: "an element of 2013265921 or more",
-    13: "no tag string of that separator length",
-}
+P = oracle.PRIME[1]
 
 
 def read(*path):
@@ -54,10 +48,9 @@ def printed(example):
     return subprocess.run(command, cwd=os.path.dirname(EXAMPLES), stdout=subprocess.PIPE, text=True, check=True).stdout
 
 
-def picture(states):
+def drawn(states):
     script = os.path.join(ROOT, "docs", "session_picture.py")
-    drawn = subprocess.run([script], input=states, stdout=subprocess.PIPE, text=True, check=True).stdout
-    assert drawn == read("docs", "session.svg"), "docs/session.svg is not what docs/session_picture.py draws"
+    return subprocess.run([script], input=states, stdout=subprocess.PIPE, text=True, check=True).stdout
 
 
 def test():
@@ -68,7 +61,7 @@ def test():
         assert printed(example) == output, example
     for code in blocks("rust"):
         assert any(code in text for text in examples.values()), code
-    picture(printed("states"))
+    assert drawn(printed("states")) == read("docs", "session.svg"), "docs/session.svg is not what docs/session_picture.py draws"
     print(f"docs: {len(outputs)} examples print what is shown")
 
 
@@ -101,7 +94,7 @@ class Session:
 
 class Refused(Exception):
     def __str__(self):
-        return f"refused with {self.args[0]}: {REFUSALS[self.args[0]]}"
+        return f"refused with {self.args[0]}: {condition(self.args[0])}"
 
 
 def refuse(number):
@@ -142,8 +135,8 @@ def whole(out, calls, separator, *messages):
 
 def element(out):
     session = opened(out, "a2 s1", b"element")
-    session.absorb([oracle.P - 1])
-    out += ["2013265920 is absorbed", f"2013265921 is {refusal(session.absorb, [oracle.P])}"]
+    session.absorb([P - 1])
+    out += ["2013265920 is absorbed", f"2013265921 is {refusal(session.absorb, [P])}"]
     session.absorb([7])
     out.append(f"challenge {session.squeeze(1)[0]}")
     session.finish()
@@ -217,7 +210,7 @@ def sigma_protocol(out):
 
 def stream(out):
     elements, plain = whole(out, "a8 a2 s5", b"cipher", [*range(1, 9)], [0, 1]), [100, 200, 300, 400, 500]
-    out += [f"cipher {[(x + y) % oracle.P for x, y in zip(elements, plain)]}", f"plain {plain}"]
+    out += [f"cipher {[(x + y) % P for x, y in zip(elements, plain)]}", f"plain {plain}"]
     random = whole(out, "a8 s3 a8 s2", b"random", [9] * 8, [10] * 8)
     out.append(f"random {random[:3]}, reseeded {random[3:]}")
 
@@ -300,17 +293,21 @@ def compare():
         out = []
         globals()[example](out)
         assert "\n".join(out) + "\n" == output, example
+    print(f"docs: {len(shown())} examples show what the second implementation gives")
+
+
+def picture():
     out = []
     states(out)
-    picture("\n".join(out) + "\n")
-    print(f"docs: {len(shown())} examples, and the picture, show what the second implementation gives")
+    print(drawn("\n".join(out) + "\n"), end="")
 
 
 if __name__ == "__main__":
-    if sys.argv[1] == "test":
+    if sys.argv[1:] == ["test"]:
         test()
-    else:
-        specification = importlib.util.spec_from_file_location("oracle", sys.argv[2])
-        oracle = importlib.util.module_from_spec(specification)
-        specification.loader.exec_module(oracle)
+    elif sys.argv[1:] == ["oracle"]:
         compare()
+    elif sys.argv[1:] == ["picture"]:
+        picture()
+    else:
+        sys.exit(__doc__)

@@ -1,11 +1,10 @@
 #!/usr/bin/env python3
 """What the program session_vectors is run on, and what it must print.
 
-  tests/sessions.py cases safe_oracle.py > crates/session_vectors/stdin
-  tests/sessions.py answers safe_oracle.py < crates/session_vectors/stdin > crates/session_vectors/stdout
+  tests/sessions.py cases > crates/session_vectors/stdin
+  tests/sessions.py answers < crates/session_vectors/stdin > crates/session_vectors/stdout
 
-The answers are those of another implementation: safe_oracle.py, in Python, written from document 01 by other hands. The first
-sessions are those of its own generator, `safe_oracle.py sessions 1 200`; the others are made here.
+The answers are those of the second implementation, in Python, written from document 01 by other hands (tests/oracle).
 A line of input is a call on the record that the line before left; lists are hexadecimal:
 
   s WORDS SEPARATOR    START
@@ -26,11 +25,11 @@ A record is three lists: its numbers, the 24 state elements and the 64 pattern w
 number, elements done, absorb and squeeze position, and permutations (two words, the high one first). Zeros at the end of each of the
 three are left out. In the output, `=` stands for a list that is in every word as the line before left it.
 """
-import importlib.util
-import random
 import sys
+from random import Random
 
-SEED, COUNT = 1, 200
+from second_implementation import oracle
+
 P = 2013265921
 ABSORB = 1 << 31
 LONGEST = ABSORB - 1
@@ -38,7 +37,7 @@ LARGEST = (1 << 32) - 1
 NUMBERS = ("status", "count", "phase", "done", "absorb_at", "squeeze_at")
 # merged: ABSORB 12, SQUEEZE 10, ABSORB 8, SQUEEZE 3
 PATTERN = [ABSORB + 9, ABSORB + 3, 10, ABSORB + 8, 1, 2]
-random = random.Random(31)
+random = Random(31)
 
 
 def hexadecimal(words):
@@ -62,7 +61,7 @@ def record_of(fields):
     return dict(zip(NUMBERS, lists), permutations=(lists[6] << 32) + lists[7], state=state, words=words)
 
 
-def answer(oracle, record, kind, *fields):
+def answer(record, kind, *fields):
     """The number, the record and, of a SQUEEZE, the buffer that a line's call leaves."""
     if kind == "s":
         return oracle.start(numbers(fields[0]), bytes.fromhex(fields[1]))
@@ -76,13 +75,12 @@ def answer(oracle, record, kind, *fields):
 class Calls:
     """Prints calls, and keeps the record that they leave, which later ones are made from."""
 
-    def __init__(self, oracle):
-        self.oracle = oracle
+    def __init__(self):
         self.record = oracle.wiped()
 
     def call(self, kind, *fields):
         print(kind, *fields)
-        self.record = answer(self.oracle, self.record, kind, *fields)[1]
+        self.record = answer(self.record, kind, *fields)[1]
 
     def start(self, words, separator=b""):
         self.call("s", hexadecimal(words), separator.hex())
@@ -125,7 +123,7 @@ class Calls:
 
     def placed(self, record, phase, done):
         """The record at another place, with the count and the positions that the rule gives there."""
-        count, absorb_at, squeeze_at = self.oracle.place(record["words"] + [0], phase, done)
+        count, absorb_at, squeeze_at = oracle.place(record["words"] + [0], phase, done)
         return dict(record, phase=phase, done=done, permutations=count, absorb_at=absorb_at, squeeze_at=squeeze_at)
 
     def each(self, record):
@@ -145,22 +143,68 @@ def buffer(size):
     return [random.randrange(1, 1 << 32) for _ in range(size)]
 
 
-def separator(length):
-    return bytes(random.randrange(256) for _ in range(length))
+def separator(length, source=random):
+    return bytes(source.randrange(256) for _ in range(length))
 
 
-def generated(calls):
-    """The sessions of the other implementation's generator."""
-    letters = dict(absorb="a", squeeze="q")
-    for trace in calls.oracle.sessions(SEED, COUNT):
-        print("s", hexadecimal(trace["words"]), trace["separator"])
-        for call in trace["calls"]:
-            if call["call"] == "tamper":
-                print("t", *parts(call["record"]))
-            elif call["call"] == "finish":
-                print("f")
-            else:
-                print(letters[call["call"]], hexadecimal(call["lent"]))
+def random_pattern(source):
+    """One that START accepts, or that with one word of another kind or length."""
+    words = [top + source.choice([1, 2, 7, 8, 9, source.randint(1, 30)])
+             for _ in range(source.randint(1, 5)) for top in (ABSORB, 0) for _ in range(source.randint(1, 3))]
+    if source.random() < 0.15:
+        words[source.randrange(len(words))] ^= source.choice([ABSORB, LONGEST])
+    return words
+
+
+def kinds(words):
+    """Of each merged word whether it is ABSORB. A sum that is too long runs into the top bit, so that calls of any kind come after such a START."""
+    sums = []
+    for word in words:
+        if sums and (sums[-1] >= ABSORB) == (word >= ABSORB):
+            sums[-1] += word % ABSORB
+        else:
+            sums.append(word)
+    return [word >= ABSORB for word in sums]
+
+
+def random_calls(source, words):
+    """Calls that follow the pattern, cut freely, with refused and empty ones strewn in."""
+    for absorbs, (_, length) in zip(kinds(words), oracle.phases(words)):
+        left = min(length, 90)
+        while left:
+            if source.random() < 0.1:
+                yield "absorb" if source.random() < 0.5 else "squeeze", []
+            if absorbs and source.random() < 0.1:
+                yield "absorb", [source.randrange(P, 1 << 32) for _ in range(source.randint(1, left))]
+            size = source.randint(1, left)
+            yield "absorb" if absorbs else "squeeze", [source.choice([0, 1, P - 1, source.randrange(P)]) for _ in range(size)]
+            left -= size
+            if source.random() < 0.02:
+                yield source.choice([("absorb", [1] * 40), ("squeeze", [0] * 40), ("finish",)])
+    yield "finish",
+    if source.random() < 0.2:
+        yield source.choice([("absorb", [1]), ("squeeze", [5]), ("finish",)])
+
+
+def tampered(source, record):
+    """The record with one bit of it changed."""
+    field = source.choice(["status", "state", "words", "count", "phase", "done", "absorb_at", "squeeze_at", "permutations"])
+    if not isinstance(record[field], list):
+        return dict(record, **{field: record[field] ^ 1 << source.randrange(8)})
+    list_ = list(record[field])
+    list_[source.randrange(len(list_))] ^= 1 << source.randrange(32)
+    return dict(record, **{field: list_})
+
+
+def random_sessions(calls):
+    source = Random(1)
+    for _ in range(200):
+        words = random_pattern(source)
+        calls.start(words, separator(source.choice([0, 1, 2, 8, 31, 256, 257]), source))
+        for call, *lent in random_calls(source, words):
+            if source.random() < 0.01:
+                calls.put(tampered(source, calls.record))
+            getattr(calls, call)(*lent)
 
 
 def document_examples(calls):
@@ -410,14 +454,14 @@ def forks(calls):
         calls.follow()
 
 
-def cases(oracle):
-    calls = Calls(oracle)
-    for part in (generated, document_examples, refused_starts, large_elements, samples, shapes, long_phases, changed_records, other_places,
+def cases():
+    calls = Calls()
+    for part in (random_sessions, document_examples, refused_starts, large_elements, samples, shapes, long_phases, changed_records, other_places,
                  changed_counts, empty_calls, out_of_pattern, forks, exchanged_kinds):
         part(calls)
 
 
-def answers(oracle):
+def answers():
     record = oracle.wiped()
     for line in sys.stdin:
         kind, *fields = line.rstrip("\n").split(" ")
@@ -425,15 +469,14 @@ def answers(oracle):
         if kind == "t":
             head, record, left = [], record_of(fields), []
         else:
-            number, record, *left = answer(oracle, record, kind, *fields)
+            number, record, *left = answer(record, kind, *fields)
             head = [number]
         print(kind, *head, *("=" if new == old else new for old, new in zip(before, parts(record))), *map(hexadecimal, left))
 
 
-if len(sys.argv) == 3 and sys.argv[1] in ("cases", "answers"):
-    spec = importlib.util.spec_from_file_location("oracle", sys.argv[2])
-    oracle = importlib.util.module_from_spec(spec)
-    spec.loader.exec_module(oracle)
-    (cases if sys.argv[1] == "cases" else answers)(oracle)
+if sys.argv[1:] == ["cases"]:
+    cases()
+elif sys.argv[1:] == ["answers"]:
+    answers()
 else:
     sys.exit(__doc__)

@@ -2,9 +2,9 @@
 """What the program tag_vectors is run on, and what it must print.
 
   tests/tags.py cases > crates/tag_vectors/stdin
-  tests/tags.py answers safe_oracle.py < crates/tag_vectors/stdin > crates/tag_vectors/stdout
+  tests/tags.py answers < crates/tag_vectors/stdin > crates/tag_vectors/stdout
 
-The answers are those of another implementation: safe_oracle.py, in Python, written from document 01 by other hands.
+The answers are those of the second implementation, in Python, written from document 01 by other hands (tests/oracle).
 A line of input is a call; lists are hexadecimal:
 
   w WORDS SEPARATOR LENGTH    check, and write to a buffer of that length (four digits)
@@ -19,9 +19,10 @@ A line of output is what the call answers:
 
 OTHERS is the sum of the unused ones of the 64 words. The buffer holds the byte a5 at every place before the call.
 """
-import importlib.util
 import random
 import sys
+
+from second_implementation import oracle
 
 ABSORB = 1 << 31
 LONGEST = ABSORB - 1
@@ -158,7 +159,7 @@ def cases():
         print("e", digest.hex())
 
 
-def elements(oracle, digest):
+def elements(digest):
     """Elements 8 to 15 of the state that START gives where the hash gives this digest."""
     class Hash:
         def sha3_256(string):
@@ -170,9 +171,9 @@ def elements(oracle, digest):
     return oracle.start([ABSORB + 1, 1], b"")[1]["state"][8:16]
 
 
-def answer(oracle, kind, *fields):
+def answer(kind, *fields):
     if kind == "e":
-        return hexadecimal(elements(oracle, bytes.fromhex(fields[0])))
+        return hexadecimal(elements(bytes.fromhex(fields[0])))
     if kind == "r":
         number, words, count, behind = oracle.read_tag(bytes.fromhex(fields[0]), int(fields[1], 16))
         return "%d %d %s %d, %s" % (number, count, hexadecimal(words[:count]), sum(words[count:]), behind.hex())
@@ -184,18 +185,15 @@ def answer(oracle, kind, *fields):
     return "%d %d %s 0, %d %d %s" % (number, len(list_), hexadecimal(list_), refused, length, buffer.hex())
 
 
-def answers(path):
-    spec = importlib.util.spec_from_file_location("oracle", path)
-    oracle = importlib.util.module_from_spec(spec)
-    spec.loader.exec_module(oracle)
+def answers():
     for line in sys.stdin:
         kind, *fields = line.rstrip("\n").split(" ")
-        print(kind, answer(oracle, kind, *fields))
+        print(kind, answer(kind, *fields))
 
 
 if sys.argv[1:] == ["cases"]:
     cases()
-elif len(sys.argv) == 3 and sys.argv[1] == "answers":
-    answers(sys.argv[2])
+elif sys.argv[1:] == ["answers"]:
+    answers()
 else:
     sys.exit(__doc__)

@@ -63,6 +63,7 @@ extern "C" {
 
 /* The numbers that the functions answer with. */
 enum tuilarder_number {
+    /* the call is accepted */
     TUILARDER_ACCEPTED = 0,
     /* pattern of 0 or over 64 words */
     TUILARDER_WORD_COUNT_OUT_OF_RANGE = 1,
@@ -177,7 +178,7 @@ TUILARDER_ANSWER tuilarder_write_tag(const uint32_t *words, size_t words_length,
 TUILARDER_ANSWER tuilarder_read_tag(const uint8_t *string, size_t length, size_t separator_length,
                                     uint32_t words[TUILARDER_MAX_WORDS], size_t *count);
 
-/* One Poseidon permutation in place. Answers 0; or 10, with the state as it was, where an element is p or more. */
+/* One Poseidon permutation in place. Checks 10. Refused, it leaves the state as it was. */
 TUILARDER_ANSWER tuilarder_permute(uint32_t state[TUILARDER_WIDTH]);
 
 /* The SHA3-256 digest of a string of bytes. It turns nothing away. */

@@ -87,7 +87,7 @@ extern "C" {
     /// as it was.
     pub fn tuilarder_finish(record: *mut Record) -> u32;
 
-    /// One permutation in place. Answers 0; or 10, with the state as it was, where an element is p or more.
+    /// One permutation in place. Checks 10. Refused, it leaves the state as it was.
     pub fn tuilarder_permute(state: *mut [u32; 24]) -> u32;
 
     /// Writes a tag string, from the start of `out` and only the string's bytes, and its length to `written`. Checks 1 to 6 in number

@@ -1,82 +1,65 @@
 use core::fmt;
 
-/// Why a call was turned away: the conditions of the specification, document 01, each with its number.
-#[derive(Clone, Copy, Debug, PartialEq, Eq, Hash)]
-#[repr(u32)]
-pub enum Refusal {
-    /// A pattern of 0 or over 64 words.
-    WordCountOutOfRange = 1,
-    /// A word of length 0.
-    WordLengthZero = 2,
-    /// The first word is SQUEEZE: its first outputs would be bare zeros.
-    FirstWordSqueeze = 3,
-    /// The last word is ABSORB.
-    LastWordAbsorb = 4,
-    /// A merged length above 2147483647.
-    MergedLengthTooLong = 5,
-    /// A separator over 256 bytes.
-    SeparatorTooLong = 6,
-    /// The record is not open.
-    RecordNotOpen = 7,
-    /// The record is open and not sound.
-    RecordNotSound = 8,
-    /// A call of the wrong kind, past the phase's end, or after the last phase. The record is wiped.
-    CallNotInPattern = 9,
-    /// An element of p or more.
-    ElementNotReduced = 10,
-    /// FINISH before the last phase's end. The record is wiped.
-    PatternNotDone = 11,
-    /// The lent buffer is shorter than the tag string.
-    BufferTooShort = 12,
-    /// No tag string of that separator length.
-    NotTagString = 13,
+/// Makes [`Refusal`] from one list, a row for each number: the number, the variant and the condition, and lines of documentation before
+/// them that say more.
+macro_rules! refusals {
+    ($($(#[doc = $more:literal])* $number:literal $variant:ident $condition:literal,)*) => {
+        /// Why a call was turned away: the conditions of the specification, document 01, each with its number.
+        ///
+        /// There can be more of them in a later version, so a `match` outside of this crate needs an arm for others.
+        #[non_exhaustive]
+        #[derive(Clone, Copy, Debug, PartialEq, Eq, Hash)]
+        #[repr(u32)]
+        pub enum Refusal {
+            $(
+                #[doc = concat!($number, ": ", $condition, ".")]
+                $(#[doc = $more])*
+                $variant = $number,
+            )*
+        }
+
+        impl Refusal {
+            /// The number that document 01 and the functions of [`ffi`](crate::ffi) have for it.
+            pub const fn number(self) -> u32 {
+                self as u32
+            }
+
+            /// The refusal that has this number, if one has.
+            pub const fn from_number(number: u32) -> Option<Refusal> {
+                match number {
+                    $($number => Some(Refusal::$variant),)*
+                    _ => None,
+                }
+            }
+        }
+
+        impl fmt::Display for Refusal {
+            fn fmt(&self, f: &mut fmt::Formatter<'_>) -> fmt::Result {
+                f.write_str(match self {
+                    $(Refusal::$variant => $condition,)*
+                })
+            }
+        }
+    };
 }
 
-impl Refusal {
-    /// The number that document 01 and the functions of [`ffi`](crate::ffi) have for it, 1 to 13.
-    pub const fn number(self) -> u32 {
-        self as u32
-    }
-
-    /// The refusal that has this number, if one has.
-    pub const fn from_number(number: u32) -> Option<Refusal> {
-        Some(match number {
-            1 => Refusal::WordCountOutOfRange,
-            2 => Refusal::WordLengthZero,
-            3 => Refusal::FirstWordSqueeze,
-            4 => Refusal::LastWordAbsorb,
-            5 => Refusal::MergedLengthTooLong,
-            6 => Refusal::SeparatorTooLong,
-            7 => Refusal::RecordNotOpen,
-            8 => Refusal::RecordNotSound,
-            9 => Refusal::CallNotInPattern,
-            10 => Refusal::ElementNotReduced,
-            11 => Refusal::PatternNotDone,
-            12 => Refusal::BufferTooShort,
-            13 => Refusal::NotTagString,
-            _ => return None,
-        })
-    }
-}
-
-impl fmt::Display for Refusal {
-    fn fmt(&self, f: &mut fmt::Formatter<'_>) -> fmt::Result {
-        f.write_str(match self {
-            Refusal::WordCountOutOfRange => "pattern of 0 or over 64 words",
-            Refusal::WordLengthZero => "a word of length 0",
-            Refusal::FirstWordSqueeze => "first word is SQUEEZE",
-            Refusal::LastWordAbsorb => "last word is ABSORB",
-            Refusal::MergedLengthTooLong => "merged length above 2147483647",
-            Refusal::SeparatorTooLong => "separator over 256 bytes",
-            Refusal::RecordNotOpen => "record not open",
-            Refusal::RecordNotSound => "open record not sound",
-            Refusal::CallNotInPattern => "call of the wrong kind, past the phase's end, or after the last phase",
-            Refusal::ElementNotReduced => "an element of 2013265921 or more",
-            Refusal::PatternNotDone => "FINISH before the last phase's end",
-            Refusal::BufferTooShort => "lent buffer shorter than the tag string",
-            Refusal::NotTagString => "no tag string of that separator length",
-        })
-    }
+refusals! {
+    1 WordCountOutOfRange "pattern of 0 or over 64 words",
+    2 WordLengthZero "a word of length 0",
+    /// Its first outputs would be bare zeros.
+    3 FirstWordSqueeze "first word is SQUEEZE",
+    4 LastWordAbsorb "last word is ABSORB",
+    5 MergedLengthTooLong "merged length above 2147483647",
+    6 SeparatorTooLong "separator over 256 bytes",
+    7 RecordNotOpen "record not open",
+    8 RecordNotSound "open record not sound",
+    /// The record is wiped.
+    9 CallNotInPattern "wrong kind, past the phase's end, or after the last phase",
+    10 ElementNotReduced "an element of p or more",
+    /// The record is wiped.
+    11 PatternNotDone "FINISH before the last phase's end",
+    12 BufferTooShort "lent buffer shorter than the tag string",
+    13 NotTagString "no tag string of that separator length",
 }
 
 impl core::error::Error for Refusal {}
@@ -85,7 +68,7 @@ impl core::error::Error for Refusal {}
 ///
 /// # Panics
 ///
-/// On a number above 13, which no function of the library answers with.
+/// On a number that no refusal has: no function of the library answers with one.
 pub(crate) fn result(number: u32) -> Result<(), Refusal> {
     if number == 0 {
         return Ok(());

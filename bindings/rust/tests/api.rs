@@ -1,7 +1,7 @@
 //! The crate's types: each refusal, what the calls leave, and known challenges.
 //!
-//! Squeezed elements and the permuted state are from the second implementation, in Python, of document 01. The numbers, their conditions
-//! and their examples are document 01's table, "Calls turned away"; B1 to B7 are its samples.
+//! Squeezed elements and the permuted state are from the second implementation, in Python, of document 01. The numbers and their
+//! conditions are those of docs/NUMBERS.md, the examples those of document 01's table, "Calls turned away"; B1 to B7 are its samples.
 
 use std::mem::{size_of, ManuallyDrop};
 use std::ptr;
@@ -13,25 +13,19 @@ use Call::{Absorb, Squeeze};
 const ABSORB_BIT: u32 = 1 << 31;
 const MAX_LENGTH: u32 = 2147483647;
 
-const REFUSALS: [(u32, Refusal, &str); 13] = [
-    (1, Refusal::WordCountOutOfRange, "pattern of 0 or over 64 words"),
-    (2, Refusal::WordLengthZero, "a word of length 0"),
-    (3, Refusal::FirstWordSqueeze, "first word is SQUEEZE"),
-    (4, Refusal::LastWordAbsorb, "last word is ABSORB"),
-    (5, Refusal::MergedLengthTooLong, "merged length above 2147483647"),
-    (6, Refusal::SeparatorTooLong, "separator over 256 bytes"),
-    (7, Refusal::RecordNotOpen, "record not open"),
-    (8, Refusal::RecordNotSound, "open record not sound"),
-    (
-        9,
-        Refusal::CallNotInPattern,
-        "call of the wrong kind, past the phase's end, or after the last phase",
-    ),
-    (10, Refusal::ElementNotReduced, "an element of 2013265921 or more"),
-    (11, Refusal::PatternNotDone, "FINISH before the last phase's end"),
-    (12, Refusal::BufferTooShort, "lent buffer shorter than the tag string"),
-    (13, Refusal::NotTagString, "no tag string of that separator length"),
-];
+const NUMBERS: &str = include_str!("../../../docs/NUMBERS.md");
+
+/// Number, name and condition of each refusal in the table of numbers that an exported function gives, or none.
+fn table() -> Vec<(u32, &'static str, &'static str)> {
+    let exported = |call: &str| NUMBERS.contains(&format!("| {call} | `tuilarder_"));
+    let rows = NUMBERS.lines().filter_map(|line| {
+        let cells: Vec<&str> = line.split('|').map(str::trim).collect();
+        let number = cells.get(1)?.parse().ok()?;
+        let given = cells[6].is_empty() || cells[6].split(", ").any(exported);
+        (number != 0 && given).then_some((number, cells[2], cells[3]))
+    });
+    rows.collect()
+}
 
 /// Calls that get the number, of each place in the API that can give it.
 fn refused_with(number: u32) -> Vec<Result<(), Refusal>> {
@@ -121,12 +115,13 @@ fn on_each_call(record: Record) -> Vec<Result<(), Refusal>> {
 
 #[test]
 fn each_refusal_is_given_with_its_number_and_words() {
-    for (number, refusal, text) in REFUSALS {
+    for (number, name, condition) in table() {
+        let refusal = Refusal::from_number(number).unwrap();
         assert_eq!(refusal.number(), number);
-        assert_eq!(Refusal::from_number(number), Some(refusal));
-        assert_eq!(refusal.to_string(), text);
+        assert_eq!(format!("{refusal:?}").to_lowercase(), name.replace(' ', ""));
+        assert_eq!(refusal.to_string(), condition);
         let error: &dyn std::error::Error = &refusal;
-        assert_eq!(error.to_string(), text);
+        assert_eq!(error.to_string(), condition);
         for (place, answer) in refused_with(number).into_iter().enumerate() {
             assert_eq!(answer, Err(refusal), "number {number}, call {place}");
         }
@@ -135,8 +130,9 @@ fn each_refusal_is_given_with_its_number_and_words() {
 
 #[test]
 fn no_other_number_is_a_refusal() {
-    assert_eq!(Refusal::from_number(0), None);
-    assert_eq!(Refusal::from_number(14), None);
+    let numbers: Vec<u32> = table().iter().map(|row| row.0).collect();
+    let found = (0..1000).filter(|&number| Refusal::from_number(number).is_some());
+    assert_eq!(found.collect::<Vec<u32>>(), numbers);
     assert_eq!(Refusal::from_number(u32::MAX), None);
 }
 

@@ -1,6 +1,6 @@
 //! The stored sessions of `crates/session_vectors`, replayed through the library and through the independent implementation.
-//! Their answers are those of the second implementation, in Python, by other hands. The lines are described at the top of
-//! `tests/sessions.py`.
+//! Their answers are those of the second implementation, in Python, by other hands (`tests/oracle`). The lines are described at the top
+//! of `tests/sessions.py`.
 
 mod guarded;
 mod independent;

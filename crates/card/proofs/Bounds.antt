@@ -8,20 +8,22 @@ use native.Mathlib.Omega.{arith}
 use borrow.Author.Tests.{ltb-true, ltb-false, eqb-true}
 use lib.Dec.{ltb}
 use lib.ListN.{length, getD, length-append}
+use Rattle.basics.specs.Logic.{_and_, all}
 use Rattle.basics.specs.Numbers.{accepted, notCard}
 use Rattle.basics.proofs.Cases.{by, cases}
-use Rattle.tag.specs.Pattern.{mergedWords}
-use Rattle.tag.specs.Start.{startNumber}
+use Rattle.basics.proofs.FirstRow.{number-bound}
+use Rattle.pattern.specs.Pattern.{mergedWords}
+use Rattle.pattern.specs.Opening.{Opening, opening, wordRows, startRows, startNumber}
+use Rattle.pattern.proofs.StartCheck.{few-words}
 use Rattle.tag.specs.TagString.{tagString}
-use Rattle.tag.specs.Permutations.{permutationsAt, fullPermutations}
-use Rattle.tag.proofs.PermutationCounts.{phase-bound, sum-bound}
-use Rattle.tag.proofs.StartCheck.{few-words}
 use Rattle.tag.proofs.Writing.{tag-string-short}
+use Rattle.progress.specs.Permutations.{permutationsAt, fullPermutations}
+use Rattle.progress.proofs.PermutationCounts.{phase-bound, sum-bound}
 use Rattle.card_grammar.specs.Text.{hex, decimal}
 use Rattle.card_grammar.specs.Grammar.{Reading, card, none}
 use Rattle.card_grammar.specs.Card.{cardOf}
 use Rattle.card_grammar.specs.Digits.{decimal-small, decimal-more}
-use Rattle.card.specs.Answer.{okText, noText, cardAnswer, answer}
+use Rattle.card.specs.Answer.{longestAnswer, okText, noText, cardAnswer, answer}
 use Rattle.card.proofs.Laws.{answer-card, answer-none}
 
 -- ---- numerals
@@ -57,24 +59,18 @@ count-digits n h = few-digits 10 n (omega arith)
 
 -- ---- an accepted pattern
 
-pub few-permutations : (ws separator : List ℕ) → startNumber ws separator ≡ accepted → fullPermutations ws ≤ 99999999999
+pub few-permutations : (o : Opening) → startNumber o ≡ accepted → fullPermutations (o .words) ≤ 99999999999
 unfolding fullPermutations permutationsAt
-few-permutations ws separator e =
-    let few = few-words ws separator e in
-    let count = length (mergedWords ws) in
-    let before = sum-bound (mergedWords ws) count in
-    let behind = phase-bound (getD (mergedWords ws) count 0) 0 in
+few-permutations o e =
+    let few = few-words o e in
+    let count = length (mergedWords (o .words)) in
+    let before = sum-bound (mergedWords (o .words)) count in
+    let behind = phase-bound (getD (mergedWords (o .words)) count 0) 0 in
     omega arith
 
-pub small-number : (ws separator : List ℕ) → startNumber ws separator ≤ 14
-unfolding startNumber
-small-number ws separator =
-    by (λ (n : ℕ). n ≤ 14) _ _ _ (λ _. omega arith) λ _.
-    by (λ (n : ℕ). n ≤ 14) _ _ _ (λ _. omega arith) λ _.
-    by (λ (n : ℕ). n ≤ 14) _ _ _ (λ _. omega arith) λ _.
-    by (λ (n : ℕ). n ≤ 14) _ _ _ (λ _. omega arith) λ _.
-    by (λ (n : ℕ). n ≤ 14) _ _ _ (λ _. omega arith) λ _.
-    by (λ (n : ℕ). n ≤ 14) _ _ _ (λ _. omega arith) λ _. omega arith
+pub small-number : (o : Opening) → startNumber o ≤ 14
+unfolding startNumber startRows wordRows all _and_
+small-number o = number-bound 14 (startRows o) refl
 
 -- ---- answers
 
@@ -89,24 +85,24 @@ pub length-no : (number : ℕ) → length (noText number) ≡ 4 + length (decima
 unfolding noText
 length-no number = omega (arith, length-append (decimal number) (41 ∷ []))
 
-no-short : (number : ℕ) → number ≤ 14 → length (noText number) ≤ 1041
+no-short : (number : ℕ) → number ≤ 14 → length (noText number) ≤ longestAnswer
 no-short number h = omega (arith, length-no number, number-digits number h)
 
-card-answer-short : (ws separator : List ℕ) → length (cardAnswer ws separator) ≤ 1041
+card-answer-short : (o : Opening) → length (cardAnswer o) ≤ longestAnswer
 unfolding cardAnswer
-card-answer-short ws separator =
-    by (λ (text : List ℕ). length text ≤ 1041) _ _ _
+card-answer-short o =
+    by (λ (text : List ℕ). length text ≤ longestAnswer) _ _ _
     (λ t.
-    let e = eqb-true (startNumber ws separator) accepted t in
-    let string = tag-string-short ws separator e in
-    let digits = count-digits (fullPermutations ws) (few-permutations ws separator e) in
-    omega (arith, length-ok (tagString ws separator) (fullPermutations ws)))
-    λ _. no-short (startNumber ws separator) (small-number ws separator)
+    let e = eqb-true (startNumber o) accepted t in
+    let string = tag-string-short o e in
+    let digits = count-digits (fullPermutations (o .words)) (few-permutations o e) in
+    omega (arith, length-ok (tagString o) (fullPermutations (o .words))))
+    λ _. no-short (startNumber o) (small-number o)
 
 -- every answer, without its newline
-pub answer-short : (line : List ℕ) → length (answer line) ≤ 1041
+pub answer-short : (line : List ℕ) → length (answer line) ≤ longestAnswer
 answer-short line = short (cardOf line) refl
   where
-    short : (r : Reading) → cardOf line ≡ r → length (answer line) ≤ 1041
-    short (card separator ws) e = rw (answer-card line separator ws e) (card-answer-short ws separator)
+    short : (r : Reading) → cardOf line ≡ r → length (answer line) ≤ longestAnswer
+    short (card separator ws) e = rw (answer-card line separator ws e) (card-answer-short (opening ws separator))
     short none e = rw (answer-none line e) (no-short notCard (omega arith))

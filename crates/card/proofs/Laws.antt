@@ -8,9 +8,10 @@ use Rattle.basics.specs.Numbers.{notCard}
 use Rattle.card_grammar.specs.Grammar.{card, none}
 use Rattle.card_grammar.specs.Card.{cardOf}
 use Rattle.card_grammar.proofs.Laws.{long-none}
+use Rattle.pattern.specs.Opening.{opening}
 use Rattle.card.specs.Answer.{noText, cardAnswer, readingAnswer, answer}
 
-pub answer-card : (line s w : List ℕ) → cardOf line ≡ card s w → answer line ≡ cardAnswer w s
+pub answer-card : (line s w : List ℕ) → cardOf line ≡ card s w → answer line ≡ cardAnswer (opening w s)
 unfolding answer readingAnswer
 answer-card line s w e = ap readingAnswer e
 

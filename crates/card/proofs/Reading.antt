@@ -13,6 +13,7 @@ use Rattle.basics.proofs.Cases.{if-true, if-false}
 use Rattle.card_grammar.specs.Grammar.{Reading, card, none}
 use Rattle.card_grammar.specs.Card.{cardOf, places, reading}
 use Rattle.card_grammar.specs.declared.Card.{Card}
+use Rattle.pattern.specs.Opening.{opening}
 use Rattle.card.specs.Answer.{noText, cardAnswer, answer, hasRoom, answerInto}
 use Rattle.card.proofs.Cut.{cut-answer}
 use Rattle.card.proofs.Laws.{answer-card, answer-none}
@@ -61,12 +62,12 @@ module _ (line : List ℕ) (c : Card) (e : c ≡ reading (cardOf line)) where
   pub answers-none : c .«is_card» ≡ false → answer line ≡ noText notCard
   answers-none t = answer-none line (reading-none (cardOf line) (sym (ap (λ (d : Card). d .«is_card») e) ∙ t))
 
-  pub answers-card : c .«is_card» ≡ true → answer line ≡ cardAnswer (take (c .«word_count») (c .words)) (take (c .«separator_length») (c .separator))
+  pub answers-card : c .«is_card» ≡ true → answer line ≡ cardAnswer (opening (take (c .«word_count») (c .words)) (take (c .«separator_length») (c .separator)))
   answers-card t =
       let h = holds t in
       answer-card line (h .separator) (h .words) (h .is)
       ∙ sym (cut-answer (h .words) (h .separator))
-      ∙ sym (ap₂ cardAnswer (h .words-used) (h .separator-used))
+      ∙ sym (ap₂ (λ (ws s : List ℕ). cardAnswer (opening ws s)) (h .words-used) (h .separator-used))
 
 -- what is written to a buffer
 pub into-room : (line buffer : List ℕ) → 1042 ≤ length buffer → answerInto line buffer ≡ answer line

@@ -6,9 +6,9 @@ use lib.Dec.{leb, eqb}
 use lib.ListN.{length, take, drop}
 use Rattle.basics.specs.Logic.{if_then_else_}
 use Rattle.basics.specs.Numbers.{accepted, notCard}
-use Rattle.tag.specs.Start.{startNumber}
+use Rattle.pattern.specs.Opening.{Opening, opening, startNumber}
 use Rattle.tag.specs.TagString.{tagString}
-use Rattle.tag.specs.Permutations.{fullPermutations}
+use Rattle.progress.specs.Permutations.{fullPermutations}
 use Rattle.card_grammar.specs.Text.{ascii, hex, decimal}
 use Rattle.card_grammar.specs.Grammar.{Reading, card, none}
 use Rattle.card_grammar.specs.Card.{cardOf}
@@ -22,14 +22,12 @@ unfoldable pub noText : ℕ → List ℕ
 noText number = ascii "(no " ++ (decimal number ++ ascii ")")
 
 -- the answer to a card: START's numbers 1 to 6
-unfoldable pub cardAnswer : List ℕ → List ℕ → List ℕ
-cardAnswer ws separator =
-    if eqb (startNumber ws separator) accepted then okText (tagString ws separator) (fullPermutations ws)
-    else noText (startNumber ws separator)
+unfoldable pub cardAnswer : Opening → List ℕ
+cardAnswer o = if eqb (startNumber o) accepted then okText (tagString o) (fullPermutations (o .words)) else noText (startNumber o)
 
 -- "14 before 1 to 6"
 unfoldable pub readingAnswer : Reading → List ℕ
-readingAnswer (card separator ws) = cardAnswer ws separator
+readingAnswer (card separator ws) = cardAnswer (opening ws separator)
 readingAnswer none = noText notCard
 
 -- the answer to a line
@@ -39,9 +37,17 @@ answer line = readingAnswer (cardOf line)
 -- Document 01 leaves it to the program how output is cut into buffers. The rest of this file says when a buffer has room and where a text
 -- stands in it; what is common to every choice is `answer`.
 
--- a buffer has room for any answer with its newline: "(ok ", 1,024 digits, a space, 11 digits, a bracket, the newline
+-- the longest answer: "(ok ", 1,024 digits, a space, 11 digits, a bracket
+abbrev pub longestAnswer : ℕ
+longestAnswer = 1041
+
+-- with its newline
+abbrev pub room : ℕ
+room = longestAnswer + 1
+
+-- a buffer has room for any answer with its newline
 unfoldable pub hasRoom : List ℕ → Bool
-hasRoom buffer = leb 1042 (length buffer)
+hasRoom buffer = leb room (length buffer)
 
 -- what is written to a buffer: the answer, or nothing if the buffer is too short
 unfoldable pub answerInto : List ℕ → List ℕ → List ℕ

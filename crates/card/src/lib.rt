@@ -4,17 +4,15 @@ pub mod text;
 ghost use mathlib.Core.Path.{_≡_};
 ghost use Prim.Native.Nat.{_≤_};
 ghost use lib.ListN.{length};
-ghost use Rattle.card.specs.Answer.{okText, noText, cardAnswer, answerInto, beginning};
+ghost use Rattle.pattern.specs.Opening.{opening};
+ghost use Rattle.card.specs.Answer.{room, okText, noText, cardAnswer, answerInto, beginning};
 
 // What a buffer has to hold at least: the longest answer, of 1,041 bytes, and a newline.
 pub const ROOM: usize = 1042;
 
-// The longest tag string, in bytes.
-const MAX_STRING: usize = 512;
-
 // Writes "(no N)".
 fn put_no(buffer: &mut [u8], number: u32) -> usize
-    requires { ⌜ (1042 ≤ length (now buffer)) × (number ≤ 14) ⌝ }
+    requires { ⌜ (room ≤ length (now buffer)) × (number ≤ 14) ⌝ }
     ensures { λ r. ⌜ (r ≡ length (noText number)) ×
         (now (buffer .exit) ≡ beginning (noText number) (now (buffer .entry))) ⌝ }
 {
@@ -26,7 +24,7 @@ fn put_no(buffer: &mut [u8], number: u32) -> usize
 
 // Writes "(ok TAG COUNT)" for a tag string.
 fn put_ok(buffer: &mut [u8], string: &[u8], permutations: u64) -> usize
-    requires { ⌜ (1042 ≤ length (now buffer)) × (length (now string) ≤ 512) × (permutations ≤ 99999999999) ⌝ }
+    requires { ⌜ (room ≤ length (now buffer)) × (length (now string) ≤ 512) × (permutations ≤ 99999999999) ⌝ }
     ensures { λ r. ⌜ (r ≡ length (okText (now (string .entry)) permutations)) ×
         (now (buffer .exit) ≡ beginning (okText (now (string .entry)) permutations) (now (buffer .entry))) ⌝ }
 {
@@ -40,20 +38,20 @@ fn put_ok(buffer: &mut [u8], string: &[u8], permutations: u64) -> usize
 
 // Writes the answer to a card of these words and this separator.
 fn answer_card(words: &[u32], separator: &[u8], buffer: &mut [u8]) -> usize
-    requires { ⌜ 1042 ≤ length (now buffer) ⌝ }
-    ensures { λ r. ⌜ (r ≡ length (cardAnswer (now (words .entry)) (now (separator .entry)))) ×
-        (now (buffer .exit) ≡ beginning (cardAnswer (now (words .entry)) (now (separator .entry))) (now (buffer .entry))) ⌝ }
+    requires { ⌜ room ≤ length (now buffer) ⌝ }
+    ensures { λ r. ⌜ (r ≡ length (cardAnswer (opening (now (words .entry)) (now (separator .entry))))) ×
+        (now (buffer .exit) ≡ beginning (cardAnswer (opening (now (words .entry)) (now (separator .entry)))) (now (buffer .entry))) ⌝ }
 {
-    let merged = tag::check(words, separator);
+    let merged = pattern::check(words, separator);
     if merged.number != basics::ACCEPTED {
         return put_no(buffer, merged.number);
     }
-    let mut string = [0u8; MAX_STRING];
-    let written = tag::write(words, separator, &mut string);
-    let length = written.length;
     let list = merged.words;
     let count = merged.count;
-    let permutations = tag::permutations::permutations_at(&list[..count], count as u32, 0);
+    let mut string = [0u8; tag::MAX_STRING];
+    let written = tag::write_string(&list[..count], separator, &mut string);
+    let length = written.length;
+    let permutations = progress::permutations::permutations_at(&list[..count], count as u32, 0);
     put_ok(buffer, &string[..length], permutations)
 }
 

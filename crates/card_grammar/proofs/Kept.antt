@@ -10,7 +10,7 @@ use lib.ListN.{length, take, set, replicate, length-append, length-take}
 use lib.Seq.{take-all, take-nil, take-append-le}
 use Rattle.basics.specs.Logic.{if_then_else_}
 use Rattle.basics.proofs.Cases.{cases, if-true, if-false}
-use Rattle.tag.proofs.Answers.{push-number}
+use Rattle.basics.proofs.Zeros.{push-number}
 use Rattle.card_grammar.specs.Card.{places}
 
 pub record Kept (n : ℕ) (xs : List ℕ) (count : ℕ) (array : List ℕ) : Type 0 where

@@ -11,7 +11,7 @@ use lib.ListN.{take}
 use lib.Seq.{take-suc}
 use Rattle.basics.specs.Logic.{if_then_else_}
 use Rattle.basics.proofs.Cases.{by}
-use Rattle.tag.specs.Pattern.{isAbsorb, lengthOf}
+use Rattle.words.specs.Words.{isAbsorb, lengthOf}
 use Rattle.card_grammar.specs.Text.{headText, middleText, hexDigit, hex, separatorText, decimal, callText, callsText, cardText}
 use Rattle.card_grammar.specs.Grammar.{Below}
 use Rattle.card_grammar.specs.Machine.{headAt, middleAt, hexValue, decimalValue, expected, moveOf, State, at, moved, stepped, run, fresh}

@@ -7,7 +7,7 @@ use borrow.Author.Tests.{lt-ltb, ltb-true, ltb-false, le-leb, leb-true, leb-fals
 use lib.Dec.{ltb, leb, eqb}
 use Rattle.basics.specs.Logic.{if_then_else_}
 use Rattle.basics.proofs.Cases.{cases}
-use Rattle.tag.specs.Pattern.{isAbsorb, lengthOf}
+use Rattle.words.specs.Words.{isAbsorb, lengthOf}
 use Rattle.card_grammar.specs.Text.{headText, middleText, endText, hexDigit, hex, separatorText, decimal, callText, callsText, cardText}
 use Rattle.card_grammar.specs.Grammar.{Below}
 use Rattle.card_grammar.specs.Machine.{headAt, middleAt, expected, moveOf, State, at, moved, stepped, run, fresh}

@@ -6,7 +6,7 @@ use Prim.Native.String.{String}
 use Prim.Native.Nat.{ℕ, zero, suc, _+_, _/_, _%_}
 use lib.Dec.{ltb}
 use Rattle.basics.specs.Logic.{if_then_else_}
-use Rattle.tag.specs.Pattern.{isAbsorb, lengthOf}
+use Rattle.words.specs.Words.{isAbsorb, lengthOf}
 
 -- a text's bytes
 abbrev pub ascii : String → List ℕ

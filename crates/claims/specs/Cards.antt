@@ -11,10 +11,12 @@ use Rattle.basics.specs.Digits.{digits}
 use Rattle.basics.specs.Lists.{sum}
 use Rattle.basics.specs.Numbers.{notCard}
 use Rattle.basics.proofs.Cases.{if-true}
-use Rattle.tag.specs.Pattern.{isAbsorb, lengthOf, phaseOf, wordOf, join, merge, phases, mergedWords}
-use Rattle.tag.specs.Start.{tooLong, startNumber}
-use Rattle.tag.specs.TagString.{wordBytes, tagString}
-use Rattle.tag.specs.Permutations.{blockCount, phasePermutations, permutationsAt, fullPermutations}
+use Rattle.basics.specs.Refusals.{firstNumber}
+use Rattle.words.specs.Words.{isAbsorb, lengthOf, phaseOf, wordOf}
+use Rattle.pattern.specs.Pattern.{join, merge, phases, mergedWords}
+use Rattle.pattern.specs.Opening.{opening, tooLong, wordRows, startRows, startNumber}
+use Rattle.tag.specs.TagString.{wordBytes, stringOf, tagString}
+use Rattle.progress.specs.Permutations.{blockCount, phasePermutations, permutationsAt, fullPermutations}
 use Rattle.runs.specs.Runs.{Run, tagOf, permutationsOf}
 use Rattle.runs.proofs.Opened.{start-accepted}
 use Rattle.card_grammar.specs.Text.{ascii, hexDigit, hex, separatorText, decimalUpTo, decimal, callText, callsText, cardText}
@@ -48,7 +50,7 @@ pub cards-are-unambiguous : (s w s′ w′ : List ℕ) → Below 256 s → Below
 cards-are-unambiguous = grammar.unambiguous
 
 -- The answer to a card is by START's numbers; "14 before 1 to 6": what is no card gets 14, whatever else is wrong with it.
-pub answer-to-card : (line separator ws : List ℕ) → CardOf line separator ws → answer line ≡ cardAnswer ws separator
+pub answer-to-card : (line separator ws : List ℕ) → CardOf line separator ws → answer line ≡ cardAnswer (opening ws separator)
 answer-to-card line separator ws c = answer-card line separator ws (grammar.card-of line separator ws c)
 
 pub answer-to-no-card : (line : List ℕ) → NoCard line → answer line ≡ noText notCard
@@ -60,11 +62,11 @@ answer-to-long-line = answer-long
 
 -- "tag string .. permutations of a full session": what a card is answered with is the tag string and the count of every finished session of
 -- its words and separator.
-pub answer-is-of-session : (a : Run) (line : List ℕ) → CardOf line (a .separator) (a .words) → answer line ≡ okText (tagOf a) (permutationsOf a)
+pub answer-is-of-session : (a : Run) (line : List ℕ) → CardOf line (a .opening .separator) (a .opening .words) → answer line ≡ okText (tagOf a) (permutationsOf a)
 unfolding fullPermutations
 answer-is-of-session a line c =
-    answer-to-card line (a .separator) (a .words) c
-    ∙ accepted-answer (a .words) (a .separator) (start-accepted (a .words) (a .separator) (a .opens))
+    answer-to-card line (a .opening .separator) (a .opening .words) c
+    ∙ accepted-answer (a .opening) (start-accepted (a .opening) (a .opens))
     ∙ ap (okText (tagOf a)) (sym (count-of-session a))
 
 -- The bytes that a call of `feed` wrote and took, by the numbers of its answer, are `writes` and `takes`.
@@ -139,16 +141,16 @@ unfolding line3 Below hexDigit hex separatorText decimalUpTo decimal callText ca
 card3 = record { short = lit≤ tt; bytes = tt; words = (lit< tt, tt); text = refl }
 
 answer1 : answer line1 ≡ ascii "(ok 80000006000000034142 1)"
-unfolding cardAnswer okText startNumber tooLong tagString wordBytes digits mergedWords phases merge join phaseOf wordOf isAbsorb lengthOf
+unfolding cardAnswer okText startNumber startRows wordRows firstNumber tooLong tagString stringOf wordBytes digits mergedWords phases merge join phaseOf wordOf isAbsorb lengthOf
     fullPermutations permutationsAt phasePermutations blockCount sum hexDigit hex decimalUpTo decimal if_then_else_ _or_ same any
 answer1 = answer-to-card _ _ _ card1 ∙ refl
 
 answer2 : answer line2 ≡ ascii "(no 3)"
-unfolding cardAnswer noText startNumber isAbsorb lengthOf decimalUpTo decimal if_then_else_ _or_ any
+unfolding cardAnswer noText startNumber startRows wordRows firstNumber isAbsorb lengthOf decimalUpTo decimal if_then_else_ _or_ any
 answer2 = answer-to-card _ _ _ card2 ∙ refl
 
 answer3 : answer line3 ≡ ascii "(no 2)"
-unfolding cardAnswer noText startNumber isAbsorb lengthOf decimalUpTo decimal if_then_else_ _or_ any
+unfolding cardAnswer noText startNumber startRows wordRows firstNumber isAbsorb lengthOf decimalUpTo decimal if_then_else_ _or_ any
 answer3 = answer-to-card _ _ _ card3 ∙ refl
 
 three-lines : (a b c : List ℕ) → answer line1 ≡ a → answer line2 ≡ b → answer line3 ≡ c

@@ -1,6 +1,6 @@
 -- Why the third demand is one of separators of equal length: without that it does not hold. The two patterns are those of document 01's
 -- sample B2.
-use mathlib.Core.Path.{_≡_, refl, sym, ap, ap₂, _∙_}
+use mathlib.Core.Path.{_≡_, refl, sym, ap, _∙_}
 use mathlib.Core.Logic.{_≢_}
 use mathlib.Core.List.{List, [], _∷_}
 use Prim.Native.Nat.{ℕ}
@@ -8,9 +8,11 @@ use native.Mathlib.Omega.{arith}
 use lib.ListN.{length}
 use Rattle.basics.specs.Logic.{if_then_else_, _and_, _or_, same, all, any}
 use Rattle.basics.specs.Digits.{digits}
-use Rattle.tag.specs.Pattern.{Phase, isAbsorb, lengthOf, phaseOf, wordOf, join, merge, phases, mergedWords}
-use Rattle.tag.specs.Start.{tooLong, startNumber}
-use Rattle.tag.specs.TagString.{wordBytes, tagString}
+use Rattle.basics.specs.Refusals.{firstNumber}
+use Rattle.words.specs.Words.{Phase, isAbsorb, lengthOf, phaseOf, wordOf}
+use Rattle.pattern.specs.Pattern.{join, merge, phases, mergedWords}
+use Rattle.pattern.specs.Opening.{Opening, opening, tooLong, wordRows, startRows, startNumber}
+use Rattle.tag.specs.TagString.{wordBytes, stringOf, tagString}
 use Rattle.runs.specs.Lengths.{absorbLength}
 use Rattle.runs.specs.Runs.{Run, tagOf, patternOf, absorbedOf}
 use Rattle.runs.proofs.Opened.{accepted-start}
@@ -28,16 +30,16 @@ fourWords : List ℕ
 fourWords = 0x80000001 ∷ 1 ∷ 0x80000002 ∷ 2 ∷ []
 
 -- a finished session of each, with zeros absorbed
-short-session : (a : Run) × (a .words ≡ twoWords) × (a .separator ≡ eightBytes) × (absorbedOf a ≡ 0 ∷ [])
-unfolding twoWords eightBytes startNumber tooLong phases merge join phaseOf isAbsorb lengthOf absorbLength if_then_else_ _and_ _or_ same all any
-short-session = finishable twoWords eightBytes (0 ∷ []) (accepted-start twoWords eightBytes refl) refl refl
+short-session : (a : Run) × (a .opening ≡ opening twoWords eightBytes) × (absorbedOf a ≡ 0 ∷ [])
+unfolding twoWords eightBytes startNumber startRows wordRows firstNumber tooLong phases merge join phaseOf isAbsorb lengthOf absorbLength if_then_else_ _and_ _or_ same all any
+short-session = finishable (opening twoWords eightBytes) (0 ∷ []) (accepted-start (opening twoWords eightBytes) refl) refl refl
 
-long-session : (a : Run) × (a .words ≡ fourWords) × (a .separator ≡ []) × (absorbedOf a ≡ 0 ∷ 0 ∷ 0 ∷ [])
-unfolding fourWords startNumber tooLong phases merge join phaseOf isAbsorb lengthOf absorbLength if_then_else_ _and_ _or_ same all any
-long-session = finishable fourWords [] (0 ∷ 0 ∷ 0 ∷ []) (accepted-start fourWords [] refl) refl refl
+long-session : (a : Run) × (a .opening ≡ opening fourWords []) × (absorbedOf a ≡ 0 ∷ 0 ∷ 0 ∷ [])
+unfolding fourWords startNumber startRows wordRows firstNumber tooLong phases merge join phaseOf isAbsorb lengthOf absorbLength if_then_else_ _and_ _or_ same all any
+long-session = finishable (opening fourWords []) (0 ∷ 0 ∷ 0 ∷ []) (accepted-start (opening fourWords []) refl) refl refl
 
-same-string : tagString twoWords eightBytes ≡ tagString fourWords []
-unfolding twoWords eightBytes fourWords tagString wordBytes digits mergedWords wordOf phases merge join phaseOf isAbsorb lengthOf if_then_else_ same
+same-string : tagString (opening twoWords eightBytes) ≡ tagString (opening fourWords [])
+unfolding twoWords eightBytes fourWords tagString stringOf wordBytes digits mergedWords wordOf phases merge join phaseOf isAbsorb lengthOf if_then_else_ same
 same-string = refl
 
 other-phases : phases twoWords ≢ phases fourWords
@@ -52,6 +54,6 @@ equal-lengths-are-needed =
     let b = long-session in (
       a .0,
       b .0,
-      ap₂ tagString (a .1) (a .2) ∙ same-string ∙ sym (ap₂ tagString (b .1) (b .2)),
-      λ e. other-phases (sym (ap phases (a .1)) ∙ e ∙ ap phases (b .1)),
+      ap tagString (a .1) ∙ same-string ∙ sym (ap tagString (b .1)),
+      λ e. other-phases (sym (ap (λ (o : Opening). phases (o .words)) (a .1)) ∙ e ∙ ap (λ (o : Opening). phases (o .words)) (b .1)),
     )

@@ -10,18 +10,22 @@ use Rattle.basics.specs.Lists.{tabulate, sum}
 use Rattle.basics.specs.Digits.{digits, number, numberAfter}
 use Rattle.basics.specs.Numbers.{accepted}
 use Rattle.field.specs.Field.{p}
-use Rattle.tag.specs.Pattern.{isAbsorb, lengthOf, phaseOf, wordOf, join, merge, phases, mergedWords, alternate, soundWords}
-use Rattle.tag.specs.Start.{tooLong, startNumber}
-use Rattle.tag.specs.TagString.{wordBytes, tagString, wordAt}
+use Rattle.basics.specs.Refusals.{firstNumber}
+use Rattle.words.specs.Words.{isAbsorb, lengthOf, phaseOf, wordOf}
+use Rattle.pattern.specs.Pattern.{join, merge, phases, mergedWords, alternate, soundWords, soundPlaces}
+use Rattle.pattern.specs.Opening.{opening, tooLong, wordRows, startRows, startNumber}
+use Rattle.tag.specs.TagString.{wordBytes, stringOf, tagString, wordAt}
 use Rattle.tag.specs.Elements.{tagElements}
-use Rattle.tag.specs.Permutations.{blockCount, phasePermutations, permutationsAt, fullPermutations}
+use Rattle.progress.specs.Permutations.{blockCount, phasePermutations, permutationsAt, fullPermutations}
 use Rattle.poseidon_tables.specs.Tables.{constants, inverses}
 use Rattle.poseidon.specs.Permutation.{addConstants, raiseAll, raiseFirst, raise, matrix, multiply, rounds, permutation, babyBear}
-use Rattle.session.specs.Sponge.{permute, tagState, readyToAbsorb, absorbElement, readyToSqueeze, squeezedElement, squeezeElement}
-use Rattle.session.specs.Record.{wiped, openRecord, spongeOf, moved, phaseWord, lastElement, nextPhase, nextDone}
+use Rattle.sponge.specs.Sponge.{tagState, readyToAbsorb, absorbElement, readyToSqueeze, squeezedElement, squeezeElement}
+use Rattle.session.specs.Record.{wiped, openRecord, spongeOf, moved}
 use Rattle.session.specs.Record.{absorbOne, squeezeOne, squeezedOne, absorbAll, squeezeAll}
-use Rattle.session.specs.Soundness.{inLastBlock, positionsAfter, positionsAt, sound}
-use Rattle.session.specs.Calls.{giving, inPattern, absorb, squeeze, finish}
+use Rattle.progress.specs.Positions.{inLastBlock, positionsAfter, positionsAt}
+use Rattle.progress.specs.Place.{soundPlace, inPattern, nextPlace}
+use Rattle.session.specs.Soundness.{sound}
+use Rattle.session.specs.Calls.{giving, recordRows, callRows, absorbRows, finishRows, wipes, answerOf, absorb, squeeze, finish}
 use Rattle.session.specs.declared.Session.{Session}
 use Rattle.runs.specs.Calls.{Call, ABSORB, SQUEEZE, answered, left, leftBy}
 use Rattle.sample_records.specs.SampleRecords.{words4, words5, words6, words7, startedRecord, record4, record5, record6, record7}
@@ -37,24 +41,24 @@ sameList (x ∷ xs) (y ∷ ys) = eqb x y and sameList xs ys
 -- "B1 80000003 80000003 00000003, separator 4142: 80000006000000034142."
 b1 : List Bool
 b1 =
-    eqb (startNumber (0x80000003 ∷ 0x80000003 ∷ 3 ∷ []) (0x41 ∷ 0x42 ∷ [])) accepted
-    ∷ sameList (tagString (0x80000003 ∷ 0x80000003 ∷ 3 ∷ []) (0x41 ∷ 0x42 ∷ [])) (0x80 ∷ 0 ∷ 0 ∷ 6 ∷ 0 ∷ 0 ∷ 0 ∷ 3 ∷ 0x41 ∷ 0x42 ∷ [])
+    eqb (startNumber (opening (0x80000003 ∷ 0x80000003 ∷ 3 ∷ []) (0x41 ∷ 0x42 ∷ []))) accepted
+    ∷ sameList (tagString (opening (0x80000003 ∷ 0x80000003 ∷ 3 ∷ []) (0x41 ∷ 0x42 ∷ []))) (0x80 ∷ 0 ∷ 0 ∷ 6 ∷ 0 ∷ 0 ∷ 0 ∷ 3 ∷ 0x41 ∷ 0x42 ∷ [])
     ∷ []
 
 -- "B2 80000001 00000001, separator 8000000200000002, gives the same string as 80000001 00000001 80000002 00000002 with none."
 b2 : List Bool
 b2 =
-    eqb (startNumber (0x80000001 ∷ 1 ∷ []) (0x80 ∷ 0 ∷ 0 ∷ 2 ∷ 0 ∷ 0 ∷ 0 ∷ 2 ∷ [])) accepted
-    ∷ eqb (startNumber (0x80000001 ∷ 1 ∷ 0x80000002 ∷ 2 ∷ []) []) accepted
+    eqb (startNumber (opening (0x80000001 ∷ 1 ∷ []) (0x80 ∷ 0 ∷ 0 ∷ 2 ∷ 0 ∷ 0 ∷ 0 ∷ 2 ∷ []))) accepted
+    ∷ eqb (startNumber (opening (0x80000001 ∷ 1 ∷ 0x80000002 ∷ 2 ∷ []) [])) accepted
     ∷ sameList
-    (tagString (0x80000001 ∷ 1 ∷ []) (0x80 ∷ 0 ∷ 0 ∷ 2 ∷ 0 ∷ 0 ∷ 0 ∷ 2 ∷ []))
-    (tagString (0x80000001 ∷ 1 ∷ 0x80000002 ∷ 2 ∷ []) [])
+    (tagString (opening (0x80000001 ∷ 1 ∷ []) (0x80 ∷ 0 ∷ 0 ∷ 2 ∷ 0 ∷ 0 ∷ 0 ∷ 2 ∷ [])))
+    (tagString (opening (0x80000001 ∷ 1 ∷ 0x80000002 ∷ 2 ∷ []) []))
     ∷ []
 
 -- "B3 fffffffe 80000001 00000001: accepted, merged ffffffff 00000001."
 b3 : List Bool
 b3 =
-    eqb (startNumber (0xfffffffe ∷ 0x80000001 ∷ 1 ∷ []) []) accepted
+    eqb (startNumber (opening (0xfffffffe ∷ 0x80000001 ∷ 1 ∷ []) [])) accepted
     ∷ sameList (mergedWords (0xfffffffe ∷ 0x80000001 ∷ 1 ∷ [])) (0xffffffff ∷ 1 ∷ [])
     ∷ []
 
@@ -113,14 +117,14 @@ samples = samplesWith (startedRecord words4) (startedRecord words5) (startedReco
 -- The tests pass on the records with computed digests.
 computed : all (λ sample. sample) (samplesWith record4 record5 record6 record7) ≡ true
 unfolding samplesWith b1 b2 b3 b4 b5 b6 b7 b8 b9 b10 sameList fullPermutations byCalls raised
-    record4 record5 record6 record7 words4 words5 words6 words7 alternate soundWords
+    record4 record5 record6 record7 words4 words5 words6 words7 alternate soundWords soundPlaces
     all any _and_ _or_ if_then_else_ same tabulate sum digits number numberAfter
-    isAbsorb lengthOf phaseOf wordOf join merge phases mergedWords tooLong startNumber wordBytes tagString wordAt tagElements
+    isAbsorb lengthOf phaseOf wordOf join merge phases mergedWords tooLong startNumber startRows wordRows firstNumber wordBytes stringOf tagString wordAt tagElements
     constants inverses addConstants raiseAll raiseFirst raise matrix multiply rounds permutation babyBear
-    permute tagState readyToAbsorb absorbElement readyToSqueeze squeezedElement squeezeElement
-    wiped openRecord spongeOf moved phaseWord lastElement nextPhase nextDone absorbOne squeezeOne squeezedOne absorbAll squeezeAll
-    blockCount phasePermutations permutationsAt inLastBlock positionsAfter positionsAt sound
-    giving inPattern absorb squeeze finish answered left leftBy
+    tagState readyToAbsorb absorbElement readyToSqueeze squeezedElement squeezeElement
+    wiped openRecord spongeOf moved nextPlace absorbOne squeezeOne squeezedOne absorbAll squeezeAll
+    blockCount phasePermutations permutationsAt inLastBlock positionsAfter positionsAt soundPlace sound
+    giving inPattern recordRows callRows absorbRows finishRows wipes answerOf absorb squeeze finish answered left leftBy
 computed = refl
 
 -- Every test of every sample passes.

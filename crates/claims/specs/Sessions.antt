@@ -12,14 +12,16 @@ use Rattle.basics.specs.Logic.{all}
 use Rattle.basics.specs.Numbers.{accepted}
 use Rattle.basics.proofs.Cases.{if-true}
 use Rattle.field.specs.Field.{isElement}
-use Rattle.tag.specs.Pattern.{lengthOf, phases, mergedWords}
-use Rattle.tag.specs.Permutations.{permutationsAt}
+use Rattle.words.specs.Words.{lengthOf}
+use Rattle.pattern.specs.Pattern.{phases, mergedWords}
+use Rattle.progress.specs.Permutations.{permutationsAt}
+use Rattle.pattern.specs.Opening.{Opening, opening}
 use Rattle.session.specs.Record.{opened, squeezedAll}
 use Rattle.session.specs.Soundness.{sound}
 use Rattle.session.specs.Calls.{start, absorb, squeeze, squeezeBuffer}
 use Rattle.session.specs.declared.Session.{Session}
 use Rattle.session.proofs.SoundRecord.{parts}
-use Rattle.session.proofs.Counts.{positions-bound}
+use Rattle.progress.proofs.Bounds.{positions-bound}
 use Rattle.runs.specs.Calls.{Call, SQUEEZE, answered, accepts, left, leftBy, OpenAt, OpenLike, absorbed, squeezedIn, squeezed}
 use Rattle.runs.specs.Lengths.{absorbLength}
 use Rattle.runs.specs.Runs.{Run, patternOf, absorbedOf, permutationsOf}
@@ -35,9 +37,9 @@ use Rattle.runs.proofs.SqueezedElements.{squeezed-reduced}
 use Rattle.runs.proofs.Cuts.{absorb-part, absorb-cut, squeeze-part, squeeze-cut, squeezed-cut}
 
 -- START's record is open and sound.
-pub start-gives-sound : (words separator : List ℕ) → start words separator .number ≡ accepted
-    → (start words separator .session .status ≡ opened) × (sound (start words separator .session) ≡ true)
-start-gives-sound words separator e = (start-open words separator e, start-sound words separator e)
+pub start-gives-sound : (o : Opening) → start o .number ≡ accepted
+    → (start o .session .status ≡ opened) × (sound (start o .session) ≡ true)
+start-gives-sound o e = (start-open o e, start-sound o e)
 
 -- Every call, refused or not, leaves an open record sound. (A record that is open and not sound is left as it was.)
 pub calls-leave-sound : (r : Session) (c : Call) → (r .status ≡ opened → sound r ≡ true)
@@ -45,35 +47,35 @@ pub calls-leave-sound : (r : Session) (c : Call) → (r .status ≡ opened → s
 calls-leave-sound r c s o = sound-left r c (λ e. s (eqb-true _ _ e)) (eq-eqb _ _ o)
 
 -- Whatever calls are made on START's record, it is sound as long as it is open.
-pub sessions-stay-sound : (words separator : List ℕ) → start words separator .number ≡ accepted → (cs : List Call)
-    → leftBy (start words separator .session) cs .status ≡ opened → sound (leftBy (start words separator .session) cs) ≡ true
-sessions-stay-sound words separator e cs o = sound-run words separator e cs (eq-eqb _ _ o)
+pub sessions-stay-sound : (o : Opening) → start o .number ≡ accepted → (cs : List Call)
+    → leftBy (start o .session) cs .status ≡ opened → sound (leftBy (start o .session) cs) ≡ true
+sessions-stay-sound o e cs still = sound-run o e cs (eq-eqb _ _ still)
 
 -- "Permutations for d elements done in a phase .. Their sum over phases is the count.": that is the record's count at every place that calls
 -- lead to.
-pub count-at-every-place : (words separator : List ℕ) → start words separator .number ≡ accepted → (cs : List Call)
-    → let r = leftBy (start words separator .session) cs in
-    r .status ≡ opened → r .permutations ≡ permutationsAt (mergedWords words) (r .phase) (r .done)
-count-at-every-place words separator e cs o = count-run words separator e cs (eq-eqb _ _ o)
+pub count-at-every-place : (o : Opening) → start o .number ≡ accepted → (cs : List Call)
+    → let r = leftBy (start o .session) cs in
+    r .status ≡ opened → r .permutations ≡ permutationsAt (mergedWords (o .words)) (r .phase) (r .done)
+count-at-every-place o e cs still = count-run o e cs (eq-eqb _ _ still)
 
 -- A finished session has counted the permutations of its whole merged pattern, whichever calls its list holds.
-pub count-of-session : (a : Run) → permutationsOf a ≡ permutationsAt (mergedWords (a .words)) (length (mergedWords (a .words))) 0
+pub count-of-session : (a : Run) → permutationsOf a ≡ permutationsAt (mergedWords (a .opening .words)) (length (mergedWords (a .opening .words))) 0
 count-of-session = count-whole
 
 -- Every place of an accepted pattern is reached: some calls lead START's record to an open record in any phase, with any number of elements
 -- below that phase's length done, and some to one after the last phase.
-pub every-place-is-reached : (words separator : List ℕ) → start words separator .number ≡ accepted
-    → ((phase done : ℕ) → phase < length (mergedWords words) → done < lengthOf (getD (mergedWords words) phase 0)
-    → (cs : List Call) × OpenAt (leftBy (start words separator .session) cs) phase done)
-    × ((cs : List Call) × OpenAt (leftBy (start words separator .session) cs) (length (mergedWords words)) 0)
-every-place-is-reached words separator e =
-    (λ phase done h l. place-reached words separator e phase done h l, end-reached words separator e)
+pub every-place-is-reached : (o : Opening) → start o .number ≡ accepted
+    → ((phase done : ℕ) → phase < length (mergedWords (o .words)) → done < lengthOf (getD (mergedWords (o .words)) phase 0)
+    → (cs : List Call) × OpenAt (leftBy (start o .session) cs) phase done)
+    × ((cs : List Call) × OpenAt (leftBy (start o .session) cs) (length (mergedWords (o .words))) 0)
+every-place-is-reached o e =
+    (λ phase done h l. place-reached o e phase done h l, end-reached o e)
 
 -- "count and positions are those the steps give at that place": START takes the words of a sound record, and some calls then lead to an open
 -- record that is like it in all but the state. (Words are of 32 bits in every record that a caller can hand over.)
 pub sound-records-are-reached : (r : Session) → ((k : ℕ) → getD (r .words) k 0 < 4294967296) → sound r ≡ true
-    → let words = take (r .count) (r .words) in
-    (start words [] .number ≡ accepted) × ((cs : List Call) × OpenLike (leftBy (start words [] .session) cs) r)
+    → let o = opening (take (r .count) (r .words)) [] in
+    (start o .number ≡ accepted) × ((cs : List Call) × OpenLike (leftBy (start o .session) cs) r)
 sound-records-are-reached r fits e = (pattern-opens r fits (parts r e), like-reached r fits (parts r e))
 
 -- "an absorb and a squeeze position (0 to 8)": neither position of a sound record is above 8.
@@ -88,9 +90,9 @@ pub all-is-absorbed : (a : Run) → length (absorbedOf a) ≡ absorbLength (patt
 all-is-absorbed = all-absorbed
 
 -- Every opened session can be finished by some list of calls, whatever elements below p it is to absorb.
-pub every-session-finishes : (words separator xs : List ℕ) → start words separator .number ≡ accepted
-    → length xs ≡ absorbLength (phases words) → all isElement xs ≡ true
-    → (a : Run) × (a .words ≡ words) × (a .separator ≡ separator) × (absorbedOf a ≡ xs)
+pub every-session-finishes : (o : Opening) (xs : List ℕ) → start o .number ≡ accepted
+    → length xs ≡ absorbLength (phases (o .words)) → all isElement xs ≡ true
+    → (a : Run) × (a .opening ≡ o) × (absorbedOf a ≡ xs)
 every-session-finishes = finishable
 
 -- "A copied record is a fork. Each copy goes on by itself." "A fork's list is that of its original up to the copying, then its own calls.":

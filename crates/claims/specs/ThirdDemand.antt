@@ -10,8 +10,8 @@ use Rattle.runs.proofs.Compared.{demand-3}
 -- exactly when merged patterns and separators are both equal. Where they are, the two lists of blocks are equal exactly when the same
 -- elements were absorbed in the same order; and where the lists of blocks are equal too, the two sessions squeeze the same elements in the
 -- same order with the same number of permutations, whichever calls their lists hold."
-pub third-demand : (a b : Run) → length (a .separator) ≡ length (b .separator)
-    → ((tagOf a ≡ tagOf b) ↔ ((patternOf a ≡ patternOf b) × (a .separator ≡ b .separator)))
+pub third-demand : (a b : Run) → length (a .opening .separator) ≡ length (b .opening .separator)
+    → ((tagOf a ≡ tagOf b) ↔ ((patternOf a ≡ patternOf b) × (a .opening .separator ≡ b .opening .separator)))
     × (tagOf a ≡ tagOf b
     → ((blocksOf a ≡ blocksOf b) ↔ (absorbedOf a ≡ absorbedOf b))
     × (blocksOf a ≡ blocksOf b → (squeezedOf a ≡ squeezedOf b) × (permutationsOf a ≡ permutationsOf b)))

@@ -1,7 +1,7 @@
 // Permutes each state of standard input and prints the answer: its number, then its 24 elements.
 // A line of input is one state: 24 numbers of ten digits, zeros in front, one byte behind each; 242 lines at most.
-// stdin is what tests/permutation_states.py prints, and stdout what another implementation answers to it: `safe_oracle.py permute`, in
-// Python, written from document 01 by other hands.
+// stdin is what tests/permutation_states.py makes, and stdout what the second implementation answers to it, in Python, written from
+// document 01 by other hands (tests/oracle).
 
 ghost use Prim.Native.Nat.{_<_};
 

@@ -6,16 +6,17 @@ use mathlib.Core.List.{List, map}
 use Prim.Native.Nat.{ℕ}
 use lib.ListN.{length}
 use Rattle.sha3.specs.Sponge.{sha3}
-use Rattle.tag.specs.Pattern.{Phase, wordOf, mergedWords}
+use Rattle.words.specs.Words.{Phase, wordOf}
+use Rattle.pattern.specs.Pattern.{mergedWords}
 use Rattle.tag.specs.Elements.{tagElements}
 use Rattle.tag.proofs.ReadBack.{strings-tell}
-use Rattle.session.specs.Sponge.{tagState}
+use Rattle.sponge.specs.Sponge.{tagState}
 use Rattle.session.specs.Record.{openRecord}
 use Rattle.session.specs.Calls.{startRecord}
 use Rattle.session.specs.declared.Session.{Session}
 use Rattle.runs.specs.Blocks.{blocks}
 use Rattle.runs.specs.Lengths.{absorbLength}
-use Rattle.runs.specs.Runs.{Run, opening, tagOf, patternOf, absorbedOf, squeezedOf, blocksOf, permutationsOf}
+use Rattle.runs.specs.Runs.{Run, startedOf, tagOf, patternOf, absorbedOf, squeezedOf, blocksOf, permutationsOf}
 use Rattle.runs.proofs.Opened.{start-accepted, start-record}
 use Rattle.runs.proofs.ElementKinds.{toDo, toAbsorb, absorb-length}
 use Rattle.runs.proofs.WholePattern.{whole-pattern}
@@ -25,29 +26,29 @@ use Rattle.runs.proofs.BlockLists.{blocks-tell}
 -- a finished session has absorbed all that its pattern declares
 pub all-absorbed : (a : Run) → length (absorbedOf a) ≡ absorbLength (patternOf a)
 all-absorbed a =
-    absorbed-length (traced (opening a) (a .before) (a .ends))
-    ∙ ap toAbsorb (whole-pattern (a .words) (a .separator) (a .opens))
+    absorbed-length (traced (startedOf a) (a .before) (a .ends))
+    ∙ ap toAbsorb (whole-pattern (a .opening) (a .opens))
     ∙ absorb-length (patternOf a)
 
 decided-by : {r s t u : Session} {xs vs ys zs : List ℕ} → r ≡ s → xs ≡ vs → Trace (toDo r) r xs ys t → Trace (toDo s) s vs zs u → (ys ≡ zs) × (t ≡ u)
 decided-by e x p q = decided (rw (e, x) at p) q
 
-module _ (a b : Run) (h : length (a .separator) ≡ length (b .separator)) where
-  tags : (tagOf a ≡ tagOf b) ↔ ((patternOf a ≡ patternOf b) × (a .separator ≡ b .separator))
+module _ (a b : Run) (h : length (a .opening .separator) ≡ length (b .opening .separator)) where
+  tags : (tagOf a ≡ tagOf b) ↔ ((patternOf a ≡ patternOf b) × (a .opening .separator ≡ b .opening .separator))
   tags =
-      strings-tell (a .words) (a .separator) (b .words) (b .separator)
-      (start-accepted (a .words) (a .separator) (a .opens)) (start-accepted (b .words) (b .separator) (b .opens)) h
+      strings-tell (a .opening) (b .opening)
+      (start-accepted (a .opening) (a .opens)) (start-accepted (b .opening) (b .opens)) h
 
   module _ (e : tagOf a ≡ tagOf b) where
     one-pattern : patternOf a ≡ patternOf b
     one-pattern = tags .0 e .0
 
-    one-opening : opening a ≡ opening b
+    one-opening : startedOf a ≡ startedOf b
     unfolding startRecord mergedWords
     one-opening =
-        start-record (a .words) (a .separator) (a .opens)
+        start-record (a .opening) (a .opens)
         ∙ ap₂ (λ (string : List ℕ) (ps : List Phase). openRecord (tagState (tagElements (sha3 string))) (map wordOf ps)) e one-pattern
-        ∙ sym (start-record (b .words) (b .separator) (b .opens))
+        ∙ sym (start-record (b .opening) (b .opens))
 
     one-absorbed : blocksOf a ≡ blocksOf b → absorbedOf a ≡ absorbedOf b
     one-absorbed q =
@@ -56,11 +57,11 @@ module _ (a b : Run) (h : length (a .separator) ≡ length (b .separator)) where
 
     one-squeezed : blocksOf a ≡ blocksOf b → (squeezedOf a ≡ squeezedOf b) × (permutationsOf a ≡ permutationsOf b)
     one-squeezed q =
-        let d = decided-by one-opening (one-absorbed q) (traced (opening a) (a .before) (a .ends)) (traced (opening b) (b .before) (b .ends)) in
+        let d = decided-by one-opening (one-absorbed q) (traced (startedOf a) (a .before) (a .ends)) (traced (startedOf b) (b .before) (b .ends)) in
         (d .0, ap (λ (r : Session). r .permutations) (d .1))
 
-pub demand-3 : (a b : Run) → length (a .separator) ≡ length (b .separator)
-    → ((tagOf a ≡ tagOf b) ↔ ((patternOf a ≡ patternOf b) × (a .separator ≡ b .separator)))
+pub demand-3 : (a b : Run) → length (a .opening .separator) ≡ length (b .opening .separator)
+    → ((tagOf a ≡ tagOf b) ↔ ((patternOf a ≡ patternOf b) × (a .opening .separator ≡ b .opening .separator)))
     × (tagOf a ≡ tagOf b
     → ((blocksOf a ≡ blocksOf b) ↔ (absorbedOf a ≡ absorbedOf b))
     × (blocksOf a ≡ blocksOf b → (squeezedOf a ≡ squeezedOf b) × (permutationsOf a ≡ permutationsOf b)))

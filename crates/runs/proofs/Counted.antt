@@ -9,14 +9,16 @@ use lib.ListN.{length, getD, replicate}
 use Rattle.basics.specs.Numbers.{accepted}
 use Rattle.basics.proofs.Sums.{sum-same}
 use Rattle.basics.proofs.Zeros.{zeros-behind}
-use Rattle.tag.specs.Pattern.{lengthOf, mergedWords}
-use Rattle.tag.specs.Permutations.{phasePermutations, permutationsAt}
+use Rattle.words.specs.Words.{lengthOf}
+use Rattle.pattern.specs.Pattern.{mergedWords}
+use Rattle.pattern.specs.Opening.{Opening}
+use Rattle.progress.specs.Permutations.{phasePermutations, permutationsAt}
 use Rattle.session.specs.Record.{opened, openRecord}
 use Rattle.session.specs.Calls.{startRecord, start}
 use Rattle.session.specs.declared.Session.{Session}
 use Rattle.session.proofs.SoundRecord.{parts, none-done}
 use Rattle.runs.specs.Calls.{Call, leftBy}
-use Rattle.runs.specs.Runs.{Run, opening, permutationsOf}
+use Rattle.runs.specs.Runs.{Run, startedOf, permutationsOf}
 use Rattle.runs.proofs.Outcomes.{finish-ended}
 use Rattle.runs.proofs.Opened.{start-record, sound-run}
 use Rattle.runs.proofs.SamePattern.{same-left-by}
@@ -30,28 +32,28 @@ permutations-same vs ws h phase done =
     (sum-same phase _ _ (λ k _. ap (λ (w : ℕ). phasePermutations w (lengthOf w)) (h k)))
     (ap (λ (w : ℕ). phasePermutations w done) (h phase))
 
-module _ (ws separator : List ℕ) (e : start ws separator .number ≡ accepted) where
-  pub start-words : start ws separator .session .words ≡ mergedWords ws ++ replicate (64 - length (mergedWords ws)) 0
+module _ (o : Opening) (e : start o .number ≡ accepted) where
+  pub start-words : start o .session .words ≡ mergedWords (o .words) ++ replicate (64 - length (mergedWords (o .words))) 0
   unfolding startRecord openRecord
-  start-words = ap (λ (r : Session). r .words) (start-record ws separator e)
+  start-words = ap (λ (r : Session). r .words) (start-record o e)
 
-  pub start-count : start ws separator .session .count ≡ length (mergedWords ws)
+  pub start-count : start o .session .count ≡ length (mergedWords (o .words))
   unfolding startRecord openRecord
-  start-count = ap (λ (r : Session). r .count) (start-record ws separator e)
+  start-count = ap (λ (r : Session). r .count) (start-record o e)
 
   pub count-run : (cs : List Call)
-      → let r = leftBy (start ws separator .session) cs in
-      eqb (r .status) opened ≡ true → r .permutations ≡ permutationsAt (mergedWords ws) (r .phase) (r .done)
-  count-run cs o =
-      let r = leftBy (start ws separator .session) cs in
-      parts r (sound-run ws separator e cs o) .counted
-      ∙ ap (λ (vs : List ℕ). permutationsAt vs (r .phase) (r .done)) (same-left-by _ cs o .words ∙ start-words)
-      ∙ permutations-same _ _ (zeros-behind (mergedWords ws) (64 - length (mergedWords ws))) (r .phase) (r .done)
+      → let r = leftBy (start o .session) cs in
+      eqb (r .status) opened ≡ true → r .permutations ≡ permutationsAt (mergedWords (o .words)) (r .phase) (r .done)
+  count-run cs still =
+      let r = leftBy (start o .session) cs in
+      parts r (sound-run o e cs still) .counted
+      ∙ ap (λ (vs : List ℕ). permutationsAt vs (r .phase) (r .done)) (same-left-by _ cs still .words ∙ start-words)
+      ∙ permutations-same _ _ (zeros-behind (mergedWords (o .words)) (64 - length (mergedWords (o .words)))) (r .phase) (r .done)
 
-pub count-whole : (a : Run) → permutationsOf a ≡ permutationsAt (mergedWords (a .words)) (length (mergedWords (a .words))) 0
+pub count-whole : (a : Run) → permutationsOf a ≡ permutationsAt (mergedWords (a .opening .words)) (length (mergedWords (a .opening .words))) 0
 count-whole a =
-    let r = leftBy (opening a) (a .before) in
+    let r = leftBy (startedOf a) (a .before) in
     let ends = finish-ended r (a .ends) in
-    let place = ends .ended ∙ same-left-by _ (a .before) (ends .opens) .count ∙ start-count (a .words) (a .separator) (a .opens) in
-    count-run (a .words) (a .separator) (a .opens) (a .before) (ends .opens)
-    ∙ ap₂ (permutationsAt (mergedWords (a .words))) place (none-done r (parts r (ends .sounds)) (ends .ended))
+    let place = ends .ended ∙ same-left-by _ (a .before) (ends .opens) .count ∙ start-count (a .opening) (a .opens) in
+    count-run (a .opening) (a .opens) (a .before) (ends .opens)
+    ∙ ap₂ (permutationsAt (mergedWords (a .opening .words))) place (none-done r (parts r (ends .sounds)) (ends .ended))

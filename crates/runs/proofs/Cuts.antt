@@ -11,15 +11,16 @@ use lib.ListN.{length, length-append}
 use Rattle.basics.specs.Logic.{all}
 use Rattle.basics.specs.Numbers.{accepted}
 use Rattle.basics.proofs.Cases.{all-append}
-use Rattle.field.specs.Field.{p}
+use Rattle.field.specs.Field.{isElement}
 use Rattle.session.specs.Record.{opened, squeezedOne, absorbOne, squeezeOne, absorbAll, squeezeAll, squeezedAll}
 use Rattle.session.specs.Calls.{giving, absorb, squeeze}
 use Rattle.session.specs.declared.Session.{Session}
 use Rattle.session.specs.declared.Answer.{Answer}
 use Rattle.session.proofs.SoundRecord.{parts, whole}
-use Rattle.session.proofs.Pattern.{InPhase}
+use Rattle.session.proofs.Folds.{InPhase}
 use Rattle.runs.proofs.Places.{in-phase-next}
-use Rattle.runs.proofs.Outcomes.{Takes, absorb-takes, squeeze-takes, absorb-accepted, squeeze-accepted}
+use Rattle.session.proofs.Numbers.{Takes}
+use Rattle.runs.proofs.Outcomes.{absorb-takes, squeeze-takes, absorb-accepted, squeeze-accepted}
 use Rattle.runs.proofs.SoundCalls.{absorb-all-kept, squeeze-all-kept}
 use Rattle.runs.proofs.SamePattern.{absorb-all-same, squeeze-all-same}
 
@@ -69,7 +70,7 @@ module _ (r : Session) (xs ys : List ℕ) (e : absorb r (xs ++ ys) .number ≡ a
   takes-both : Takes r true (length xs + length ys)
   takes-both = rw (length-append xs ys) at (absorb-takes r (xs ++ ys) e .0)
 
-  reduced-both : (all (λ x. ltb x p) xs ≡ true) × (all (λ x. ltb x p) ys ≡ true)
+  reduced-both : (all isElement xs ≡ true) × (all isElement ys ≡ true)
   reduced-both = all-append _ xs ys (absorb-takes r (xs ++ ys) e .1)
 
   absorb-first : absorb r xs ≡ giving accepted (absorbAll r xs)

@@ -12,9 +12,10 @@ use lib.ListN.{getD, drop, replicate, length-replicate}
 use lib.Seq.{drop-at, drop-nil}
 use Rattle.basics.specs.Logic.{if_then_else_, all}
 use Rattle.basics.proofs.Cases.{and-left, and-right}
-use Rattle.tag.specs.Pattern.{isAbsorb, lengthOf, Phase, phaseOf}
-use Rattle.session.specs.Sponge.{Sponge}
-use Rattle.session.specs.Record.{moved, phaseWord, nextPhase, nextDone}
+use Rattle.words.specs.Words.{isAbsorb, lengthOf, Phase, phaseOf}
+use Rattle.sponge.specs.declared.Sponge.{Sponge}
+use Rattle.progress.specs.declared.place.Place.{Place}
+use Rattle.session.specs.Record.{moved, phaseWord, placeNext}
 use Rattle.session.specs.declared.Session.{Session}
 use Rattle.session.proofs.SoundRecord.{Sound}
 use Rattle.runs.specs.Lengths.{absorbLength}
@@ -70,15 +71,14 @@ module _ (r : Session) (k : Bool) (e : isAbsorb (phaseWord r) ≡ k) (h : r .don
   laterKinds = kinds (map phaseOf (drop (suc (r .phase)) (r .words)))
 
   kinds-here : kinds (map phaseOf (drop (r .phase) (r .words))) ≡ phaseKinds ++ laterKinds
-  unfolding phaseWord
   kinds-here = rw (← e) (kinds-at (r .words) (r .phase) (omega arith))
 
   -- the first is of the phase's kind, and the others are those of the record after one element
-  pub next-to-do : (t : Sponge) → toDo r ≡ k ∷ toDo (moved r t (nextPhase r) (nextDone r))
+  pub next-to-do : (t : Sponge) → toDo r ≡ k ∷ toDo (moved r t (placeNext r))
   unfolding toDo moved
   next-to-do t =
       let here = ap (drop (r .done)) kinds-here ∙ drop-replicate (lengthOf (phaseWord r)) (r .done) k laterKinds h in
-      next-place r (λ (i d : ℕ). toDo r ≡ k ∷ toDo (moved r t i d))
+      next-place r (λ (at : Place). toDo r ≡ k ∷ toDo (moved r t at))
       (λ last.
       here ∙ ap (λ (ks : List Bool). k ∷ ks)
       (drop-at phaseKinds laterKinds (suc (r .done)) (length-replicate (lengthOf (phaseWord r)) k ∙ sym last)))

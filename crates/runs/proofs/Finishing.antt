@@ -13,20 +13,25 @@ use lib.Seq.{take-all}
 use Rattle.basics.specs.Logic.{if_then_else_, all}
 use Rattle.basics.specs.Numbers.{accepted}
 use Rattle.basics.proofs.Cases.{cases, and-left, and-right, and-both}
-use Rattle.field.specs.Field.{p}
-use Rattle.tag.specs.Pattern.{isAbsorb, phases}
-use Rattle.session.specs.Sponge.{Sponge, absorbElement, squeezeElement}
-use Rattle.session.specs.Record.{opened, spongeOf, moved, phaseWord, nextPhase, nextDone, absorbOne, squeezeOne, absorbAll, squeezeAll}
+use Rattle.field.specs.Field.{p, isElement}
+use Rattle.words.specs.Words.{isAbsorb}
+use Rattle.pattern.specs.Pattern.{phases}
+use Rattle.poseidon.specs.Permutation.{babyBear}
+use Rattle.sponge.specs.Sponge.{absorbElement, squeezeElement}
+use Rattle.sponge.specs.declared.Sponge.{Sponge}
+use Rattle.session.specs.Record.{opened, spongeOf, moved, phaseWord, placeNext, absorbOne, squeezeOne, absorbAll, squeezeAll}
+use Rattle.pattern.specs.Opening.{Opening}
 use Rattle.session.specs.Calls.{giving, absorb, squeeze, finish, start}
 use Rattle.session.specs.declared.Session.{Session}
 use Rattle.session.specs.declared.Answer.{Answer}
 use Rattle.session.proofs.SoundRecord.{Sound, parts, whole, element-left}
-use Rattle.session.proofs.Pattern.{InPhase}
+use Rattle.session.proofs.Folds.{InPhase}
 use Rattle.runs.specs.Calls.{Call, ABSORB, SQUEEZE, FINISH, answered, accepts, left, leftBy, absorbedIn, absorbed}
 use Rattle.runs.specs.Lengths.{absorbLength}
 use Rattle.runs.specs.Runs.{Run, absorbedOf}
 use Rattle.runs.proofs.Kept.{absorb-kept, squeeze-kept}
-use Rattle.runs.proofs.Outcomes.{Takes, Ended, absorb-accepted, squeeze-accepted, finish-accepted}
+use Rattle.session.proofs.Numbers.{Takes}
+use Rattle.runs.proofs.Outcomes.{Ended, absorb-accepted, squeeze-accepted, finish-accepted}
 use Rattle.runs.proofs.Opened.{start-open, start-sound}
 use Rattle.runs.proofs.ElementKinds.{kinds, toDo, toAbsorb, absorb-length, next-to-do, none-to-do}
 use Rattle.runs.proofs.WholePattern.{whole-pattern}
@@ -58,7 +63,7 @@ module _ (r : Session) (o : eqb (r .status) opened ≡ true) (s : Sound r) where
         let past = ltb-false (r .phase) (r .count) l in
         absurd (nil≢cons (sym (none-to-do r s (omega arith)) ∙ e))
 
-    split : (t : Sponge) → isAbsorb (phaseWord r) ∷ toDo (moved r t (nextPhase r) (nextDone r)) ≡ k ∷ ks
+    split : (t : Sponge) → isAbsorb (phaseWord r) ∷ toDo (moved r t (placeNext r)) ≡ k ∷ ks
     split t = sym (next-to-do r _ refl (element-left r s before-end) t) ∙ e
 
     in-phase : InPhase r k 1
@@ -68,7 +73,7 @@ module _ (r : Session) (o : eqb (r .status) opened ≡ true) (s : Sound r) where
     takes : Takes r k 1
     takes = record { opens = o; sounds = whole r s; fits = λ _. in-phase }
 
-    still-to-do : (t : Sponge) → toDo (moved r t (nextPhase r) (nextDone r)) ≡ ks
+    still-to-do : (t : Sponge) → toDo (moved r t (placeNext r)) ≡ ks
     still-to-do t = tail-eq-of-cons-eq (split t)
 
   absorbs-one : (x : ℕ) (ks : List Bool) → toDo r ≡ true ∷ ks → ltb x p ≡ true → absorb r (x ∷ []) ≡ giving accepted (absorbOne r x)
@@ -80,7 +85,7 @@ module _ (r : Session) (o : eqb (r .status) opened ≡ true) (s : Sound r) where
   squeezes-one ks e = squeeze-accepted r 1 (takes false ks e)
 
 finishing : (ks : List Bool) (xs : List ℕ) (r : Session) → eqb (r .status) opened ≡ true → Sound r → toDo r ≡ ks
-    → length xs ≡ toAbsorb ks → all (λ x. ltb x p) xs ≡ true
+    → length xs ≡ toAbsorb ks → all isElement xs ≡ true
     → (finish (leftBy r (callsFor ks xs)) .number ≡ accepted) × (absorbed r (callsFor ks xs ++ (FINISH ∷ [])) ≡ xs)
 unfolding callsFor toAbsorb leftBy left answered absorbed absorbedIn accepts giving if_then_else_ absorbOne squeezeOne moved all
 finishing [] xs r o s e l b =
@@ -90,7 +95,7 @@ finishing (true ∷ ks) (x ∷ xs) r o s e l b =
     let i = in-phase r o s true ks e in
     let a = absorbs-one r o s x ks e (and-left _ _ b) in
     let later =
-    finishing ks xs (absorbOne r x) o (absorb-kept r s (i .before-end) (i .kind) x) (still-to-do r o s true ks e (absorbElement (spongeOf r) x))
+    finishing ks xs (absorbOne r x) o (absorb-kept r s (i .before-end) (i .kind) x) (still-to-do r o s true ks e (absorbElement babyBear (spongeOf r) x))
     (suc-inj l) (and-right _ _ b) in
     let rest = callsFor ks xs ++ (FINISH ∷ []) in (
       ap (λ (v : Answer). finish (leftBy (v .session) (callsFor ks xs)) .number) a ∙ later .0,
@@ -101,18 +106,18 @@ finishing (false ∷ ks) xs r o s e l b =
     let i = in-phase r o s false ks e in
     let a = squeezes-one r o s ks e in
     let later =
-    finishing ks xs (squeezeOne r) o (squeeze-kept r s (i .before-end) (i .kind)) (still-to-do r o s false ks e (squeezeElement (spongeOf r))) l b in (
+    finishing ks xs (squeezeOne r) o (squeeze-kept r s (i .before-end) (i .kind)) (still-to-do r o s false ks e (squeezeElement babyBear (spongeOf r))) l b in (
       ap (λ (v : Answer). finish (leftBy (v .session) (callsFor ks xs)) .number) a ∙ later .0,
       ap (λ (v : Answer). absorbed (v .session) (callsFor ks xs ++ (FINISH ∷ []))) a ∙ later .1,
     )
 
-pub finishable : (ws separator xs : List ℕ) → start ws separator .number ≡ accepted → length xs ≡ absorbLength (phases ws)
-    → all (λ x. ltb x p) xs ≡ true
-    → (a : Run) × (a .words ≡ ws) × (a .separator ≡ separator) × (absorbedOf a ≡ xs)
-finishable ws separator xs e l b =
-    let ks = kinds (phases ws) in
-    let r = start ws separator .session in
+pub finishable : (o : Opening) (xs : List ℕ) → start o .number ≡ accepted → length xs ≡ absorbLength (phases (o .words))
+    → all isElement xs ≡ true
+    → (a : Run) × (a .opening ≡ o) × (absorbedOf a ≡ xs)
+finishable o xs e l b =
+    let ks = kinds (phases (o .words)) in
+    let r = start o .session in
     let f =
-    finishing ks xs r (eq-eqb _ _ (start-open ws separator e)) (parts r (start-sound ws separator e)) (whole-pattern ws separator e)
-    (l ∙ sym (absorb-length (phases ws))) b in
-    (record { words = ws; separator = separator; before = callsFor ks xs; opens = e; ends = f .0 }, refl, refl, f .1)
+    finishing ks xs r (eq-eqb _ _ (start-open o e)) (parts r (start-sound o e)) (whole-pattern o e)
+    (l ∙ sym (absorb-length (phases (o .words)))) b in
+    (record { opening = o; before = callsFor ks xs; opens = e; ends = f .0 }, refl, f .1)

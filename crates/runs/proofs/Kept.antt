@@ -5,22 +5,26 @@ use mathlib.Core.Bool.{Bool, true, false, not, true≢false}
 use Prim.Native.Nat.{ℕ, zero, suc, _+_, _≤_, _<_}
 use native.Mathlib.Omega.{arith}
 use borrow.Author.Tests.{ltb-true, eqb-false, lt-ltb, not-true, not-false}
-use lib.Dec.{ltb, eqb}
+use lib.Dec.{ltb, eqb, lit<}
 use lib.ListN.{getD}
 use Rattle.basics.specs.Logic.{if_then_else_, all}
 use Rattle.basics.specs.Lists.{sum}
 use Rattle.basics.proofs.Cases.{by, if-true}
-use Rattle.field.specs.Field.{p}
-use Rattle.tag.specs.Pattern.{isAbsorb, lengthOf}
-use Rattle.tag.specs.Permutations.{phasePermutations, permutationsAt}
-use Rattle.tag.proofs.PermutationCounts.{wholePhase}
-use Rattle.session.specs.Sponge.{rate, Sponge, readyToAbsorb, absorbElement, readyToSqueeze, squeezeElement}
-use Rattle.session.specs.Record.{spongeOf, moved, phaseWord, nextPhase, nextDone, absorbOne, squeezeOne}
-use Rattle.session.specs.Soundness.{positionsAfter, positionsAt}
+use Rattle.field.specs.Field.{isElement}
+use Rattle.words.specs.Words.{isAbsorb, lengthOf}
+use Rattle.progress.specs.Permutations.{phasePermutations, permutationsAt}
+use Rattle.progress.proofs.PermutationCounts.{wholePhase}
+use Rattle.basics.specs.Figures.{rate}
+use Rattle.poseidon.specs.Permutation.{babyBear}
+use Rattle.sponge.specs.Sponge.{readyToAbsorb, absorbElement, readyToSqueeze, squeezeElement}
+use Rattle.sponge.specs.declared.Sponge.{Sponge}
+use Rattle.progress.specs.declared.place.Place.{Place}
+use Rattle.session.specs.Record.{spongeOf, moved, phaseWord, placeNext, absorbOne, squeezeOne}
+use Rattle.progress.specs.Positions.{positionsAfter, positionsAt}
 use Rattle.session.specs.declared.Session.{Session}
-use Rattle.session.proofs.Elements.{sum-reduced}
+use Rattle.sponge.proofs.Elements.{sum-reduced}
 use Rattle.session.proofs.SoundRecord.{Sound, element-left}
-use Rattle.session.proofs.SoundPattern.{word-long, begins-absorbing, turns}
+use Rattle.pattern.proofs.SoundPattern.{word-long, begins-absorbing, turns}
 use Rattle.runs.proofs.Positions.{position, no-permutations, positions-absorb, positions-squeeze, absorb-position, squeeze-position, squeeze-keeps-absorb}
 use Rattle.runs.proofs.ReadySponge.{Ready, ready-to-absorb, ready-to-squeeze}
 use Rattle.runs.proofs.Places.{next-place}
@@ -30,27 +34,28 @@ abbrev permutationsBefore : Session → ℕ
 permutationsBefore r = sum (r .phase) (wholePhase (r .words))
 
 module _ (r : Session) (s : Sound r) (h : r .phase < r .count) where
-  positions-next : positionsAt (r .words) (nextPhase r) (nextDone r) ≡ positionsAfter (phaseWord r) (suc (r .done))
-  unfolding positionsAt phaseWord
+  positions-next : positionsAt (r .words) (placeNext r .phase) (placeNext r .done) ≡ positionsAfter (phaseWord r) (suc (r .done))
+  unfolding positionsAt
   positions-next =
-      next-place r (λ (k d : ℕ). positionsAt (r .words) k d ≡ positionsAfter (phaseWord r) (suc (r .done)))
+      next-place r (λ (at : Place). positionsAt (r .words) (at .phase) (at .done) ≡ positionsAfter (phaseWord r) (suc (r .done)))
       (λ e. ap (positionsAfter (phaseWord r)) (sym e))
       λ _. refl
 
-  permutations-next : permutationsAt (r .words) (nextPhase r) (nextDone r) ≡ permutationsBefore r + phasePermutations (phaseWord r) (suc (r .done))
-  unfolding permutationsAt sum phaseWord
+  permutations-next : permutationsAt (r .words) (placeNext r .phase) (placeNext r .done) ≡ permutationsBefore r + phasePermutations (phaseWord r) (suc (r .done))
+  unfolding permutationsAt sum
   permutations-next =
-      next-place r (λ (k d : ℕ). permutationsAt (r .words) k d ≡ permutationsBefore r + phasePermutations (phaseWord r) (suc (r .done)))
+      next-place r (λ (at : Place). permutationsAt (r .words) (at .phase) (at .done) ≡ permutationsBefore r + phasePermutations (phaseWord r) (suc (r .done)))
       (λ e. rw (e, no-permutations) (omega arith))
       λ _. refl
 
-  within-next : nextPhase r ≤ r .count
-  within-next = next-place r (λ (k _ : ℕ). k ≤ r .count) (λ _. h) λ _. s .within
+  within-next : placeNext r .phase ≤ r .count
+  within-next = next-place r (λ (at : Place). at .phase ≤ r .count) (λ _. h) λ _. s .within
 
-  place-next : (if ltb (nextPhase r) (r .count) then ltb (nextDone r) (lengthOf (getD (r .words) (nextPhase r) 0)) else eqb (nextDone r) 0) ≡ true
-  unfolding phaseWord
+  place-next : (if ltb (placeNext r .phase) (r .count) then ltb (placeNext r .done) (lengthOf (getD (r .words) (placeNext r .phase) 0)) else eqb (placeNext r .done) 0)
+      ≡ true
   place-next =
-      next-place r (λ (k d : ℕ). (if ltb k (r .count) then ltb d (lengthOf (getD (r .words) k 0)) else eqb d 0) ≡ true)
+      next-place r
+      (λ (at : Place). (if ltb (at .phase) (r .count) then ltb (at .done) (lengthOf (getD (r .words) (at .phase) 0)) else eqb (at .done) 0) ≡ true)
       (λ _.
       by (λ (b : Bool). b ≡ true) _ _ _
       (λ l. lt-ltb 0 _ (word-long (r .words) (r .count) (s .long) (s .pattern) (suc (r .phase)) (ltb-true _ _ l)))
@@ -59,12 +64,12 @@ module _ (r : Session) (s : Sound r) (h : r .phase < r .count) where
 
   -- the record with a sponge that has what the steps give at the next place
   moved-sound : (t : Sponge)
-      → all (λ x. ltb x p) (t .state) ≡ true
+      → all isElement (t .state) ≡ true
       → t .permutations ≡ permutationsBefore r + phasePermutations (phaseWord r) (suc (r .done))
-      → t .absorbPosition ≡ positionsAfter (phaseWord r) (suc (r .done)) .absorb
-      → t .squeezePosition ≡ positionsAfter (phaseWord r) (suc (r .done)) .squeeze
-      → Sound (moved r t (nextPhase r) (nextDone r))
-  unfolding moved phaseWord
+      → t .«absorb_position» ≡ positionsAfter (phaseWord r) (suc (r .done)) .absorb
+      → t .«squeeze_position» ≡ positionsAfter (phaseWord r) (suc (r .done)) .squeeze
+      → Sound (moved r t (placeNext r))
+  unfolding moved
   moved-sound t b c a q =
       record {
         long = s .long;
@@ -79,54 +84,53 @@ module _ (r : Session) (s : Sound r) (h : r .phase < r .count) where
       }
 
   counted-here : spongeOf r .permutations ≡ permutationsBefore r + phasePermutations (phaseWord r) (r .done)
-  unfolding spongeOf permutationsAt phaseWord
+  unfolding spongeOf permutationsAt
   counted-here = s .counted
 
   -- the phase before is of the other kind
   kind-before : (k : Bool) → isAbsorb (phaseWord r) ≡ k → (j : ℕ) → r .phase ≡ suc j → not (isAbsorb (getD (r .words) j 0)) ≡ k
-  unfolding phaseWord
   kind-before k e j q =
       sym (turns (r .words) (r .count) (s .long) (s .pattern) j (omega arith)) ∙ ap (λ (i : ℕ). isAbsorb (getD (r .words) i 0)) (sym q) ∙ e
 
   module _ (e : isAbsorb (phaseWord r) ≡ true) where
-    absorbs-here : spongeOf r .absorbPosition ≡ position 0 (r .done)
-    unfolding spongeOf phaseWord
+    absorbs-here : spongeOf r .«absorb_position» ≡ position 0 (r .done)
+    unfolding spongeOf
     absorbs-here = s .absorbs-at ∙ absorb-position (r .words) (r .phase) (r .done) e (λ j q. not-true _ (kind-before true e j q))
 
-    ready-absorb : Ready (phaseWord r) (r .done) (permutationsBefore r) (readyToAbsorb (spongeOf r) .absorbPosition) (readyToAbsorb (spongeOf r))
-    unfolding spongeOf
-    ready-absorb = ready-to-absorb (phaseWord r) (r .done) (permutationsBefore r) (spongeOf r) (s .reduced) counted-here e absorbs-here
+    ready-absorb : Ready babyBear (phaseWord r) (r .done) (permutationsBefore r) (readyToAbsorb babyBear (spongeOf r) .«absorb_position») (readyToAbsorb babyBear (spongeOf r))
+    unfolding spongeOf babyBear
+    ready-absorb = ready-to-absorb babyBear (lit< tt) (phaseWord r) (r .done) (permutationsBefore r) (spongeOf r) (s .reduced) counted-here e absorbs-here
 
     pub absorb-kept : (x : ℕ) → Sound (absorbOne r x)
-    unfolding absorbOne absorbElement
+    unfolding absorbOne absorbElement babyBear
     absorb-kept x =
         let a = positions-absorb (phaseWord r) (suc (r .done)) e in
         moved-sound _
-        (sum-reduced _ _ _ (ready-absorb .reduced))
+        (sum-reduced babyBear (lit< tt) _ _ _ (ready-absorb .reduced))
         (ready-absorb .counted)
         (ready-absorb .after ∙ sym (ap (λ i. i .absorb) a))
         (sym (ap (λ i. i .squeeze) a))
 
   module _ (e : isAbsorb (phaseWord r) ≡ false) where
-    squeezes-here : (k : ℕ) → r .phase ≡ k → spongeOf r .squeezePosition ≡ position rate (r .done)
-    unfolding spongeOf phaseWord
+    squeezes-here : (k : ℕ) → r .phase ≡ k → spongeOf r .«squeeze_position» ≡ position rate (r .done)
+    unfolding spongeOf
     squeezes-here zero q = absurd (true≢false (sym (begins-absorbing (r .words) (r .count) (s .long) (s .pattern) (omega arith)) ∙ (rw q at e)))
     squeezes-here (suc j) q =
         (rw q at (s .squeezes-at)) ∙ squeeze-position (r .words) j (r .done) (rw q at e) (not-false _ (kind-before false e j q))
 
-    ready-squeeze : Ready (phaseWord r) (r .done) (permutationsBefore r) (readyToSqueeze (spongeOf r) .squeezePosition) (readyToSqueeze (spongeOf r))
-    unfolding spongeOf
+    ready-squeeze : Ready babyBear (phaseWord r) (r .done) (permutationsBefore r) (readyToSqueeze babyBear (spongeOf r) .«squeeze_position») (readyToSqueeze babyBear (spongeOf r))
+    unfolding spongeOf babyBear
     ready-squeeze =
-        ready-to-squeeze (phaseWord r) (r .done) (permutationsBefore r) (spongeOf r) (s .reduced) counted-here e (squeezes-here (r .phase) refl)
+        ready-to-squeeze babyBear (lit< tt) (phaseWord r) (r .done) (permutationsBefore r) (spongeOf r) (s .reduced) counted-here e (squeezes-here (r .phase) refl)
 
-    absorbs-at-start : readyToSqueeze (spongeOf r) .absorbPosition ≡ 0
-    unfolding readyToSqueeze spongeOf phaseWord
+    absorbs-at-start : readyToSqueeze babyBear (spongeOf r) .«absorb_position» ≡ 0
+    unfolding readyToSqueeze spongeOf
     absorbs-at-start =
-        by (λ (t : Sponge). t .absorbPosition ≡ 0) _ _ _ (λ _. refl)
+        by (λ (t : Sponge). t .«absorb_position» ≡ 0) _ _ _ (λ _. refl)
         λ q. s .absorbs-at ∙ squeeze-keeps-absorb (r .words) (r .phase) (r .done) e (λ z. eqb-false _ _ q (squeezes-here (r .phase) refl ∙ z))
 
     pub squeeze-kept : Sound (squeezeOne r)
-    unfolding squeezeOne squeezeElement
+    unfolding squeezeOne squeezeElement babyBear
     squeeze-kept =
         let a = positions-squeeze (phaseWord r) (suc (r .done)) e in
         moved-sound _

@@ -13,21 +13,22 @@ use Rattle.basics.specs.Logic.{_and_, all}
 use Rattle.basics.specs.Lists.{tabulate, sum}
 use Rattle.basics.specs.Numbers.{accepted}
 use Rattle.basics.proofs.Cases.{by}
-use Rattle.field.specs.Field.{p}
-use Rattle.tag.specs.Pattern.{mergedWords, soundWords}
-use Rattle.tag.specs.Start.{startNumber}
+use Rattle.field.specs.Field.{p, isElement}
+use Rattle.pattern.specs.Pattern.{mergedWords, soundWords}
+use Rattle.pattern.specs.Opening.{Opening, startNumber}
 use Rattle.tag.specs.Elements.{tagElements}
-use Rattle.tag.specs.Permutations.{permutationsAt}
-use Rattle.tag.proofs.MergedWords.{merged-sound}
-use Rattle.session.specs.Sponge.{tagState}
+use Rattle.progress.specs.Permutations.{permutationsAt}
+use Rattle.pattern.proofs.MergedWords.{merged-sound}
+use Rattle.sponge.specs.Sponge.{tagState}
 use Rattle.session.specs.Record.{opened, openRecord, phaseWord}
-use Rattle.session.specs.Soundness.{positionsAt, sound}
+use Rattle.progress.specs.Positions.{positionsAt}
+use Rattle.session.specs.Soundness.{sound}
 use Rattle.session.specs.Calls.{giving, startRecord, start}
 use Rattle.session.specs.declared.Session.{Session}
 use Rattle.session.specs.declared.Answer.{Answer}
 use Rattle.session.proofs.Opening.{start-opens}
 use Rattle.session.proofs.SoundRecord.{Sound, whole}
-use Rattle.session.proofs.SoundPattern.{word-long}
+use Rattle.pattern.proofs.SoundPattern.{word-long}
 use Rattle.runs.specs.Calls.{Call, leftBy}
 use Rattle.runs.proofs.Positions.{no-permutations}
 use Rattle.runs.proofs.SoundCalls.{sound-left-by}
@@ -35,7 +36,7 @@ use Rattle.runs.proofs.SoundCalls.{sound-left-by}
 low-bits-reduced : (n : ℕ) → ltb (n % 1073741824) p ≡ true
 low-bits-reduced n = lt-ltb (n % 1073741824) p (omega arith)
 
-tag-state-reduced : (digest : List ℕ) → all (λ x. ltb x p) (tagState (tagElements digest)) ≡ true
+tag-state-reduced : (digest : List ℕ) → all isElement (tagState (tagElements digest)) ≡ true
 unfolding tagState tagElements tabulate all _and_
 tag-state-reduced digest = simp low-bits-reduced
 
@@ -45,12 +46,12 @@ zeros zero = refl
 zeros (suc n) = zeros n
 
 -- the record of a state and merged words
-module _ (state ws : List ℕ) (reduced : all (λ x. ltb x p) state ≡ true) (pattern : soundWords ws ≡ true) where
+module _ (state ws : List ℕ) (reduced : all isElement state ≡ true) (pattern : soundWords ws ≡ true) where
   abbrev unused : List ℕ
   unused = replicate (64 - length ws) 0
 
   open-sound : Sound (openRecord state ws)
-  unfolding openRecord phaseWord positionsAt permutationsAt sum
+  unfolding openRecord positionsAt permutationsAt sum
   open-sound =
       let long : length ws ≤ length (ws ++ unused) = omega (arith, length-append ws unused) in
       let sounds = ap soundWords (take-append-seam ws unused) ∙ pattern in
@@ -66,29 +67,29 @@ module _ (state ws : List ℕ) (reduced : all (λ x. ltb x p) state ≡ true) (p
         squeezes-at = refl;
       }
 
-module _ (ws separator : List ℕ) where
-  pub start-accepted : start ws separator .number ≡ accepted → startNumber ws separator ≡ accepted
+module _ (o : Opening) where
+  pub start-accepted : start o .number ≡ accepted → startNumber o ≡ accepted
   unfolding start giving
-  start-accepted = by (λ (a : Answer). a .number ≡ accepted → startNumber ws separator ≡ accepted) _ _ _ (λ e _. eqb-true _ _ e) λ _ e. e
+  start-accepted = by (λ (a : Answer). a .number ≡ accepted → startNumber o ≡ accepted) _ _ _ (λ e _. eqb-true _ _ e) λ _ e. e
 
-  pub accepted-start : startNumber ws separator ≡ accepted → start ws separator .number ≡ accepted
+  pub accepted-start : startNumber o ≡ accepted → start o .number ≡ accepted
   unfolding giving
-  accepted-start e = ap (λ (a : Answer). a .number) (start-opens ws separator e)
+  accepted-start e = ap (λ (a : Answer). a .number) (start-opens o e)
 
-  module _ (e : start ws separator .number ≡ accepted) where
-    pub start-record : start ws separator .session ≡ startRecord ws separator
+  module _ (e : start o .number ≡ accepted) where
+    pub start-record : start o .session ≡ startRecord o
     unfolding giving
-    start-record = ap (λ (a : Answer). a .session) (start-opens ws separator (start-accepted e))
+    start-record = ap (λ (a : Answer). a .session) (start-opens o (start-accepted e))
 
-    pub start-open : start ws separator .session .status ≡ opened
+    pub start-open : start o .session .status ≡ opened
     unfolding startRecord openRecord
     start-open = ap (λ (r : Session). r .status) start-record
 
-    pub start-sound : sound (start ws separator .session) ≡ true
+    pub start-sound : sound (start o .session) ≡ true
     unfolding startRecord
     start-sound =
-        ap sound start-record ∙ whole _ (open-sound _ (mergedWords ws) (tag-state-reduced _) (merged-sound ws separator (start-accepted e)))
+        ap sound start-record ∙ whole _ (open-sound _ (mergedWords (o .words)) (tag-state-reduced _) (merged-sound o (start-accepted e)))
 
-    pub sound-run : (cs : List Call) → eqb (leftBy (start ws separator .session) cs .status) opened ≡ true
-        → sound (leftBy (start ws separator .session) cs) ≡ true
-    sound-run cs = sound-left-by (start ws separator .session) cs (λ _. start-sound)
+    pub sound-run : (cs : List Call) → eqb (leftBy (start o .session) cs .status) opened ≡ true
+        → sound (leftBy (start o .session) cs) ≡ true
+    sound-run cs = sound-left-by (start o .session) cs (λ _. start-sound)

@@ -1,33 +1,35 @@
 -- What the calls on a record answer: the record as it was or a wiped one with the number of a refusal, or what the steps give.
 -- Assumes nothing.
-use mathlib.Core.Path.{_≡_, refl, ap, _∙_}
-use mathlib.Core.Bool.{Bool, true, false, not, true≢false, false≢true}
+use mathlib.Core.Path.{_≡_, refl}
+use mathlib.Core.Bool.{true, false, false≢true}
 use mathlib.Core.List.{List, [], _∷_}
-use Prim.Native.Nat.{ℕ, zero, suc, _<_}
+use Prim.Native.Nat.{ℕ}
 use native.Mathlib.Omega.{arith}
-use borrow.Author.Tests.{eqb-true, not-false, eqb-false, ne-eqb, eq-eqb}
-use lib.Dec.{ltb, eqb}
+use borrow.Author.Tests.{eqb-true, eqb-false, not-false}
+use lib.Dec.{eqb}
 use lib.ListN.{length}
-use Rattle.basics.specs.Logic.{all}
+use Rattle.basics.specs.Logic.{if_then_else_, _or_, all}
 use Rattle.basics.specs.Numbers.{accepted, recordNotOpen, recordNotSound, callNotInPattern, elementNotReduced, patternNotDone}
-use Rattle.basics.proofs.Cases.{by, if-true, if-false}
-use Rattle.field.specs.Field.{p}
+use Rattle.basics.specs.Refusals.{firstNumber}
+use Rattle.basics.proofs.Cases.{by}
+use Rattle.field.specs.Field.{isElement}
 use Rattle.session.specs.Record.{opened, wiped, absorbAll, squeezeAll}
 use Rattle.session.specs.Soundness.{sound}
-use Rattle.session.specs.Calls.{giving, absorb, squeeze, finish}
+use Rattle.session.specs.Calls.{giving, recordRows, callRows, absorbRows, finishRows, wipes, answerOf, absorb, squeeze, finish}
 use Rattle.session.specs.declared.Session.{Session}
 use Rattle.session.specs.declared.Answer.{Answer}
-use Rattle.session.proofs.Pattern.{InPhase, in-phase, in-pattern}
+use Rattle.progress.proofs.Calls.{in-phase}
+use Rattle.session.proofs.Numbers.{Takes, answer-accepted, takes-call, absorb-passes, finish-passes}
 
 pub wiped-not-open : eqb (wiped .status) opened ≡ true → ⊥
 unfolding wiped
 wiped-not-open e = false≢true e
 
--- an open sound record, in whose phase n elements of a kind lie, if there are any
-pub record Takes (r : Session) (absorbs : Bool) (n : ℕ) : Type 0 where
-  pub opens : eqb (r .status) opened ≡ true
-  pub sounds : sound r ≡ true
-  pub fits : 0 < n → InPhase r absorbs n
+-- an empty list holds elements alone
+none-listed : (xs : List ℕ) → eqb (length xs) 0 ≡ true → all isElement xs ≡ true
+unfolding all
+none-listed [] e = refl
+none-listed (x ∷ xs) e = absurd (omega (arith, eqb-true (length (x ∷ xs)) 0 e))
 
 -- an open sound record after its last phase
 pub record Ended (r : Session) : Type 0 where
@@ -38,53 +40,65 @@ pub record Ended (r : Session) : Type 0 where
 module _ (r : Session) where
   module _ (Q : Answer → Type 0)
       (refused : (number : ℕ) → eqb number accepted ≡ false → Q (giving number r))
-      (wipes : (number : ℕ) → eqb number accepted ≡ false → Q (giving number wiped))
+      (wipes-it : (number : ℕ) → eqb number accepted ≡ false → Q (giving number wiped))
     where
-      pub absorb-outcome : (xs : List ℕ)
-          → (Takes r true (length xs) → all (λ x. ltb x p) xs ≡ true → Q (giving accepted (absorbAll r xs)))
-          → Q (absorb r xs)
-      unfolding absorb absorbAll all
-      absorb-outcome [] takes =
-          by Q _ _ _ (λ _. refused recordNotOpen refl) λ o.
-          by Q _ _ _ (λ _. refused recordNotSound refl) λ s.
-          by Q _ _ _ (λ _. takes (record { opens = not-false _ o; sounds = not-false _ s; fits = λ h. absurd (omega arith) }) refl)
-          λ e. absurd (true≢false e)
-      absorb-outcome (x ∷ xs) takes =
-          by Q _ _ _ (λ _. refused recordNotOpen refl) λ o.
-          by Q _ _ _ (λ _. refused recordNotSound refl) λ s.
-          by Q _ _ _ (λ e. absurd (omega (arith, eqb-true (length (x ∷ xs)) 0 e))) λ _.
-          by Q _ _ _ (λ _. wipes callNotInPattern refl) λ i.
-          by Q _ _ _ (λ _. refused elementNotReduced refl) λ b.
-          takes (record { opens = not-false _ o; sounds = not-false _ s; fits = λ _. in-phase r true _ (not-false _ i) }) (not-false _ b)
+      -- the answer by its number: the record is left, wiped, or what the call makes of it
+      leaves : (next : Session) (n : ℕ) → eqb n accepted ≡ false → wipes n ≡ false → Q (answerOf n r next)
+      unfolding answerOf if_then_else_
+      leaves next n e w = rw (e, w) (refused n e)
+
+      wiping : (next : Session) (n : ℕ) → eqb n accepted ≡ false → wipes n ≡ true → Q (answerOf n r next)
+      unfolding answerOf if_then_else_
+      wiping next n e w = rw (e, w) (wipes-it n e)
+
+      accepts : (next : Session) → Q (giving accepted next) → Q (answerOf accepted r next)
+      accepts next q = rw (answer-accepted r next accepted refl) q
+
+      pub absorb-outcome : (xs : List ℕ) → (Takes r true (length xs) → all isElement xs ≡ true → Q (giving accepted (absorbAll r xs))) → Q (absorb r xs)
+      unfolding absorb absorbRows callRows recordRows firstNumber wipes _or_
+      absorb-outcome xs takes =
+          let next = absorbAll r xs in
+          let answers : ℕ → Type 0 = λ n. Q (answerOf n r next) in
+          by answers _ _ _ (λ _. leaves next recordNotOpen refl refl) λ o.
+          by answers _ _ _ (λ _. leaves next recordNotSound refl refl) λ s.
+          by answers _ _ _
+          (λ z. accepts next (takes
+          (record { opens = not-false _ o; sounds = not-false _ s; fits = λ h. absurd (omega (arith, eqb-true (length xs) 0 z)) })
+          (none-listed xs z))) λ _.
+          by answers _ _ _ (λ _. wiping next callNotInPattern refl refl) λ i.
+          by answers _ _ _ (λ _. leaves next elementNotReduced refl refl) λ b.
+          accepts next (takes
+          (record { opens = not-false _ o; sounds = not-false _ s; fits = λ _. in-phase _ _ _ _ _ _ (not-false _ i) })
+          (not-false _ b))
 
       pub squeeze-outcome : (n : ℕ) → (Takes r false n → Q (giving accepted (squeezeAll r n))) → Q (squeeze r n)
-      unfolding squeeze squeezeAll
-      squeeze-outcome zero takes =
-          by Q _ _ _ (λ _. refused recordNotOpen refl) λ o.
-          by Q _ _ _ (λ _. refused recordNotSound refl) λ s.
-          by Q _ _ _ (λ _. takes (record { opens = not-false _ o; sounds = not-false _ s; fits = λ h. absurd (omega arith) }))
-          λ e. absurd (true≢false e)
-      squeeze-outcome (suc n) takes =
-          by Q _ _ _ (λ _. refused recordNotOpen refl) λ o.
-          by Q _ _ _ (λ _. refused recordNotSound refl) λ s.
-          by Q _ _ _ (λ e. absurd (omega (arith, eqb-true (suc n) 0 e))) λ _.
-          by Q _ _ _ (λ _. wipes callNotInPattern refl) λ i.
-          takes (record { opens = not-false _ o; sounds = not-false _ s; fits = λ _. in-phase r false _ (not-false _ i) })
+      unfolding squeeze callRows recordRows firstNumber wipes _or_
+      squeeze-outcome n takes =
+          let next = squeezeAll r n in
+          let answers : ℕ → Type 0 = λ k. Q (answerOf k r next) in
+          by answers _ _ _ (λ _. leaves next recordNotOpen refl refl) λ o.
+          by answers _ _ _ (λ _. leaves next recordNotSound refl refl) λ s.
+          by answers _ _ _
+          (λ z. accepts next (takes
+          (record { opens = not-false _ o; sounds = not-false _ s; fits = λ h. absurd (omega (arith, eqb-true n 0 z)) }))) λ _.
+          by answers _ _ _ (λ _. wiping next callNotInPattern refl refl) λ i.
+          accepts next (takes (record { opens = not-false _ o; sounds = not-false _ s; fits = λ _. in-phase _ _ _ _ _ _ (not-false _ i) }))
 
       pub finish-outcome : (Ended r → Q (giving accepted wiped)) → Q (finish r)
-      unfolding finish
+      unfolding finish finishRows recordRows firstNumber wipes _or_
       finish-outcome ends =
-          by Q _ _ _ (λ _. refused recordNotOpen refl) λ o.
-          by Q _ _ _ (λ _. refused recordNotSound refl) λ s.
-          by Q _ _ _ (λ _. wipes patternNotDone refl) λ e.
-          ends (record { opens = not-false _ o; sounds = not-false _ s; ended = eqb-true _ _ (not-false _ e) })
+          let answers : ℕ → Type 0 = λ n. Q (answerOf n r wiped) in
+          by answers _ _ _ (λ _. leaves wiped recordNotOpen refl refl) λ o.
+          by answers _ _ _ (λ _. leaves wiped recordNotSound refl refl) λ s.
+          by answers _ _ _ (λ _. wiping wiped patternNotDone refl refl) λ e.
+          accepts wiped (ends (record { opens = not-false _ o; sounds = not-false _ s; ended = eqb-true _ _ (not-false _ e) }))
 
   -- ---- what follows from an accepted call
 
-  pub absorb-takes : (xs : List ℕ) → absorb r xs .number ≡ accepted → Takes r true (length xs) × (all (λ x. ltb x p) xs ≡ true)
+  pub absorb-takes : (xs : List ℕ) → absorb r xs .number ≡ accepted → Takes r true (length xs) × (all isElement xs ≡ true)
   unfolding giving
   absorb-takes xs =
-      absorb-outcome (λ (a : Answer). a .number ≡ accepted → Takes r true (length xs) × (all (λ x. ltb x p) xs ≡ true))
+      absorb-outcome (λ (a : Answer). a .number ≡ accepted → Takes r true (length xs) × (all isElement xs ≡ true))
       (λ _ z e. absurd (eqb-false _ _ z e))
       (λ _ z e. absurd (eqb-false _ _ z e))
       xs
@@ -109,26 +123,14 @@ module _ (r : Session) where
 
   -- ---- what an accepted call needs
 
-  pub absorb-accepted : (xs : List ℕ) → Takes r true (length xs) → all (λ x. ltb x p) xs ≡ true → absorb r xs ≡ giving accepted (absorbAll r xs)
-  unfolding absorb absorbAll
-  absorb-accepted [] t b = if-false _ _ _ (ap not (t .opens)) ∙ if-false _ _ _ (ap not (t .sounds)) ∙ if-true _ _ _ refl
-  absorb-accepted (x ∷ xs) t b =
-      if-false _ _ _ (ap not (t .opens))
-      ∙ if-false _ _ _ (ap not (t .sounds))
-      ∙ if-false _ _ _ (ne-eqb (length (x ∷ xs)) 0 (λ e. omega arith))
-      ∙ if-false _ _ _ (ap not (in-pattern r true _ (t .fits (omega arith))))
-      ∙ if-false _ _ _ (ap not b)
+  pub absorb-accepted : (xs : List ℕ) → Takes r true (length xs) → all isElement xs ≡ true → absorb r xs ≡ giving accepted (absorbAll r xs)
+  unfolding absorb
+  absorb-accepted xs t b = answer-accepted r (absorbAll r xs) _ (absorb-passes r xs t b)
 
   pub squeeze-accepted : (n : ℕ) → Takes r false n → squeeze r n ≡ giving accepted (squeezeAll r n)
-  unfolding squeeze squeezeAll
-  squeeze-accepted zero t = if-false _ _ _ (ap not (t .opens)) ∙ if-false _ _ _ (ap not (t .sounds)) ∙ if-true _ _ _ refl
-  squeeze-accepted (suc n) t =
-      if-false _ _ _ (ap not (t .opens))
-      ∙ if-false _ _ _ (ap not (t .sounds))
-      ∙ if-false _ _ _ (ne-eqb (suc n) 0 (λ e. omega arith))
-      ∙ if-false _ _ _ (ap not (in-pattern r false _ (t .fits (omega arith))))
+  unfolding squeeze
+  squeeze-accepted n t = answer-accepted r (squeezeAll r n) _ (takes-call r false n t)
 
   pub finish-accepted : Ended r → finish r ≡ giving accepted wiped
   unfolding finish
-  finish-accepted e =
-      if-false _ _ _ (ap not (e .opens)) ∙ if-false _ _ _ (ap not (e .sounds)) ∙ if-false _ _ _ (ap not (eq-eqb _ _ (e .ended)))
+  finish-accepted e = answer-accepted r wiped _ (finish-passes r (record { opens = e .opens; sounds = e .sounds }) (e .ended))

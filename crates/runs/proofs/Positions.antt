@@ -9,10 +9,10 @@ use native.Mathlib.Omega.{arith}
 use borrow.Author.Tests.{eqb-true, eqb-false}
 use lib.ListN.{getD}
 use Rattle.basics.proofs.Cases.{by, if-true, if-false}
-use Rattle.tag.specs.Pattern.{isAbsorb, lengthOf}
-use Rattle.tag.specs.Permutations.{blockCount, phasePermutations}
-use Rattle.session.specs.Sponge.{rate}
-use Rattle.session.specs.Soundness.{inLastBlock, positionsAfter, positionsAt}
+use Rattle.words.specs.Words.{isAbsorb, lengthOf}
+use Rattle.progress.specs.Permutations.{blockCount, phasePermutations}
+use Rattle.basics.specs.Figures.{rate}
+use Rattle.progress.specs.Positions.{inLastBlock, positionsAfter, positionsAt}
 
 -- the position that a phase moves, with d of its elements done: 0 where an ABSORB phase begins, 8 where a SQUEEZE phase does
 unfoldable pub position : ℕ → ℕ → ℕ

@@ -13,16 +13,22 @@ use Rattle.basics.specs.Logic.{_and_, all}
 use Rattle.basics.specs.Numbers.{accepted}
 use Rattle.basics.proofs.Cases.{cases}
 use Rattle.basics.proofs.Zeros.{zeros-behind}
-use Rattle.tag.specs.Pattern.{isAbsorb, lengthOf, mergedWords}
-use Rattle.session.specs.Sponge.{Sponge, absorbElement, squeezeElement}
-use Rattle.session.specs.Record.{opened, openRecord, spongeOf, moved, phaseWord, nextPhase, nextDone, absorbOne, squeezeOne, absorbAll, squeezeAll}
+use Rattle.words.specs.Words.{isAbsorb, lengthOf}
+use Rattle.pattern.specs.Pattern.{mergedWords}
+use Rattle.poseidon.specs.Permutation.{babyBear}
+use Rattle.sponge.specs.Sponge.{absorbElement, squeezeElement}
+use Rattle.sponge.specs.declared.Sponge.{Sponge}
+use Rattle.progress.specs.declared.place.Place.{Place}
+use Rattle.session.specs.Record.{opened, openRecord, spongeOf, moved, phaseWord, placeNext, absorbOne, squeezeOne, absorbAll, squeezeAll}
+use Rattle.pattern.specs.Opening.{Opening}
 use Rattle.session.specs.Calls.{giving, startRecord, start}
 use Rattle.session.specs.declared.Session.{Session}
 use Rattle.session.specs.declared.Answer.{Answer}
 use Rattle.session.proofs.SoundRecord.{Sound, parts, whole, element-left}
 use Rattle.runs.specs.Calls.{Call, ABSORB, SQUEEZE, answered, left, leftBy, OpenAt}
 use Rattle.runs.proofs.Places.{next-place}
-use Rattle.runs.proofs.Outcomes.{Takes, absorb-accepted, squeeze-accepted}
+use Rattle.session.proofs.Numbers.{Takes}
+use Rattle.runs.proofs.Outcomes.{absorb-accepted, squeeze-accepted}
 use Rattle.runs.proofs.Opened.{start-open, start-record, sound-run}
 use Rattle.runs.proofs.SamePattern.{same-left-by}
 use Rattle.runs.proofs.Counted.{start-words, start-count}
@@ -38,63 +44,62 @@ module _ (r : Session) (o : eqb (r .status) opened ≡ true) (s : Sound r) (h : 
         fits = λ _. record { before-end = h; kind = e; room = omega (arith, element-left r s h) };
       }
 
-  one-more : (c : Call) × (t : Sponge) × (left r c ≡ moved r t (nextPhase r) (nextDone r))
+  one-more : (c : Call) × (t : Sponge) × (left r c ≡ moved r t (placeNext r))
   unfolding left answered giving absorbAll squeezeAll absorbOne squeezeOne all _and_
   one-more =
       cases (isAbsorb (phaseWord r))
       (λ e. (
         ABSORB (0 ∷ []),
-        absorbElement (spongeOf r) 0,
+        absorbElement babyBear (spongeOf r) 0,
         ap (λ (a : Answer). a .session) (absorb-accepted r (0 ∷ []) (takes-one true e) refl),
       ))
-      λ e. (SQUEEZE 1, squeezeElement (spongeOf r), ap (λ (a : Answer). a .session) (squeeze-accepted r 1 (takes-one false e)))
+      λ e. (SQUEEZE 1, squeezeElement babyBear (spongeOf r), ap (λ (a : Answer). a .session) (squeeze-accepted r 1 (takes-one false e)))
 
-module _ (ws separator : List ℕ) (e : start ws separator .number ≡ accepted) where
-  abbrev opening : Session
-  opening = start ws separator .session
+module _ (o : Opening) (e : start o .number ≡ accepted) where
+  abbrev opened-record : Session
+  opened-record = start o .session
 
   -- some calls lead to the place
   abbrev Reached : ℕ → ℕ → Type 0
-  Reached phase done = (cs : List Call) × OpenAt (leftBy opening cs) phase done
+  Reached phase done = (cs : List Call) × OpenAt (leftBy opened-record cs) phase done
 
   -- the length of a phase
   abbrev long : ℕ → ℕ
-  long phase = lengthOf (getD (mergedWords ws) phase 0)
+  long phase = lengthOf (getD (mergedWords (o .words)) phase 0)
 
-  module _ (cs : List Call) (o : leftBy opening cs .status ≡ opened) (h : leftBy opening cs .phase < length (mergedWords ws)) where
+  module _ (cs : List Call) (still : leftBy opened-record cs .status ≡ opened) (h : leftBy opened-record cs .phase < length (mergedWords (o .words))) where
     abbrev there : Session
-    there = leftBy opening cs
+    there = leftBy opened-record cs
 
     sounds : Sound there
-    sounds = parts there (sound-run ws separator e cs (eq-eqb _ _ o))
+    sounds = parts there (sound-run o e cs (eq-eqb _ _ still))
 
     early : there .phase < there .count
-    early = rw (same-left-by opening cs (eq-eqb _ _ o) .count ∙ start-count ws separator e) h
+    early = rw (same-left-by opened-record cs (eq-eqb _ _ still) .count ∙ start-count o e) h
 
     length-there : lengthOf (phaseWord there) ≡ long (there .phase)
-    unfolding phaseWord
     length-there =
-        ap (λ (vs : List ℕ). lengthOf (getD vs (there .phase) 0)) (same-left-by opening cs (eq-eqb _ _ o) .words ∙ start-words ws separator e)
-        ∙ ap lengthOf (zeros-behind (mergedWords ws) (64 - length (mergedWords ws)) (there .phase))
+        ap (λ (vs : List ℕ). lengthOf (getD vs (there .phase) 0)) (same-left-by opened-record cs (eq-eqb _ _ still) .words ∙ start-words o e)
+        ∙ ap lengthOf (zeros-behind (mergedWords (o .words)) (64 - length (mergedWords (o .words))) (there .phase))
 
     element-there : there .done < long (there .phase)
     element-there = rw length-there at (element-left there sounds early)
 
     -- one call more leads to the next place
-    next : Reached (nextPhase there) (nextDone there)
+    next : Reached (placeNext there .phase) (placeNext there .done)
     unfolding leftBy moved
     next =
-        let more = one-more there (eq-eqb _ _ o) sounds early in (
+        let more = one-more there (eq-eqb _ _ still) sounds early in (
           cs ++ (more .0 ∷ []),
-          subst (λ (r : Session). OpenAt r (nextPhase there) (nextDone there)) (sym (left-by-append opening cs (more .0 ∷ []) ∙ more .2))
-              (record { opens = o; phase = refl; done = refl }),
+          subst (λ (r : Session). OpenAt r (placeNext there .phase) (placeNext there .done)) (sym (left-by-append opened-record cs (more .0 ∷ []) ∙ more .2))
+              (record { opens = still; phase = refl; done = refl }),
         )
 
-  module _ (i d : ℕ) (h : i < length (mergedWords ws)) (reached : Reached i d) where
+  module _ (i d : ℕ) (h : i < length (mergedWords (o .words))) (reached : Reached i d) where
     abbrev last : Session
-    last = leftBy opening (reached .0)
+    last = leftBy opened-record (reached .0)
 
-    within : last .phase < length (mergedWords ws)
+    within : last .phase < length (mergedWords (o .words))
     within = rw (reached .1 .phase) h
 
     element-here : d < long i
@@ -106,7 +111,7 @@ module _ (ws separator : List ℕ) (e : start ws separator .number ≡ accepted)
     -- from a place to the next one, in this phase or at the begin of the next
     forward : (suc d ≡ long i → Reached (suc i) 0) × (suc d ≢ long i → Reached i (suc d))
     forward =
-        next-place last (λ (k b : ℕ). Reached k b → (suc d ≡ long i → Reached (suc i) 0) × (suc d ≢ long i → Reached i (suc d)))
+        next-place last (λ (at : Place). Reached (at .phase) (at .done) → (suc d ≡ long i → Reached (suc i) 0) × (suc d ≢ long i → Reached i (suc d)))
         (λ q t. (λ _. subst (λ (k : ℕ). Reached (suc k) 0) (reached .1 .phase) t, λ n. absurd (n (ap suc (sym (reached .1 .done)) ∙ q ∙ same-length))))
         (λ q t. (
           λ n. absurd (q (ap suc (reached .1 .done) ∙ n ∙ sym same-length)),
@@ -115,18 +120,18 @@ module _ (ws separator : List ℕ) (e : start ws separator .number ≡ accepted)
         (next (reached .0) (reached .1 .opens) within)
 
   -- from the begin of a phase to each of its places
-  in-phase : (i d : ℕ) → i < length (mergedWords ws) → Reached i 0 → d < long i → Reached i d
+  in-phase : (i d : ℕ) → i < length (mergedWords (o .words)) → Reached i 0 → d < long i → Reached i d
   in-phase i zero h t l = t
   in-phase i (suc d) h t l = forward i d h (in-phase i d h t (omega arith)) .1 (λ q. omega arith)
 
   -- the begin of each phase, and the end of the last
-  phase-begun : (i : ℕ) → i ≤ length (mergedWords ws) → Reached i 0
+  phase-begun : (i : ℕ) → i ≤ length (mergedWords (o .words)) → Reached i 0
   unfolding leftBy startRecord openRecord
   phase-begun zero h =
-      let r = start-record ws separator e in (
+      let r = start-record o e in (
         [],
         record {
-          opens = start-open ws separator e;
+          opens = start-open o e;
           phase = ap (λ (t : Session). t .phase) r;
           done = ap (λ (t : Session). t .done) r;
         },
@@ -136,9 +141,9 @@ module _ (ws separator : List ℕ) (e : start ws separator .number ≡ accepted)
       let some = element-here i 0 (omega arith) begun in
       forward i (long i - 1) (omega arith) (in-phase i (long i - 1) (omega arith) begun (omega arith)) .0 (omega arith)
 
-  pub place-reached : (phase done : ℕ) → phase < length (mergedWords ws) → done < lengthOf (getD (mergedWords ws) phase 0)
-      → (cs : List Call) × OpenAt (leftBy (start ws separator .session) cs) phase done
+  pub place-reached : (phase done : ℕ) → phase < length (mergedWords (o .words)) → done < lengthOf (getD (mergedWords (o .words)) phase 0)
+      → (cs : List Call) × OpenAt (leftBy (start o .session) cs) phase done
   place-reached phase done h l = in-phase phase done h (phase-begun phase (omega arith)) l
 
-  pub end-reached : (cs : List Call) × OpenAt (leftBy (start ws separator .session) cs) (length (mergedWords ws)) 0
-  end-reached = phase-begun (length (mergedWords ws)) (omega arith)
+  pub end-reached : (cs : List Call) × OpenAt (leftBy (start o .session) cs) (length (mergedWords (o .words))) 0
+  end-reached = phase-begun (length (mergedWords (o .words))) (omega arith)

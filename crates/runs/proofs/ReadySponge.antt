@@ -1,53 +1,63 @@
--- A sponge made ready for one element more: where the element goes or comes from, and the permutations done.
+-- A sponge made ready for one element more: where the element goes or comes from, and the permutations done, for any parameters of the
+-- permutation.
 -- Assumes nothing.
 use mathlib.Core.Path.{_≡_, sym, _∙_}
 use mathlib.Core.Bool.{true, false}
-use Prim.Native.Nat.{ℕ, suc, _+_}
+use Prim.Native.Nat.{ℕ, suc, _+_, _<_}
 use native.Mathlib.Omega.{arith}
 use borrow.Author.Tests.{eqb-true, eqb-false}
 use lib.Dec.{ltb}
 use Rattle.basics.specs.Logic.{all}
 use Rattle.basics.proofs.Cases.{by}
-use Rattle.field.specs.Field.{p}
-use Rattle.tag.specs.Pattern.{isAbsorb}
-use Rattle.tag.specs.Permutations.{phasePermutations}
-use Rattle.session.specs.Sponge.{rate, Sponge, readyToAbsorb, readyToSqueeze}
-use Rattle.session.specs.Soundness.{inLastBlock}
-use Rattle.session.proofs.Elements.{permute-reduced}
+use Rattle.words.specs.Words.{isAbsorb}
+use Rattle.progress.specs.Permutations.{phasePermutations}
+use Rattle.basics.specs.Figures.{rate}
+use Rattle.poseidon.specs.Permutation.{Parameters}
+use Rattle.sponge.specs.Sponge.{outer, readyToAbsorb, readyToSqueeze}
+use Rattle.sponge.specs.declared.Sponge.{Sponge}
+use Rattle.progress.specs.Positions.{inLastBlock}
+use Rattle.sponge.proofs.Elements.{permuted-reduced}
 use Rattle.runs.proofs.Positions.{position, absorb-full, absorb-room, squeeze-full, squeeze-room}
 
+-- a place below 8 names itself
+outer-after : (at n : ℕ) → at + 1 ≡ inLastBlock n → outer at + 1 ≡ inLastBlock n
+unfolding inLastBlock
+outer-after at n e = omega arith
+
 -- d elements of the phase of a word are done, with so many permutations before that phase; the next element's place in the state is `at`
-pub record Ready (word d before at : ℕ) (t : Sponge) : Type 0 where
-  pub reduced : all (λ x. ltb x p) (t .state) ≡ true
-  pub after : at + 1 ≡ inLastBlock (suc d)
+pub record Ready (F : Parameters) (word d before at : ℕ) (t : Sponge) : Type 0 where
+  pub reduced : all (λ x. ltb x (F .modulus)) (t .state) ≡ true
+  pub after : outer at + 1 ≡ inLastBlock (suc d)
   pub counted : t .permutations ≡ before + phasePermutations word (suc d)
 
 module _
+    (F : Parameters)
+    (pos : 0 < F .modulus)
     (word d before : ℕ)
     (s : Sponge)
-    (reduced : all (λ x. ltb x p) (s .state) ≡ true)
+    (reduced : all (λ x. ltb x (F .modulus)) (s .state) ≡ true)
     (counted : s .permutations ≡ before + phasePermutations word d)
   where
-    pub ready-to-absorb : isAbsorb word ≡ true → s .absorbPosition ≡ position 0 d
-        → Ready word d before (readyToAbsorb s .absorbPosition) (readyToAbsorb s)
+    pub ready-to-absorb : isAbsorb word ≡ true → s .«absorb_position» ≡ position 0 d
+        → Ready F word d before (readyToAbsorb F s .«absorb_position») (readyToAbsorb F s)
     unfolding readyToAbsorb
     ready-to-absorb e a =
-        by (λ (t : Sponge). Ready word d before (t .absorbPosition) t) _ _ _
+        by (λ (t : Sponge). Ready F word d before (t .«absorb_position») t) _ _ _
         (λ q.
         let n = absorb-full word e d (sym a ∙ eqb-true _ _ q) in
-        record { reduced = permute-reduced (s .state); after = n .after; counted = omega (arith, n .counted) })
+        record { reduced = permuted-reduced F pos (s .state); after = outer-after 0 (suc d) (n .after); counted = omega (arith, n .counted) })
         λ q.
         let n = absorb-room word e d (λ z. eqb-false _ _ q (a ∙ z)) in
-        record { reduced = reduced; after = omega (arith, n .after); counted = omega (arith, n .counted) }
+        record { reduced = reduced; after = outer-after (s .«absorb_position») (suc d) (omega (arith, n .after)); counted = omega (arith, n .counted) }
 
-    pub ready-to-squeeze : isAbsorb word ≡ false → s .squeezePosition ≡ position rate d
-        → Ready word d before (readyToSqueeze s .squeezePosition) (readyToSqueeze s)
+    pub ready-to-squeeze : isAbsorb word ≡ false → s .«squeeze_position» ≡ position rate d
+        → Ready F word d before (readyToSqueeze F s .«squeeze_position») (readyToSqueeze F s)
     unfolding readyToSqueeze
     ready-to-squeeze e a =
-        by (λ (t : Sponge). Ready word d before (t .squeezePosition) t) _ _ _
+        by (λ (t : Sponge). Ready F word d before (t .«squeeze_position») t) _ _ _
         (λ q.
         let n = squeeze-full word e d (sym a ∙ eqb-true _ _ q) in
-        record { reduced = permute-reduced (s .state); after = n .after; counted = omega (arith, n .counted) })
+        record { reduced = permuted-reduced F pos (s .state); after = outer-after 0 (suc d) (n .after); counted = omega (arith, n .counted) })
         λ q.
         let n = squeeze-room word e d (λ z. eqb-false _ _ q (a ∙ z)) in
-        record { reduced = reduced; after = omega (arith, n .after); counted = omega (arith, n .counted) }
+        record { reduced = reduced; after = outer-after (s .«squeeze_position») (suc d) (omega (arith, n .after)); counted = omega (arith, n .counted) }

@@ -13,7 +13,7 @@ use Rattle.session.specs.Calls.{giving}
 use Rattle.session.specs.declared.Session.{Session}
 use Rattle.session.specs.declared.Answer.{Answer}
 use Rattle.session.proofs.SoundRecord.{Sound, parts, whole}
-use Rattle.session.proofs.Pattern.{InPhase}
+use Rattle.session.proofs.Folds.{InPhase}
 use Rattle.runs.specs.Calls.{Call, ABSORB, SQUEEZE, FINISH, answered, left, leftBy}
 use Rattle.runs.proofs.Places.{in-phase-next}
 use Rattle.runs.proofs.Kept.{absorb-kept, squeeze-kept}

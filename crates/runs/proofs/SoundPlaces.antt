@@ -13,11 +13,13 @@ use Rattle.basics.specs.Logic.{all}
 use Rattle.basics.specs.Numbers.{accepted}
 use Rattle.basics.proofs.Cases.{cases, and-left, and-right}
 use Rattle.basics.proofs.Zeros.{zeros-behind}
-use Rattle.tag.specs.Pattern.{lengthOf, mergedWords}
-use Rattle.tag.specs.Permutations.{permutationsAt}
-use Rattle.tag.proofs.MergedWords.{sound-merged, sound-accepted}
+use Rattle.words.specs.Words.{lengthOf}
+use Rattle.pattern.specs.Pattern.{mergedWords}
+use Rattle.progress.specs.Permutations.{permutationsAt}
+use Rattle.pattern.proofs.MergedWords.{sound-merged, sound-accepted}
 use Rattle.session.specs.Record.{phaseWord}
-use Rattle.session.specs.Soundness.{positionsAfter, positionsAt}
+use Rattle.progress.specs.Positions.{positionsAfter, positionsAt}
+use Rattle.pattern.specs.Opening.{opening}
 use Rattle.session.specs.Calls.{start}
 use Rattle.session.specs.declared.Session.{Session}
 use Rattle.session.proofs.SoundRecord.{Sound, parts, element-left, none-done}
@@ -51,8 +53,8 @@ module _ (r : Session) (fits : (k : ℕ) → getD (r .words) k 0 < 4294967296) (
   word-used : (k : ℕ) → getD (r .words) k 0 ≡ getD pattern k 0
   word-used = used-words (r .count) (r .words) (s .unused)
 
-  pub pattern-opens : start pattern [] .number ≡ accepted
-  pattern-opens = accepted-start pattern [] (sound-accepted pattern [] (s .pattern) (omega arith))
+  pub pattern-opens : start (opening pattern []) .number ≡ accepted
+  pattern-opens = accepted-start (opening pattern []) (sound-accepted (opening pattern []) (s .pattern) (omega arith))
 
   merged : mergedWords pattern ≡ pattern
   merged = sound-merged pattern (s .pattern) (λ k. rw (← word-used k) (fits k))
@@ -63,30 +65,29 @@ module _ (r : Session) (fits : (k : ℕ) → getD (r .words) k 0 < 4294967296) (
   word-merged : (k : ℕ) → getD (mergedWords pattern) k 0 ≡ getD (r .words) k 0
   word-merged k = ap (λ (ws : List ℕ). getD ws k 0) merged ∙ sym (word-used k)
 
-  reached : (cs : List Call) × OpenAt (leftBy (start pattern [] .session) cs) (r .phase) (r .done)
-  unfolding phaseWord
+  reached : (cs : List Call) × OpenAt (leftBy (start (opening pattern []) .session) cs) (r .phase) (r .done)
   reached =
       cases (ltb (r .phase) (r .count))
       (λ l.
       let early = ltb-true _ _ l in
-      place-reached pattern [] pattern-opens (r .phase) (r .done) (rw words-merged early)
+      place-reached (opening pattern []) pattern-opens (r .phase) (r .done) (rw words-merged early)
       (rw (ap lengthOf (word-merged (r .phase))) (element-left r s early)))
       λ l.
       let late = ltb-false (r .phase) (r .count) l in
       let within = s .within in
       let ended : r .phase ≡ r .count = omega arith in
-      rw (ended ∙ sym words-merged, none-done r s ended) (end-reached pattern [] pattern-opens)
+      rw (ended ∙ sym words-merged, none-done r s ended) (end-reached (opening pattern []) pattern-opens)
 
-  pub like-reached : (cs : List Call) × OpenLike (leftBy (start pattern [] .session) cs) r
+  pub like-reached : (cs : List Call) × OpenLike (leftBy (start (opening pattern []) .session) cs) r
   like-reached =
       let cs = reached .0 in
       let at = reached .1 in
-      let t = leftBy (start pattern [] .session) cs in
+      let t = leftBy (start (opening pattern []) .session) cs in
       let o = eq-eqb _ _ (at .opens) in
-      let sounds = parts t (sound-run pattern [] pattern-opens cs o) in
-      let same = same-left-by (start pattern [] .session) cs o in
+      let sounds = parts t (sound-run (opening pattern []) pattern-opens cs o) in
+      let same = same-left-by (start (opening pattern []) .session) cs o in
       let words : (k : ℕ) → getD (t .words) k 0 ≡ getD (r .words) k 0 = λ k.
-      ap (λ (ws : List ℕ). getD ws k 0) (same .words ∙ start-words pattern [] pattern-opens)
+      ap (λ (ws : List ℕ). getD ws k 0) (same .words ∙ start-words (opening pattern []) pattern-opens)
       ∙ zeros-behind (mergedWords pattern) (64 - length (mergedWords pattern)) k
       ∙ word-merged k in
       let positions : positionsAt (t .words) (t .phase) (t .done) ≡ positionsAt (r .words) (r .phase) (r .done) =
@@ -94,7 +95,7 @@ module _ (r : Session) (fits : (k : ℕ) → getD (r .words) k 0 < 4294967296) (
         cs,
         record {
           place = at;
-          count = same .count ∙ start-count pattern [] pattern-opens ∙ words-merged;
+          count = same .count ∙ start-count (opening pattern []) pattern-opens ∙ words-merged;
           words = words;
           absorbs-at = sounds .absorbs-at ∙ (λ i. positions i .absorb) ∙ sym (s .absorbs-at);
           squeezes-at = sounds .squeezes-at ∙ (λ i. positions i .squeeze) ∙ sym (s .squeezes-at);

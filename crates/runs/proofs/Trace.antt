@@ -7,16 +7,18 @@ use Prim.Native.Nat.{ℕ, zero, suc, _<_}
 use native.Mathlib.Omega.{arith}
 use lib.Dec.{eqb}
 use lib.ListN.{length}
-use Rattle.basics.specs.Logic.{if_then_else_}
+use Rattle.basics.specs.Logic.{if_then_else_, _or_}
 use Rattle.basics.specs.Numbers.{accepted}
 use Rattle.basics.proofs.Cases.{if-true, if-false}
-use Rattle.session.specs.Sponge.{absorbElement, squeezeElement}
+use Rattle.poseidon.specs.Permutation.{babyBear}
+use Rattle.sponge.specs.Sponge.{absorbElement, squeezeElement}
 use Rattle.session.specs.Record.{wiped, spongeOf, absorbOne, squeezeOne, squeezedOne, absorbAll, squeezeAll, squeezedAll}
-use Rattle.session.specs.Calls.{giving, absorb, squeeze, finish}
+use Rattle.basics.specs.Refusals.{firstNumber}
+use Rattle.session.specs.Calls.{giving, recordRows, callRows, absorbRows, finishRows, wipes, answerOf, absorb, squeeze, finish}
 use Rattle.session.specs.declared.Session.{Session}
 use Rattle.session.specs.declared.Answer.{Answer}
 use Rattle.session.proofs.SoundRecord.{parts}
-use Rattle.session.proofs.Pattern.{InPhase}
+use Rattle.session.proofs.Folds.{InPhase}
 use Rattle.runs.specs.Calls.{Call, ABSORB, SQUEEZE, FINISH, answered, accepts, left, leftBy, absorbedIn, absorbed, squeezedIn, squeezed}
 use Rattle.runs.proofs.Places.{in-phase-next}
 use Rattle.runs.proofs.Outcomes.{wiped-not-open, absorb-outcome, squeeze-outcome, finish-outcome, finish-ended}
@@ -50,7 +52,7 @@ unfolding absorbAll absorbOne
 absorb-all [] r f p = p
 absorb-all (x ∷ xs) r f p =
     let i = f (omega arith) in
-    rw (next-to-do r true (i .kind) (omega (arith, i .room)) (absorbElement (spongeOf r) x))
+    rw (next-to-do r true (i .kind) (omega (arith, i .room)) (absorbElement babyBear (spongeOf r) x))
     (absorbs (absorb-all xs (absorbOne r x) (in-phase-next r true (length xs) _ i) p))
 
 squeeze-all : (n : ℕ) (r : Session) {zs ys : List ℕ} {t : Session} → (0 < n → InPhase r false n)
@@ -59,14 +61,14 @@ unfolding squeezeAll squeezedAll squeezeOne
 squeeze-all zero r f p = p
 squeeze-all (suc n) r f p =
     let i = f (omega arith) in
-    rw (next-to-do r false (i .kind) (omega (arith, i .room)) (squeezeElement (spongeOf r)))
+    rw (next-to-do r false (i .kind) (omega (arith, i .room)) (squeezeElement babyBear (spongeOf r)))
     (squeezes (squeeze-all n (squeezeOne r) (in-phase-next r false n _ i) p))
 
 -- ---- lists of calls
 
 -- a wiped record is refused every call, FINISH too
 wiped-stays : (cs : List Call) → leftBy wiped cs ≡ wiped
-unfolding leftBy left answered absorb squeeze finish giving wiped if_then_else_
+unfolding leftBy left answered absorb squeeze finish absorbRows callRows finishRows recordRows firstNumber answerOf wipes giving wiped if_then_else_ _or_
 wiped-stays [] = refl
 wiped-stays (ABSORB xs ∷ cs) = wiped-stays cs
 wiped-stays (SQUEEZE n ∷ cs) = wiped-stays cs

@@ -6,9 +6,11 @@ use mathlib.Core.List.{List, [], _∷_, _++_, map}
 use Prim.Native.Nat.{ℕ, zero, suc, _-_}
 use lib.ListN.{length, replicate}
 use Rattle.basics.specs.Numbers.{accepted}
-use Rattle.tag.specs.Pattern.{isAbsorb, lengthOf, phaseOf, phases, mergedWords}
+use Rattle.words.specs.Words.{isAbsorb, lengthOf, phaseOf}
+use Rattle.pattern.specs.Pattern.{phases, mergedWords}
 use Rattle.tag.proofs.ReadBack.{phases-read}
 use Rattle.session.specs.Record.{openRecord}
+use Rattle.pattern.specs.Opening.{Opening}
 use Rattle.session.specs.Calls.{startRecord, start}
 use Rattle.runs.proofs.Opened.{start-accepted, start-record}
 use Rattle.runs.proofs.ElementKinds.{kinds, toDo}
@@ -20,9 +22,9 @@ padded-kinds [] zero = refl
 padded-kinds [] (suc n) = padded-kinds [] n
 padded-kinds (w ∷ ws) n = ap (λ (ks : List Bool). replicate (lengthOf w) (isAbsorb w) ++ ks) (padded-kinds ws n)
 
-pub whole-pattern : (ws separator : List ℕ) → start ws separator .number ≡ accepted → toDo (start ws separator .session) ≡ kinds (phases ws)
+pub whole-pattern : (o : Opening) → start o .number ≡ accepted → toDo (start o .session) ≡ kinds (phases (o .words))
 unfolding toDo startRecord openRecord mergedWords
-whole-pattern ws separator e =
-    ap toDo (start-record ws separator e)
-    ∙ padded-kinds (mergedWords ws) (64 - length (mergedWords ws))
-    ∙ ap kinds (phases-read ws separator (start-accepted ws separator e))
+whole-pattern o e =
+    ap toDo (start-record o e)
+    ∙ padded-kinds (mergedWords (o .words)) (64 - length (mergedWords (o .words)))
+    ∙ ap kinds (phases-read o (start-accepted o e))

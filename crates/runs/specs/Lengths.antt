@@ -2,7 +2,7 @@
 use mathlib.Core.List.{List, [], _∷_}
 use Prim.Native.Nat.{ℕ, _+_}
 use Rattle.basics.specs.Logic.{if_then_else_}
-use Rattle.tag.specs.Pattern.{Phase}
+use Rattle.words.specs.Words.{Phase}
 
 -- the sum of the lengths of the ABSORB phases
 unfoldable pub absorbLength : List Phase → ℕ

@@ -3,7 +3,9 @@ use mathlib.Core.Path.{_≡_}
 use mathlib.Core.List.{List, [], _∷_, _++_}
 use Prim.Native.Nat.{ℕ}
 use Rattle.basics.specs.Numbers.{accepted}
-use Rattle.tag.specs.Pattern.{Phase, phases}
+use Rattle.words.specs.Words.{Phase}
+use Rattle.pattern.specs.Pattern.{phases}
+use Rattle.pattern.specs.Opening.{Opening}
 use Rattle.tag.specs.TagString.{tagString}
 use Rattle.session.specs.Calls.{start, finish}
 use Rattle.session.specs.declared.Session.{Session}
@@ -14,16 +16,15 @@ use Rattle.runs.specs.Blocks.{blocks}
 -- accepted FINISH. A list's first call gets the record that START gave"
 pub record Run : Type 0 where
   -- what START got
-  pub words : List ℕ
-  pub separator : List ℕ
+  pub opening : Opening
   -- the calls before the last, which is FINISH
   pub before : List Call
-  pub opens : start words separator .number ≡ accepted
-  pub ends : finish (leftBy (start words separator .session) before) .number ≡ accepted
+  pub opens : start opening .number ≡ accepted
+  pub ends : finish (leftBy (start opening .session) before) .number ≡ accepted
 
 -- the record that START gave
-abbrev pub opening : Run → Session
-opening a = start (a .words) (a .separator) .session
+abbrev pub startedOf : Run → Session
+startedOf a = start (a .opening) .session
 
 -- the whole list of calls
 abbrev callsOf : Run → List Call
@@ -31,19 +32,19 @@ callsOf a = a .before ++ (FINISH ∷ [])
 
 -- "The tag string is made by the rule under Tags from the words and separator that START got."
 abbrev pub tagOf : Run → List ℕ
-tagOf a = tagString (a .words) (a .separator)
+tagOf a = tagString (a .opening)
 
 -- the merged pattern, as kinds and lengths
 abbrev pub patternOf : Run → List Phase
-patternOf a = phases (a .words)
+patternOf a = phases (a .opening .words)
 
 -- the elements that the session absorbs, in list order
 abbrev pub absorbedOf : Run → List ℕ
-absorbedOf a = absorbed (opening a) (callsOf a)
+absorbedOf a = absorbed (startedOf a) (callsOf a)
 
 -- the elements that it squeezes, in list order
 abbrev pub squeezedOf : Run → List ℕ
-squeezedOf a = squeezed (opening a) (callsOf a)
+squeezedOf a = squeezed (startedOf a) (callsOf a)
 
 -- its list of blocks
 abbrev pub blocksOf : Run → List (List ℕ)
@@ -51,4 +52,4 @@ blocksOf a = blocks (patternOf a) (absorbedOf a)
 
 -- "The number of permutations is the count in the record that the accepted FINISH gets."
 abbrev pub permutationsOf : Run → ℕ
-permutationsOf a = leftBy (opening a) (a .before) .permutations
+permutationsOf a = leftBy (startedOf a) (a .before) .permutations

@@ -9,11 +9,13 @@ use Rattle.basics.specs.Digits.{digits, number, numberAfter}
 use Rattle.sha3.specs.Sponge as hash
 use Rattle.keccak.specs.Permutation as keccak
 use Rattle.keccak_tables.specs.Tables.{offsets, roundConstants}
-use Rattle.tag.specs.Pattern.{isAbsorb, lengthOf, phaseOf, wordOf, join, merge, phases, mergedWords}
-use Rattle.tag.specs.Start.{tooLong, startNumber}
-use Rattle.tag.specs.TagString.{wordBytes, tagString, wordAt}
+use Rattle.basics.specs.Refusals.{firstNumber}
+use Rattle.words.specs.Words.{isAbsorb, lengthOf, phaseOf, wordOf}
+use Rattle.pattern.specs.Pattern.{join, merge, phases, mergedWords}
+use Rattle.pattern.specs.Opening.{opening, tooLong, wordRows, startRows, startNumber}
+use Rattle.tag.specs.TagString.{wordBytes, stringOf, tagString, wordAt}
 use Rattle.tag.specs.Elements.{tagElements}
-use Rattle.session.specs.Sponge.{tagState}
+use Rattle.sponge.specs.Sponge.{tagState}
 use Rattle.session.specs.Record.{openRecord}
 use Rattle.session.specs.Calls.{giving, startRecord, start}
 use Rattle.session.specs.declared.Session.{Session}
@@ -22,11 +24,11 @@ use Rattle.session.specs.declared.Session.{Session}
 unfoldable pub startedRecord : List ℕ → Session
 unfolding start giving startRecord openRecord tagState
     all any _and_ _or_ if_then_else_ same tabulate sum digits number numberAfter
-    isAbsorb lengthOf phaseOf wordOf join merge phases mergedWords tooLong startNumber wordBytes tagString wordAt tagElements
+    isAbsorb lengthOf phaseOf wordOf join merge phases mergedWords tooLong startNumber startRows wordRows firstNumber wordBytes stringOf tagString wordAt tagElements
     hash.bytes hash.pad10*1 hash.padded hash.laneAt hash.addBlock hash.absorb hash.byteOf hash.squeeze hash.sha3
     keccak.state keccak.rotate keccak.parity keccak.effect keccak.theta keccak.rho keccak.pi keccak.chi keccak.iota
     keccak.round keccak.rounds keccak.permutation offsets roundConstants
-startedRecord ws = start ws [] .session
+startedRecord ws = start (opening ws []) .session
 
 -- the words of B4: "ABSORB 8, SQUEEZE 1"
 unfoldable pub words4 : List ℕ

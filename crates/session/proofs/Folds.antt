@@ -1,179 +1,131 @@
 -- What a call does to a record, as what it does to the sponge, with the place moved on at once.
 -- Assumes nothing.
 use mathlib.Core.Path.{_≡_, refl, sym, ap, ap₂, subst, _∙_}
-use mathlib.Core.List.{List, [], _∷_, _++_, append-assoc, append-nil}
+use mathlib.Core.Bool.{Bool, true, false}
+use mathlib.Core.Logic.{_≢_}
+use mathlib.Core.List.{List, [], _∷_}
 use Prim.Native.Nat.{ℕ, zero, suc, _+_, _≤_, _<_}
-use native.Mathlib.Numerals.{add-one}
+use native.Mathlib.Nat.{add-zero}
 use native.Mathlib.Omega.{arith}
-use borrow.Author.Tests.{ne-eqb}
-use lib.ListN.{length, getD, set, drop, length-append, length-drop, drop-of-length-le}
-use lib.Seq.{drop-cons, set-at}
-use Rattle.basics.proofs.Cases.{if-false}
-use Rattle.tag.specs.Pattern.{lengthOf}
-use Rattle.session.specs.Sponge.{Sponge, rate, absorbElement, squeezeElement, squeezedElement}
-use Rattle.session.specs.Record.{spongeOf, moved, phaseWord, lastElement, nextPhase, nextDone}
-use Rattle.session.specs.Record.{absorbOne, squeezeOne, squeezedOne, absorbAll, squeezeAll, squeezedAll}
-use Rattle.session.specs.Steps.{sponge, phaseAfter, doneAfter}
+use lib.ListN.{length}
+use Rattle.words.specs.Words.{lengthOf}
+use Rattle.progress.specs.Place.{nextPlace, placeAfter}
+use Rattle.progress.specs.declared.place.Place.{Place}
+use Rattle.progress.proofs.Calls as calls
+use Rattle.poseidon.specs.Permutation.{babyBear}
+use Rattle.sponge.specs.Sponge.{sponge, absorbElement, squeezeElement, squeezedElement, absorbElements, squeezeElements, squeezedElements}
+use Rattle.sponge.specs.declared.Sponge.{Sponge}
+use Rattle.sponge.proofs.Folds.{counted, absorbed-counted, squeezes-counted, elements-counted}
+use Rattle.session.specs.Record.{spongeOf, moved, phaseWord, placeNext, absorbOne, squeezeOne, squeezedOne, absorbAll, squeezeAll, squeezedAll}
+use Rattle.session.specs.Steps.{movedOn}
 use Rattle.session.specs.declared.Session.{Session}
-use Rattle.session.proofs.Elements.{absorb-parts}
 
--- ---- the sponge alone
+-- n elements of a kind lie in the record's phase
+abbrev pub InPhase : Session → Bool → ℕ → Type 0
+InPhase r absorbs n = calls.InPhase (r .words) (r .count) (r .phase) (r .done) absorbs n
 
-unfoldable pub absorbElements : Sponge → List ℕ → Sponge
-absorbElements s [] = s
-absorbElements s (x ∷ xs) = absorbElements (absorbElement s x) xs
+-- the place of a record after n elements more
+abbrev placeLater : Session → ℕ → Place
+placeLater r n = placeAfter (r .words) (r .count) (r .phase) (r .done) n
 
-pub absorb-snoc : (xs : List ℕ) (s : Sponge) (x : ℕ) → absorbElements s (xs ++ (x ∷ [])) ≡ absorbElement (absorbElements s xs) x
-unfolding absorbElements
-absorb-snoc [] s x = refl
-absorb-snoc (y ∷ xs) s x = absorb-snoc xs (absorbElement s y) x
+module _ (r : Session) (early : r .phase < r .count) (more : suc (r .done) < lengthOf (phaseWord r)) where
+  -- the place after one element that is not the phase's last
+  inside : placeNext r ≡ record { phase = r .phase; done = suc (r .done) }
+  inside =
+      calls.next-place (r .words) (r .count) (r .phase) (r .done) (λ (at : Place). at ≡ record { phase = r .phase; done = suc (r .done) })
+      (λ e. absurd (omega arith))
+      λ _. refl
 
-unfoldable pub squeezeElements : Sponge → ℕ → Sponge
-squeezeElements s zero = s
-squeezeElements s (suc n) = squeezeElements (squeezeElement s) n
+  -- n elements more after one that is not the phase's last
+  further : (s : Sponge) (n : ℕ) → placeLater (moved r s (placeNext r)) n ≡ placeLater r (suc n)
+  unfolding moved
+  further s n =
+      ap (λ (at : Place). placeAfter (r .words) (r .count) (at .phase) (at .done) n) inside
+      ∙ calls.after-more (r .words) (r .count) (r .phase) (r .done) n early more
 
-unfoldable pub squeezedElements : Sponge → ℕ → List ℕ
-squeezedElements s zero = []
-squeezedElements s (suc n) = squeezedElement s ∷ squeezedElements (squeezeElement s) n
+  in-phase-further : (s : Sponge) (absorbs : Bool) (n : ℕ) → InPhase r absorbs (suc n) → InPhase (moved r s (placeNext r)) absorbs n
+  unfolding moved
+  in-phase-further s absorbs n i =
+      subst (λ (at : Place). InPhase (moved r s at) absorbs n) (sym inside)
+      (record { before-end = i .before-end; kind = i .kind; room = omega (arith, i .room) })
 
-pub squeeze-snoc : (n : ℕ) (s : Sponge) → squeezeElements s (suc n) ≡ squeezeElement (squeezeElements s n)
-unfolding squeezeElements
-squeeze-snoc zero s = refl
-squeeze-snoc (suc n) s = squeeze-snoc n (squeezeElement s)
+sponge-moved : (r : Session) (s : Sponge) (place : Place) → spongeOf (moved r s place) ≡ s
+unfolding spongeOf moved
+sponge-moved r s place = refl
 
-squeezed-snoc : (n : ℕ) (s : Sponge) → squeezedElements s (suc n) ≡ squeezedElements s n ++ (squeezedElement (squeezeElements s n) ∷ [])
-unfolding squeezedElements squeezeElements
-squeezed-snoc zero s = refl
-squeezed-snoc (suc n) s = ap (λ (l : List ℕ). squeezedElement s ∷ l) (squeezed-snoc n (squeezeElement s))
+moved-twice : (r : Session) (s t : Sponge) (here there : Place) → moved (moved r s here) t there ≡ moved r t there
+unfolding moved
+moved-twice r s t here there = refl
 
-length-squeezed : (n : ℕ) (s : Sponge) → length (squeezedElements s n) ≡ n
-unfolding squeezedElements
-length-squeezed zero s = refl
-length-squeezed (suc n) s = ap suc (length-squeezed n (squeezeElement s))
+-- no element leaves the record as it was
+stays : (r : Session) → r ≡ moved r (spongeOf r) (placeLater r 0)
+unfolding moved spongeOf
+stays r = sym (ap (moved r (spongeOf r)) (calls.after-none (r .words) (r .count) (r .phase) (r .done)))
 
--- a buffer whose first n elements are written
+absorb-some : (xs : List ℕ) (x : ℕ) (r : Session) → InPhase r true (suc (length xs))
+    → absorbAll r (x ∷ xs) ≡ moved r (absorbElements babyBear (spongeOf r) (x ∷ xs)) (placeLater r (suc (length xs)))
+unfolding absorbAll absorbOne absorbElements
+absorb-some [] x r i = ap (moved r _) (calls.after-one (r .words) (r .count) (r .phase) (r .done) (i .before-end) (omega (arith, i .room)))
+absorb-some (y ∷ xs) x r i =
+    let s = absorbElement babyBear (spongeOf r) x in
+    let early = i .before-end in
+    let more : suc (r .done) < lengthOf (phaseWord r) = omega (arith, i .room) in
+    let n = suc (length xs) in
+    absorb-some xs y (absorbOne r x) (in-phase-further r early more s true n i)
+    ∙ rw (sponge-moved r s (placeNext r))
+    (moved-twice r s (absorbElements babyBear s (y ∷ xs)) _ _ ∙ ap (moved r (absorbElements babyBear s (y ∷ xs))) (further r early more s n))
 
-pub length-written : (s : Sponge) (n : ℕ) (buffer : List ℕ) → n ≤ length buffer → length (squeezedElements s n ++ drop n buffer) ≡ length buffer
-length-written s n buffer h =
-    length-append (squeezedElements s n) (drop n buffer)
-    ∙ omega (arith, length-squeezed n s, length-drop n buffer)
+squeeze-some : (n : ℕ) (r : Session) → InPhase r false (suc n)
+    → squeezeAll r (suc n) ≡ moved r (squeezeElements babyBear (spongeOf r) (suc n)) (placeLater r (suc n))
+unfolding squeezeAll squeezeOne squeezeElements
+squeeze-some zero r i = ap (moved r _) (calls.after-one (r .words) (r .count) (r .phase) (r .done) (i .before-end) (omega (arith, i .room)))
+squeeze-some (suc n) r i =
+    let s = squeezeElement babyBear (spongeOf r) in
+    let early = i .before-end in
+    let more : suc (r .done) < lengthOf (phaseWord r) = omega (arith, i .room) in
+    squeeze-some n (squeezeOne r) (in-phase-further r early more s false (suc n) i)
+    ∙ rw (sponge-moved r s (placeNext r))
+    (moved-twice r s (squeezeElements babyBear s (suc n)) _ _ ∙ ap (moved r (squeezeElements babyBear s (suc n))) (further r early more s (suc n)))
 
-pub write-next : (s : Sponge) (n : ℕ) (buffer : List ℕ) (x : ℕ) → n < length buffer → x ≡ squeezedElement (squeezeElements s n)
-    → set (squeezedElements s n ++ drop n buffer) n x ≡ squeezedElements s (suc n) ++ drop (suc n) buffer
-write-next s n buffer x h e =
-    let front = squeezedElements s n in
-    let rest = drop (suc n) buffer in
-    ap (λ (l : List ℕ). set (front ++ l) n x) (drop-cons buffer n 0 h)
-    ∙ set-at front (getD buffer n 0) rest x n (length-squeezed n s)
-    ∙ sym (append-assoc front (x ∷ []) rest)
-    ∙ ap (λ (v : ℕ). (front ++ (v ∷ [])) ++ rest) e
-    ∙ ap (λ (l : List ℕ). l ++ rest) (sym (squeezed-snoc n s))
+squeezed-some : (n : ℕ) (r : Session) → squeezedAll r n ≡ squeezedElements babyBear (spongeOf r) n
+unfolding squeezedAll squeezeOne squeezedOne squeezedElements
+squeezed-some zero r = refl
+squeezed-some (suc n) r =
+    ap (λ (l : List ℕ). squeezedElement babyBear (spongeOf r) ∷ l)
+    (squeezed-some n (squeezeOne r)
+    ∙ ap (λ (s : Sponge). squeezedElements babyBear s n) (sponge-moved r (squeezeElement babyBear (spongeOf r)) (placeNext r)))
 
-pub all-written : (s : Sponge) (n : ℕ) (buffer : List ℕ) → n ≡ length buffer → squeezedElements s n ++ drop n buffer ≡ squeezedElements s (length buffer)
-all-written s n buffer e =
-    let end : length buffer ≤ n = omega arith in
-    ap (λ (l : List ℕ). squeezedElements s n ++ l) (drop-of-length-le buffer end)
-    ∙ append-nil _
-    ∙ ap (squeezedElements s) e
-
--- ---- the place
+-- ---- what a call makes of the record's sponge, counted from 0
 
 module _ (r : Session) where
-  last-phase : nextPhase r ≡ phaseAfter r 1
-  unfolding nextPhase phaseAfter lastElement
-  last-phase = rw (add-one (r .done)) refl
+  -- the record's sponge before a call
+  abbrev pub uncounted : Sponge
+  uncounted = sponge (r .state) (r .«absorb_position») (r .«squeeze_position») 0
 
-  last-done : nextDone r ≡ doneAfter r 1
-  unfolding nextDone doneAfter lastElement
-  last-done = rw (add-one (r .done)) refl
+  recounted : counted babyBear (r .permutations) uncounted ≡ spongeOf r
+  unfolding spongeOf
+  recounted = ap (sponge (r .state) (r .«absorb_position») (r .«squeeze_position»)) (add-zero (r .permutations))
 
-  module _ (more : suc (r .done) < lengthOf (phaseWord r)) where
-    same-phase : nextPhase r ≡ r .phase
-    unfolding nextPhase lastElement
-    same-phase = if-false _ _ _ (ne-eqb (suc (r .done)) (lengthOf (phaseWord r)) (λ e. omega arith))
+  pub absorb-all : (xs : List ℕ) → (0 < length xs → InPhase r true (length xs))
+      → movedOn r (absorbElements babyBear uncounted xs) (length xs) ≡ absorbAll r xs
+  unfolding movedOn absorbElements absorbAll
+  absorb-all [] f = ap (λ (s : Sponge). moved r s (placeLater r 0)) recounted ∙ sym (stays r)
+  absorb-all (x ∷ xs) f =
+      ap (λ (s : Sponge). moved r s (placeLater r (suc (length xs))))
+      (sym (absorbed-counted babyBear (x ∷ xs) (r .permutations) uncounted)
+      ∙ ap (λ (s : Sponge). absorbElements babyBear s (x ∷ xs)) recounted)
+      ∙ sym (absorb-some xs x r (f (omega arith)))
 
-    next-done : nextDone r ≡ suc (r .done)
-    unfolding nextDone lastElement
-    next-done = if-false _ _ _ (ne-eqb (suc (r .done)) (lengthOf (phaseWord r)) (λ e. omega arith))
+  pub squeeze-all : (n : ℕ) → (0 < n → InPhase r false n) → movedOn r (squeezeElements babyBear uncounted n) n ≡ squeezeAll r n
+  unfolding movedOn squeezeElements squeezeAll
+  squeeze-all zero f = ap (λ (s : Sponge). moved r s (placeLater r 0)) recounted ∙ sym (stays r)
+  squeeze-all (suc n) f =
+      ap (λ (s : Sponge). moved r s (placeLater r (suc n)))
+      (sym (squeezes-counted babyBear (suc n) (r .permutations) uncounted) ∙ ap (λ (s : Sponge). squeezeElements babyBear s (suc n)) recounted)
+      ∙ sym (squeeze-some n r (f (omega arith)))
 
-    -- the record after one element that is not the phase's last
-    inside : (s : Sponge) → moved r s (nextPhase r) (nextDone r) ≡ moved r s (r .phase) (suc (r .done))
-    inside s = ap₂ (moved r s) same-phase next-done
-
-    phase-further : (s : Sponge) (n : ℕ) → phaseAfter (moved r s (nextPhase r) (nextDone r)) n ≡ phaseAfter r (suc n)
-    unfolding phaseAfter moved phaseWord
-    phase-further s n =
-        let e : suc (r .done) + n ≡ r .done + suc n = omega arith in
-        ap (λ (t : Session). phaseAfter t n) (inside s) ∙ rw e refl
-
-    done-further : (s : Sponge) (n : ℕ) → doneAfter (moved r s (nextPhase r) (nextDone r)) n ≡ doneAfter r (suc n)
-    unfolding doneAfter moved phaseWord
-    done-further s n =
-        let e : suc (r .done) + n ≡ r .done + suc n = omega arith in
-        ap (λ (t : Session). doneAfter t n) (inside s) ∙ rw e refl
-
-    room-further : (s : Sponge) (n : ℕ) → r .done + suc n ≤ lengthOf (phaseWord r)
-        → moved r s (nextPhase r) (nextDone r) .done + n ≤ lengthOf (phaseWord (moved r s (nextPhase r) (nextDone r)))
-    unfolding moved phaseWord
-    room-further s n h =
-        let room : suc (r .done) + n ≤ lengthOf (phaseWord r) = omega arith in
-        subst (λ (t : Session). t .done + n ≤ lengthOf (phaseWord t)) (sym (inside s)) room
-
-    -- n elements more after one that is not the phase's last
-    further : (s t : Sponge) (n : ℕ)
-        → moved (moved r s (nextPhase r) (nextDone r)) t (phaseAfter (moved r s (nextPhase r) (nextDone r)) n)
-        (doneAfter (moved r s (nextPhase r) (nextDone r)) n)
-        ≡ moved r t (phaseAfter r (suc n)) (doneAfter r (suc n))
-    unfolding moved
-    further s t n = ap₂ (moved r t) (phase-further s n) (done-further s n)
-
-sponge-moved : (r : Session) (s : Sponge) (phase done : ℕ) → spongeOf (moved r s phase done) ≡ s
-unfolding spongeOf moved
-sponge-moved r s phase done = refl
-
--- ---- records
-
-absorb-some : (xs : List ℕ) (x : ℕ) (r : Session) → r .done + suc (length xs) ≤ lengthOf (phaseWord r)
-    → absorbAll r (x ∷ xs)
-    ≡ moved r (absorbElements (spongeOf r) (x ∷ xs)) (phaseAfter r (suc (length xs))) (doneAfter r (suc (length xs)))
-unfolding absorbAll absorbOne absorbElements
-absorb-some [] x r h = ap₂ (moved r _) (last-phase r) (last-done r)
-absorb-some (y ∷ xs) x r h =
-    let s = absorbElement (spongeOf r) x in
-    let more : suc (r .done) < lengthOf (phaseWord r) = omega arith in
-    let n = suc (length xs) in
-    absorb-some xs y (absorbOne r x) (room-further r more s n h)
-    ∙ rw (sponge-moved r s (nextPhase r) (nextDone r)) (further r more s (absorbElements s (y ∷ xs)) n)
-
-squeeze-some : (n : ℕ) (r : Session) → r .done + suc n ≤ lengthOf (phaseWord r)
-    → squeezeAll r (suc n) ≡ moved r (squeezeElements (spongeOf r) (suc n)) (phaseAfter r (suc n)) (doneAfter r (suc n))
-unfolding squeezeAll squeezeOne squeezeElements
-squeeze-some zero r h = ap₂ (moved r _) (last-phase r) (last-done r)
-squeeze-some (suc n) r h =
-    let s = squeezeElement (spongeOf r) in
-    let more : suc (r .done) < lengthOf (phaseWord r) = omega arith in
-    squeeze-some n (squeezeOne r) (room-further r more s (suc n) h)
-    ∙ rw (sponge-moved r s (nextPhase r) (nextDone r)) (further r more s (squeezeElements s (suc n)) (suc n))
-
-pub squeezed-all : (n : ℕ) (r : Session) → squeezedAll r n ≡ squeezedElements (spongeOf r) n
-unfolding squeezedAll squeezeOne squeezedOne squeezedElements
-squeezed-all zero r = refl
-squeezed-all (suc n) r =
-    ap (λ (l : List ℕ). squeezedElement (spongeOf r) ∷ l)
-    (squeezed-all n (squeezeOne r) ∙ ap (λ (s : Sponge). squeezedElements s n) (sponge-moved r (squeezeElement (spongeOf r)) (nextPhase r) (nextDone r)))
-
-pub squeeze-all : (n : ℕ) (r : Session) → 1 ≤ n → r .done + n ≤ lengthOf (phaseWord r)
-    → squeezeAll r n ≡ moved r (squeezeElements (spongeOf r) n) (phaseAfter r n) (doneAfter r n)
-squeeze-all zero r some h = absurd (omega arith)
-squeeze-all (suc n) r some h = squeeze-some n r h
-
--- absorbing sets the squeeze position, so that the one before does not matter
-pub absorb-all : (xs : List ℕ) (r : Session) → 1 ≤ length xs → r .done + length xs ≤ lengthOf (phaseWord r)
-    → absorbAll r xs
-    ≡ moved r (absorbElements (sponge (r .state) (r .«absorb_position») rate (r .permutations)) xs) (phaseAfter r (length xs)) (doneAfter r (length xs))
-unfolding absorbElements spongeOf
-absorb-all [] r some h = absurd (omega arith)
-absorb-all (x ∷ xs) r some h =
-    let first = absorb-parts (r .state) (r .«absorb_position») (r .«squeeze_position») (r .permutations) x
-    ∙ sym (absorb-parts (r .state) (r .«absorb_position») rate (r .permutations) x) in
-    absorb-some xs x r h ∙ ap (λ (s : Sponge). moved r (absorbElements s xs) (phaseAfter r (suc (length xs))) (doneAfter r (suc (length xs)))) first
+  pub squeezed-all : (n : ℕ) → squeezedElements babyBear uncounted n ≡ squeezedAll r n
+  squeezed-all n =
+      sym (elements-counted babyBear n (r .permutations) uncounted)
+      ∙ ap (λ (s : Sponge). squeezedElements babyBear s n) recounted
+      ∙ sym (squeezed-some n r)

@@ -1,10 +1,5 @@
-pub mod Elements
-pub mod Pattern
 pub mod Folds
-pub mod Counts
 pub mod SoundRecord
-pub mod SoundPattern
-pub mod Places
+pub mod Numbers
 pub mod Opening
 pub mod Buffers
-pub mod LentRecord

@@ -1,21 +1,19 @@
 -- START, by what the check answers.
 -- Assumes nothing.
 use mathlib.Core.Path.{_≡_}
-use mathlib.Core.List.{List}
 use mathlib.Core.Logic.{_≢_}
-use Prim.Native.Nat.{ℕ}
 use borrow.Author.Tests.{eq-eqb, ne-eqb}
 use Rattle.basics.specs.Numbers.{accepted}
 use Rattle.basics.proofs.Cases.{if-true, if-false}
-use Rattle.tag.specs.Start.{startNumber}
+use Rattle.pattern.specs.Opening.{Opening, startNumber}
 use Rattle.session.specs.Record.{wiped}
 use Rattle.session.specs.Calls.{giving, startRecord, start}
 
-module _ (ws separator : List ℕ) where
-  pub start-refused : startNumber ws separator ≢ accepted → start ws separator ≡ giving (startNumber ws separator) wiped
+module _ (o : Opening) where
+  pub start-refused : startNumber o ≢ accepted → start o ≡ giving (startNumber o) wiped
   unfolding start
   start-refused n = if-false _ _ _ (ne-eqb _ _ n)
 
-  pub start-opens : startNumber ws separator ≡ accepted → start ws separator ≡ giving accepted (startRecord ws separator)
+  pub start-opens : startNumber o ≡ accepted → start o ≡ giving accepted (startRecord o)
   unfolding start
   start-opens e = if-true _ _ _ (eq-eqb _ _ e)

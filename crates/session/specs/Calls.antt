@@ -1,19 +1,21 @@
 -- What START, ABSORB, SQUEEZE and FINISH answer: a number, and the record left. From document 01, "Calls turned away".
 use mathlib.Core.Bool.{Bool, true, false, not}
-use mathlib.Core.List.{List}
-use Prim.Native.Nat.{ℕ, _+_}
-use lib.Dec.{leb, ltb, eqb}
+use mathlib.Core.List.{List, [], _++_}
+use Prim.Native.Nat.{ℕ}
+use lib.Dec.{eqb}
 use lib.ListN.{length}
-use Rattle.basics.specs.Logic.{if_then_else_, _and_, same, all}
+use Rattle.basics.specs.Logic.{if_then_else_, _or_, all}
 use Rattle.basics.specs.Numbers.{accepted, recordNotOpen, recordNotSound, callNotInPattern, elementNotReduced, patternNotDone}
+use Rattle.basics.specs.Refusals.{Row, _gets_⨾_, firstNumber}
 use Rattle.field.specs.Field.{isElement}
 use Rattle.sha3.specs.Sponge.{sha3}
-use Rattle.tag.specs.Pattern.{isAbsorb, lengthOf, mergedWords}
-use Rattle.tag.specs.Start.{startNumber}
+use Rattle.pattern.specs.Pattern.{mergedWords}
+use Rattle.pattern.specs.Opening.{Opening, startNumber}
+use Rattle.progress.specs.Place.{inPattern}
 use Rattle.tag.specs.TagString.{tagString}
 use Rattle.tag.specs.Elements.{tagElements}
-use Rattle.session.specs.Sponge.{tagState}
-use Rattle.session.specs.Record.{opened, wiped, openRecord, phaseWord, absorbAll, squeezeAll, squeezedAll}
+use Rattle.sponge.specs.Sponge.{tagState}
+use Rattle.session.specs.Record.{opened, wiped, openRecord, absorbAll, squeezeAll, squeezedAll}
 use Rattle.session.specs.Soundness.{sound}
 use Rattle.session.specs.declared.Session.{Session}
 use Rattle.session.specs.declared.Answer.{Answer}
@@ -22,50 +24,53 @@ use Rattle.session.specs.declared.Answer.{Answer}
 unfoldable pub giving : ℕ → Session → Answer
 giving number r = record { number = number; session = r }
 
--- the record that START gives to accepted words and separator: "SHA3-256 (FIPS 202) of that string is the digest."
-unfoldable pub startRecord : List ℕ → List ℕ → Session
-startRecord ws separator = openRecord (tagState (tagElements (sha3 (tagString ws separator)))) (mergedWords ws)
+-- the record that START gives to an accepted opening: "SHA3-256 (FIPS 202) of that string is the digest."
+unfoldable pub startRecord : Opening → Session
+startRecord o = openRecord (tagState (tagElements (sha3 (tagString o)))) (mergedWords (o .words))
 
 -- "START checks 1 to 6 in number order, whichever word is at fault, and a refusal gives a wiped record."
-unfoldable pub start : List ℕ → List ℕ → Answer
-start ws separator =
-    if eqb (startNumber ws separator) accepted then giving accepted (startRecord ws separator)
-    else giving (startNumber ws separator) wiped
+unfoldable pub start : Opening → Answer
+start o = if eqb (startNumber o) accepted then giving accepted (startRecord o) else giving (startNumber o) wiped
 
--- the opposite of "wrong kind, past the phase's end, or after the last phase": n elements of a kind lie in the record's phase
-unfoldable pub inPattern : Bool → ℕ → Session → Bool
-inPattern absorbs n r =
-    ltb (r .phase) (r .count) and same absorbs (isAbsorb (phaseWord r)) and leb (r .done + n) (lengthOf (phaseWord r))
+-- the rows about the record, which ABSORB, SQUEEZE and FINISH check first: 7 and 8
+unfoldable pub recordRows : Session → List Row
+recordRows r = not (eqb (r .status) opened) gets recordNotOpen ⨾ not (sound r) gets recordNotSound ⨾ []
 
--- "ABSORB and SQUEEZE check 7, 8, then accept length 0, then 9, then 10 (ABSORB only)." "Numbers 9 and 11 wipe the record; 7, 8 and 10 leave
--- it."
+-- the rows of a call of n elements of a kind: "ABSORB and SQUEEZE check 7, 8, then accept length 0, then 9"
+unfoldable pub callRows : Bool → ℕ → Session → List Row
+callRows absorbs n r =
+    recordRows r
+    ++ (eqb n 0 gets accepted ⨾ not (inPattern (r .words) (r .count) (r .phase) (r .done) absorbs n) gets callNotInPattern ⨾ [])
+
+-- "then 10 (ABSORB only)"
+unfoldable pub absorbRows : Session → List ℕ → List Row
+absorbRows r xs = callRows true (length xs) r ++ (not (all isElement xs) gets elementNotReduced ⨾ [])
+
+-- "FINISH checks 7, 8, 11."
+unfoldable pub finishRows : Session → List Row
+finishRows r = recordRows r ++ (not (eqb (r .phase) (r .count)) gets patternNotDone ⨾ [])
+
+-- "Numbers 9 and 11 wipe the record; 7, 8 and 10 leave it."
+unfoldable pub wipes : ℕ → Bool
+wipes number = eqb number callNotInPattern or eqb number patternNotDone
+
+-- the answer to a call on a record: its number, and what is left of the record, which is `next` where the call is accepted
+unfoldable pub answerOf : ℕ → Session → Session → Answer
+answerOf number r next = giving number (if eqb number accepted then next else if wipes number then wiped else r)
+
+-- ABSORB of a list
 unfoldable pub absorb : Session → List ℕ → Answer
-absorb r xs =
-    if not (eqb (r .status) opened) then giving recordNotOpen r
-    else if not (sound r) then giving recordNotSound r
-    else if eqb (length xs) 0 then giving accepted r
-    else if not (inPattern true (length xs) r) then giving callNotInPattern wiped
-    else if not (all isElement xs) then giving elementNotReduced r
-    else giving accepted (absorbAll r xs)
+absorb r xs = answerOf (firstNumber (absorbRows r xs)) r (absorbAll r xs)
 
 -- SQUEEZE of n elements
 unfoldable pub squeeze : Session → ℕ → Answer
-squeeze r n =
-    if not (eqb (r .status) opened) then giving recordNotOpen r
-    else if not (sound r) then giving recordNotSound r
-    else if eqb n 0 then giving accepted r
-    else if not (inPattern false n r) then giving callNotInPattern wiped
-    else giving accepted (squeezeAll r n)
+squeeze r n = answerOf (firstNumber (callRows false n r)) r (squeezeAll r n)
 
 -- the buffer lent to SQUEEZE, afterwards: "A refused SQUEEZE writes no element."
 unfoldable pub squeezeBuffer : Session → List ℕ → List ℕ
 squeezeBuffer r buffer =
     if eqb (squeeze r (length buffer) .number) accepted then squeezedAll r (length buffer) else buffer
 
--- "FINISH checks 7, 8, 11."
+-- FINISH: it wipes the record
 unfoldable pub finish : Session → Answer
-finish r =
-    if not (eqb (r .status) opened) then giving recordNotOpen r
-    else if not (sound r) then giving recordNotSound r
-    else if not (eqb (r .phase) (r .count)) then giving patternNotDone wiped
-    else giving accepted wiped
+finish r = answerOf (firstNumber (finishRows r)) r wiped

@@ -1,4 +1,3 @@
-pub mod Sponge
 pub mod Record
 pub mod Soundness
 pub mod Calls

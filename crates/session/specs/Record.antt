@@ -1,12 +1,14 @@
 -- The session's record, and what one element does to it. From document 01, "Session steps".
-use mathlib.Core.Bool.{Bool}
 use mathlib.Core.List.{List, [], _∷_, _++_}
 use Prim.Native.Nat.{ℕ, zero, suc, _-_}
-use lib.Dec.{eqb}
 use lib.ListN.{length, getD, replicate}
-use Rattle.basics.specs.Logic.{if_then_else_}
-use Rattle.tag.specs.Pattern.{lengthOf}
-use Rattle.session.specs.Sponge.{width, Sponge, absorbElement, squeezeElement, squeezedElement}
+use Rattle.basics.specs.Figures.{width}
+use Rattle.pattern.specs.Pattern.{maxWords}
+use Rattle.progress.specs.Place.{nextPlace}
+use Rattle.progress.specs.declared.place.Place.{Place}
+use Rattle.poseidon.specs.Permutation.{babyBear}
+use Rattle.sponge.specs.Sponge.{sponge, absorbElement, squeezeElement, squeezedElement}
+use Rattle.sponge.specs.declared.Sponge.{Sponge}
 use Rattle.session.specs.declared.Session.{Session}
 
 -- "a status (1 open, otherwise closed)"
@@ -19,7 +21,7 @@ wiped =
     record {
       status = 0;
       state = replicate width 0;
-      words = replicate 64 0;
+      words = replicate maxWords 0;
       count = 0;
       phase = 0;
       done = 0;
@@ -35,7 +37,7 @@ openRecord state ws =
     record {
       status = opened;
       state = state;
-      words = ws ++ replicate (64 - length ws) 0;
+      words = ws ++ replicate (maxWords - length ws) 0;
       count = length ws;
       phase = 0;
       done = 0;
@@ -46,57 +48,42 @@ openRecord state ws =
 
 -- the record's sponge
 unfoldable pub spongeOf : Session → Sponge
-spongeOf r =
-    record {
-      state = r .state;
-      absorbPosition = r .«absorb_position»;
-      squeezePosition = r .«squeeze_position»;
-      permutations = r .permutations;
-    }
+spongeOf r = sponge (r .state) (r .«absorb_position») (r .«squeeze_position») (r .permutations)
 
 -- the record with another sponge at another place of its pattern
-unfoldable pub moved : Session → Sponge → ℕ → ℕ → Session
-moved r s phase done =
+unfoldable pub moved : Session → Sponge → Place → Session
+moved r s place =
     record {
       status = r .status;
       state = s .state;
       words = r .words;
       count = r .count;
-      phase = phase;
-      done = done;
-      «absorb_position» = s .absorbPosition;
-      «squeeze_position» = s .squeezePosition;
+      phase = place .phase;
+      done = place .done;
+      «absorb_position» = s .«absorb_position»;
+      «squeeze_position» = s .«squeeze_position»;
       permutations = s .permutations;
     }
 
 -- the word of the record's phase
-unfoldable pub phaseWord : Session → ℕ
+abbrev pub phaseWord : Session → ℕ
 phaseWord r = getD (r .words) (r .phase) 0
 
--- the next element is the phase's last
-unfoldable pub lastElement : Session → Bool
-lastElement r = eqb (suc (r .done)) (lengthOf (phaseWord r))
-
--- the phase number after one element more: "When a phase's last element is done, the phase number (from 0) rises by one and elements done is
--- 0."
-unfoldable pub nextPhase : Session → ℕ
-nextPhase r = if lastElement r then suc (r .phase) else r .phase
-
--- the elements done in that phase then
-unfoldable pub nextDone : Session → ℕ
-nextDone r = if lastElement r then 0 else suc (r .done)
+-- the record's place after one element more
+abbrev pub placeNext : Session → Place
+placeNext r = nextPlace (r .words) (r .phase) (r .done)
 
 -- the record after one element is absorbed
 unfoldable pub absorbOne : Session → ℕ → Session
-absorbOne r x = moved r (absorbElement (spongeOf r) x) (nextPhase r) (nextDone r)
+absorbOne r x = moved r (absorbElement babyBear (spongeOf r) x) (placeNext r)
 
 -- the record after one element is squeezed
 unfoldable pub squeezeOne : Session → Session
-squeezeOne r = moved r (squeezeElement (spongeOf r)) (nextPhase r) (nextDone r)
+squeezeOne r = moved r (squeezeElement babyBear (spongeOf r)) (placeNext r)
 
 -- the element that comes out then
 unfoldable pub squeezedOne : Session → ℕ
-squeezedOne r = squeezedElement (spongeOf r)
+squeezedOne r = squeezedElement babyBear (spongeOf r)
 
 -- the record after a list is absorbed, element by element
 unfoldable pub absorbAll : Session → List ℕ → Session

@@ -1,6 +1,6 @@
 // Runs the calls of standard input through the library, carries the record from call to call, and prints what each call answers.
-// tests/sessions.py says how lines are laid out; stdin is what it makes, and stdout what another implementation answers to it:
-// `safe_oracle.py`, in Python, written from document 01 by other hands.
+// tests/sessions.py says how lines are laid out; stdin is what it makes, and stdout what the second implementation answers to it, in
+// Python, written from document 01 by other hands (tests/oracle).
 
 ghost use mathlib.Core.Path.{_≡_};
 ghost use Prim.Native.Nat.{_+_, _≤_, _<_};

@@ -1,13 +1,4 @@
-pub mod WordKinds
-pub mod PermutationCounts
-pub mod Given
-pub mod MergeStep
-pub mod Answers
-pub mod Bytes
-pub mod Soundness
-pub mod StartCheck
-pub mod Checked
+pub mod WordBytes
 pub mod Writing
 pub mod Reading
-pub mod MergedWords
 pub mod ReadBack

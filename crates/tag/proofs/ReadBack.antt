@@ -17,17 +17,18 @@ use Rattle.basics.specs.Numbers.{accepted, notTagString}
 use Rattle.basics.proofs.Cases.{and-left, and-right, and-both, or-false}
 use Rattle.basics.proofs.Fill.{tabulate-cons, tabulate-same}
 use Rattle.basics.proofs.Positional.{number-digits, digits-number, take-below}
-use Rattle.tag.specs.Pattern.{Phase, phaseOf, wordOf, phases, mergedWords, soundWords}
-use Rattle.tag.specs.Start.{tooLong, startNumber, withWords}
-use Rattle.tag.specs.TagString.{wordBytes, tagString, wordAt, wordsOf, wordsPart, separatorPart, soundBytes, readNumber, readWords, wordsRead, readSeparator}
-use Rattle.tag.specs.declared.Merged.{Merged}
-use Rattle.tag.proofs.WordKinds.{word-below, phase-of-word}
-use Rattle.tag.proofs.Bytes.{length-word-bytes}
-use Rattle.tag.proofs.Answers.{words-used}
-use Rattle.tag.proofs.StartCheck.{rows}
+use Rattle.words.specs.Words.{Phase, phaseOf, wordOf}
+use Rattle.pattern.specs.Pattern.{phases, mergedWords, soundWords}
+use Rattle.pattern.specs.Opening.{Opening, opening, tooLong, startNumber, withWords}
+use Rattle.tag.specs.TagString.{wordBytes, stringOf, tagString, wordAt, wordsOf, wordsPart, separatorPart, soundBytes, readNumber, readWords, wordsRead, readSeparator}
+use Rattle.pattern.specs.declared.Merged.{Merged}
+use Rattle.words.proofs.WordKinds.{word-below, phase-of-word}
+use Rattle.tag.proofs.WordBytes.{length-word-bytes}
+use Rattle.pattern.proofs.Answers.{words-used}
+use Rattle.pattern.proofs.StartCheck.{passed as passed-opening}
 use Rattle.tag.proofs.Writing.{length-tag-string}
 use Rattle.tag.proofs.Reading.{number-0, read-accepted, separator-accepted, passed}
-use Rattle.tag.proofs.MergedWords.{merged-sound, sound-merged, sound-accepted}
+use Rattle.pattern.proofs.MergedWords.{merged-sound, sound-merged, sound-accepted}
 
 -- ---- words and their bytes
 
@@ -97,41 +98,46 @@ phases-of-words (a ∷ ps) e =
 
 -- ---- reading what was written
 
-module _ (ws separator : List ℕ) (e : startNumber ws separator ≡ accepted) where
+module _ (o : Opening) (e : startNumber o ≡ accepted) where
   abbrev s : List ℕ
-  s = tagString ws separator
+  s = tagString o
 
   abbrev n : ℕ
-  n = length separator
+  n = length (o .separator)
 
-  size : length s - n ≡ length (wordBytes (mergedWords ws))
-  size = omega (arith, length-tag-string ws separator, length-word-bytes (mergedWords ws))
+  abbrev bytes : List ℕ
+  bytes = wordBytes (mergedWords (o .words))
 
-  front : wordsPart s n ≡ wordBytes (mergedWords ws)
-  unfolding wordsPart tagString
-  front = take-at (wordBytes (mergedWords ws)) separator (length s - n) (sym size)
+  size : length s - n ≡ length bytes
+  size = omega (arith, length-tag-string o, length-word-bytes (mergedWords (o .words)))
 
-  back : separatorPart s n ≡ separator
-  unfolding separatorPart tagString
-  back = drop-at (wordBytes (mergedWords ws)) separator (length s - n) (sym size)
+  front : wordsPart s n ≡ bytes
+  unfolding wordsPart tagString stringOf
+  front = take-at bytes (o .separator) (length s - n) (sym size)
 
-  words : wordsOf (wordsPart s n) ≡ mergedWords ws
+  back : separatorPart s n ≡ o .separator
+  unfolding separatorPart tagString stringOf
+  back = drop-at bytes (o .separator) (length s - n) (sym size)
+
+  words : wordsOf (wordsPart s n) ≡ mergedWords (o .words)
   unfolding mergedWords
-  words = ap wordsOf front ∙ words-of-bytes (mergedWords ws) (phases-of-words (phases ws) (rows ws separator e .e5) .1)
+  words =
+      ap wordsOf front
+      ∙ words-of-bytes (mergedWords (o .words)) (phases-of-words (phases (o .words)) (passed-opening o e .of-words .e5) .1)
 
   sound-string : soundBytes (wordsPart s n) ≡ true
   unfolding soundBytes
   sound-string =
-      let whole : length (wordsPart s n) % 4 ≡ 0 = rw front (omega (arith, length-word-bytes (mergedWords ws))) in
-      and-both _ _ (eq-eqb (length (wordsPart s n) % 4) 0 whole) (ap soundWords words ∙ merged-sound ws separator e)
+      let whole : length (wordsPart s n) % 4 ≡ 0 = rw front (omega (arith, length-word-bytes (mergedWords (o .words)))) in
+      and-both _ _ (eq-eqb (length (wordsPart s n) % 4) 0 whole) (ap soundWords words ∙ merged-sound o e)
 
   pub reads : readNumber s n ≡ accepted
-  reads = number-0 s n (ltb-false 256 n (rows ws separator e .e6)) (omega (arith, length-tag-string ws separator)) sound-string
+  reads = number-0 s n (passed-opening o e .short) (omega (arith, length-tag-string o)) sound-string
 
-  pub reads-words : readWords s n ≡ withWords accepted (mergedWords ws)
+  pub reads-words : readWords s n ≡ withWords accepted (mergedWords (o .words))
   reads-words = read-accepted s n reads ∙ ap (withWords accepted) words
 
-  pub reads-separator : readSeparator s n ≡ separator
+  pub reads-separator : readSeparator s n ≡ o .separator
   reads-separator = separator-accepted s n reads ∙ back
 
 -- ---- writing what was read
@@ -159,48 +165,57 @@ module _ (s : List ℕ) (n : ℕ) (bytes : (k : ℕ) → getD s k 0 < 256) (e : 
   unfolding separatorPart
   separator-length = let long = passed s n e .long in omega (arith, length-drop (length s - n) s)
 
-  pub writes : startNumber (wordsRead s n) (readSeparator s n) ≡ accepted
-  writes =
-      ap₂ startNumber words-read (separator-accepted s n e)
-      ∙ sound-accepted (wordsOf head) (separatorPart s n) sound-words (rw separator-length (passed s n e .short))
+  -- what is read, as an opening
+  abbrev again : Opening
+  again = opening (wordsRead s n) (readSeparator s n)
 
-  pub writes-string : tagString (wordsRead s n) (readSeparator s n) ≡ s
-  unfolding tagString wordsPart separatorPart
+  again-parts : again ≡ opening (wordsOf head) (separatorPart s n)
+  again-parts = ap₂ opening words-read (separator-accepted s n e)
+
+  pub writes : startNumber (opening (wordsRead s n) (readSeparator s n)) ≡ accepted
+  writes =
+      ap startNumber again-parts
+      ∙ sound-accepted (opening (wordsOf head) (separatorPart s n)) sound-words (rw separator-length (passed s n e .short))
+
+  pub writes-string : tagString (opening (wordsRead s n) (readSeparator s n)) ≡ s
+  unfolding tagString stringOf wordsPart separatorPart
   writes-string =
-      ap₂ tagString words-read (separator-accepted s n e)
+      ap tagString again-parts
       ∙ ap (λ (ws : List ℕ). wordBytes ws ++ separatorPart s n) (sound-merged (wordsOf head) sound-words (words-below head whole head-bytes))
       ∙ ap (λ (l : List ℕ). l ++ separatorPart s n) (bytes-of-words head whole head-bytes)
       ∙ take-append-drop (length s - n) s
 
 -- ---- what tag strings tell
 
--- number 13: no accepted pattern with a separator of that length has this string
+-- number 13: no accepted opening with a separator of that length has this string
 pub refused-string : (s : List ℕ) (n : ℕ) → readNumber s n ≡ notTagString
-    → (ws separator : List ℕ) → startNumber ws separator ≡ accepted → length separator ≡ n → tagString ws separator ≢ s
-refused-string s n r ws separator e l q =
-    let z : accepted ≡ notTagString = sym (reads ws separator e) ∙ ap₂ readNumber q l ∙ r in
+    → (o : Opening) → startNumber o ≡ accepted → length (o .separator) ≡ n → tagString o ≢ s
+refused-string s n r o e l q =
+    let z : accepted ≡ notTagString = sym (reads o e) ∙ ap₂ readNumber q l ∙ r in
     absurd (omega arith)
 
 -- an accepted pattern's kinds and lengths are those of its merged words
-pub phases-read : (ws separator : List ℕ) → startNumber ws separator ≡ accepted → map phaseOf (mergedWords ws) ≡ phases ws
+pub phases-read : (o : Opening) → startNumber o ≡ accepted → map phaseOf (mergedWords (o .words)) ≡ phases (o .words)
 unfolding mergedWords
-phases-read ws separator e = phases-of-words (phases ws) (rows ws separator e .e5) .0
+phases-read o e = phases-of-words (phases (o .words)) (passed-opening o e .of-words .e5) .0
 
 module _
-    (ws separator vs other : List ℕ)
-    (e : startNumber ws separator ≡ accepted)
-    (f : startNumber vs other ≡ accepted)
-    (l : length separator ≡ length other)
+    (a b : Opening)
+    (e : startNumber a ≡ accepted)
+    (f : startNumber b ≡ accepted)
+    (l : length (a .separator) ≡ length (b .separator))
   where
-    tell : tagString ws separator ≡ tagString vs other → (phases ws ≡ phases vs) × (separator ≡ other)
+    tell : tagString a ≡ tagString b → (phases (a .words) ≡ phases (b .words)) × (a .separator ≡ b .separator)
     tell q =
-        let answers = sym (reads-words ws separator e) ∙ ap₂ readWords q l ∙ reads-words vs other f in
+        let answers = sym (reads-words a e) ∙ ap₂ readWords q l ∙ reads-words b f in
         let merged =
-        sym (words-used accepted (mergedWords ws)) ∙ ap (λ (m : Merged). take (m .count) (m .words)) answers ∙ words-used accepted (mergedWords vs) in (
-          sym (phases-read ws separator e) ∙ ap (map phaseOf) merged ∙ phases-read vs other f,
-          sym (reads-separator ws separator e) ∙ ap₂ readSeparator q l ∙ reads-separator vs other f,
+        sym (words-used accepted (mergedWords (a .words)))
+        ∙ ap (λ (m : Merged). take (m .count) (m .words)) answers
+        ∙ words-used accepted (mergedWords (b .words)) in (
+          sym (phases-read a e) ∙ ap (map phaseOf) merged ∙ phases-read b f,
+          sym (reads-separator a e) ∙ ap₂ readSeparator q l ∙ reads-separator b f,
         )
 
-    pub strings-tell : (tagString ws separator ≡ tagString vs other) ↔ ((phases ws ≡ phases vs) × (separator ≡ other))
+    pub strings-tell : (tagString a ≡ tagString b) ↔ ((phases (a .words) ≡ phases (b .words)) × (a .separator ≡ b .separator))
     unfolding tagString mergedWords
-    strings-tell = (tell, λ p. ap₂ (λ (ps : List Phase) (t : List ℕ). wordBytes (map wordOf ps) ++ t) (p .0) (p .1))
+    strings-tell = (tell, λ p. ap₂ (λ (ps : List Phase) (t : List ℕ). stringOf (map wordOf ps) t) (p .0) (p .1))

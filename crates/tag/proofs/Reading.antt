@@ -12,14 +12,15 @@ use lib.ListN.{length, take, drop, replicate, length-drop}
 use lib.Seq.{length-take-le, take-at, take-all, take-nil, drop-length}
 use Rattle.basics.specs.Logic.{_and_}
 use Rattle.basics.specs.Numbers.{accepted, separatorTooLong, notTagString}
+use Rattle.basics.specs.Refusals.{firstNumber}
 use Rattle.basics.proofs.Cases.{by, if-true, if-false, and-false}
 use Rattle.basics.proofs.Fill.{length-tabulate}
-use Rattle.tag.specs.Pattern.{soundWords}
-use Rattle.tag.specs.Start.{withWords, answerWith}
-use Rattle.tag.specs.TagString.{wordAt, wordsOf, wordsPart, separatorPart, soundBytes, readNumber, readWords, readSeparator}
-use Rattle.tag.specs.declared.Merged.{Merged}
-use Rattle.tag.proofs.Given.{given-accepted, given-refused, answer-accepted, answer-refused}
-use Rattle.tag.proofs.Soundness.{too-many}
+use Rattle.pattern.specs.Pattern.{soundWords}
+use Rattle.pattern.specs.Opening.{withWords, answerWith}
+use Rattle.tag.specs.TagString.{wordAt, wordsOf, wordsPart, separatorPart, soundBytes, readRows, readNumber, readWords, readSeparator}
+use Rattle.pattern.specs.declared.Merged.{Merged}
+use Rattle.pattern.proofs.Given.{given-accepted, given-refused, answer-accepted, answer-refused}
+use Rattle.pattern.proofs.Soundness.{too-many}
 
 pub length-words-of : (s : List ℕ) → length (wordsOf s) ≡ length s / 4
 unfolding wordsOf
@@ -53,7 +54,7 @@ module _ (s : List ℕ) (n : ℕ) where
     pub sound : soundBytes (wordsPart s n) ≡ true
 
   pub passed : readNumber s n ≡ accepted → Passed
-  unfolding readNumber
+  unfolding readNumber readRows firstNumber
   passed =
       by (λ (k : ℕ). k ≡ accepted → Passed) _ _ _ (λ _ e. absurd (omega arith)) λ e1.
       by (λ (k : ℕ). k ≡ accepted → Passed) _ _ _ (λ _ e. absurd (omega arith)) λ e2.
@@ -61,21 +62,21 @@ module _ (s : List ℕ) (n : ℕ) where
       record { short = ltb-false 256 n e1; long = ltb-false (length s) n e2; sound = not-false _ e3 }
 
   pub number-6 : 256 < n → readNumber s n ≡ separatorTooLong
-  unfolding readNumber
+  unfolding readNumber readRows firstNumber
   number-6 h = if-true _ _ _ (lt-ltb 256 n h)
 
   module _ (h1 : n ≤ 256) where
     pub number-13-short : length s < n → readNumber s n ≡ notTagString
-    unfolding readNumber
+    unfolding readNumber readRows firstNumber
     number-13-short h = if-false _ _ _ (le-ltb 256 n h1) ∙ if-true _ _ _ (lt-ltb (length s) n h)
 
     module _ (h2 : n ≤ length s) where
       pub number-13 : soundBytes (wordsPart s n) ≡ false → readNumber s n ≡ notTagString
-      unfolding readNumber
+      unfolding readNumber readRows firstNumber
       number-13 e = if-false _ _ _ (le-ltb 256 n h1) ∙ if-false _ _ _ (le-ltb (length s) n h2) ∙ if-true _ _ _ (ap not e)
 
       pub number-0 : soundBytes (wordsPart s n) ≡ true → readNumber s n ≡ accepted
-      unfolding readNumber
+      unfolding readNumber readRows firstNumber
       number-0 e = if-false _ _ _ (le-ltb 256 n h1) ∙ if-false _ _ _ (le-ltb (length s) n h2) ∙ if-false _ _ _ (ap not e)
 
   -- what precedes the separator, by its length

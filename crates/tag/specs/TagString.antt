@@ -4,13 +4,14 @@ use mathlib.Core.List.{List, [], _∷_, _++_}
 use Prim.Native.Nat.{ℕ, _-_, _*_, _/_, _%_}
 use lib.Dec.{ltb, eqb}
 use lib.ListN.{length, take, drop}
-use Rattle.basics.specs.Logic.{if_then_else_, _and_}
+use Rattle.basics.specs.Logic.{_and_}
 use Rattle.basics.specs.Lists.{tabulate}
 use Rattle.basics.specs.Digits.{digits, number}
-use Rattle.basics.specs.Numbers.{accepted, separatorTooLong, bufferTooShort, notTagString}
-use Rattle.tag.specs.Pattern.{mergedWords, soundWords}
-use Rattle.tag.specs.Start.{startNumber, given, answerWith}
-use Rattle.tag.specs.declared.Merged.{Merged}
+use Rattle.basics.specs.Numbers.{separatorTooLong, bufferTooShort, notTagString}
+use Rattle.basics.specs.Refusals.{Row, _gets_⨾_, firstNumber}
+use Rattle.pattern.specs.Pattern.{mergedWords, soundWords}
+use Rattle.pattern.specs.Opening.{Opening, maxSeparator, startRows, given, answerWith}
+use Rattle.pattern.specs.declared.Merged.{Merged}
 use Rattle.tag.specs.declared.Written.{Written}
 
 -- words as bytes: "four bytes each, highest byte first" (big-endian)
@@ -18,30 +19,53 @@ unfoldable pub wordBytes : List ℕ → List ℕ
 wordBytes [] = []
 wordBytes (w ∷ ws) = digits 256 4 w ++ wordBytes ws
 
+-- the string of merged words and a separator
+unfoldable pub stringOf : List ℕ → List ℕ → List ℕ
+stringOf ws separator = wordBytes ws ++ separator
+
 -- "The tag string is the merged words, four bytes each, highest byte first, then the separator."
-unfoldable pub tagString : List ℕ → List ℕ → List ℕ
-tagString ws separator = wordBytes (mergedWords ws) ++ separator
+unfoldable pub tagString : Opening → List ℕ
+tagString o = stringOf (mergedWords (o .words)) (o .separator)
+
+-- "lent buffer shorter than the tag string": the row of a string and a buffer
+unfoldable pub bufferRows : List ℕ → List ℕ → List Row
+bufferRows string buffer = ltb (length buffer) (length string) gets bufferTooShort ⨾ []
+
+-- the number that writing a string to a buffer gets
+unfoldable pub bufferNumber : List ℕ → List ℕ → ℕ
+bufferNumber string buffer = firstNumber (bufferRows string buffer)
 
 -- "Writing checks 1 to 6, then 12"
-unfoldable pub writeNumber : List ℕ → List ℕ → List ℕ → ℕ
-writeNumber ws separator buffer =
-    if not (eqb (startNumber ws separator) accepted) then startNumber ws separator
-    else if ltb (length buffer) (length (tagString ws separator)) then bufferTooShort
-    else accepted
+unfoldable pub writeRows : Opening → List ℕ → List Row
+writeRows o buffer = startRows o ++ bufferRows (tagString o) buffer
 
--- the bytes that are written: "only the string's bytes, and none when refused"
-unfoldable pub writtenBytes : List ℕ → List ℕ → List ℕ → List ℕ
-writtenBytes ws separator buffer = given (writeNumber ws separator buffer) (tagString ws separator)
+-- the number that writing gets
+unfoldable pub writeNumber : Opening → List ℕ → ℕ
+writeNumber o buffer = firstNumber (writeRows o buffer)
 
--- writing's answer: its number, and how many bytes it wrote
-unfoldable pub written : List ℕ → List ℕ → List ℕ → Written
-written ws separator buffer =
-    record { number = writeNumber ws separator buffer; length = length (writtenBytes ws separator buffer) }
+-- what writing a string answers: the number, and how many bytes were written, "none when refused"
+unfoldable pub writtenWith : ℕ → List ℕ → Written
+writtenWith number string = record { number = number; length = length (given number string) }
 
--- the buffer afterwards: "it writes from the buffer's start"
-unfoldable pub bufferAfter : List ℕ → List ℕ → List ℕ → List ℕ
-bufferAfter ws separator buffer =
-    writtenBytes ws separator buffer ++ drop (length (writtenBytes ws separator buffer)) buffer
+-- the buffer then: "it writes from the buffer's start and only the string's bytes, and none when refused"
+unfoldable pub bufferWith : ℕ → List ℕ → List ℕ → List ℕ
+bufferWith number string buffer = given number string ++ drop (length (given number string)) buffer
+
+-- the answer of writing a string to a buffer, whatever string it is
+unfoldable pub stringWritten : List ℕ → List ℕ → Written
+stringWritten string buffer = writtenWith (bufferNumber string buffer) string
+
+-- the buffer that this leaves
+unfoldable pub stringBuffer : List ℕ → List ℕ → List ℕ
+stringBuffer string buffer = bufferWith (bufferNumber string buffer) string buffer
+
+-- writing's answer
+unfoldable pub written : Opening → List ℕ → Written
+written o buffer = writtenWith (writeNumber o buffer) (tagString o)
+
+-- the buffer that writing leaves
+unfoldable pub bufferAfter : Opening → List ℕ → List ℕ
+bufferAfter o buffer = bufferWith (writeNumber o buffer) (tagString o) buffer
 
 -- the word k of a string, four bytes each, highest byte first
 unfoldable pub wordAt : List ℕ → ℕ → ℕ
@@ -65,12 +89,16 @@ soundBytes s = eqb (length s % 4) 0 and soundWords (wordsOf s)
 
 -- "Reading checks 6 (the length given), then 13: the string is shorter than that length, or what precedes it isn't a sound record's
 -- word list in whole words."
+unfoldable pub readRows : List ℕ → ℕ → List Row
+readRows s n =
+    ltb maxSeparator n gets separatorTooLong ⨾
+    ltb (length s) n gets notTagString ⨾
+    not (soundBytes (wordsPart s n)) gets notTagString ⨾
+    []
+
+-- the number that reading gets
 unfoldable pub readNumber : List ℕ → ℕ → ℕ
-readNumber s n =
-    if ltb 256 n then separatorTooLong
-    else if ltb (length s) n then notTagString
-    else if not (soundBytes (wordsPart s n)) then notTagString
-    else accepted
+readNumber s n = firstNumber (readRows s n)
 
 -- "The merged words come back by value"; "Refused, it gives 64 zero words and count 0."
 unfoldable pub readWords : List ℕ → ℕ → Merged

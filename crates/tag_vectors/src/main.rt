@@ -1,6 +1,6 @@
 // Checks, writes and reads the patterns and tag strings of standard input, and prints the answers. tests/tags.py says how lines are
-// laid out; stdin is what it makes, and stdout what another implementation answers to it: `safe_oracle.py`, in Python, written from
-// document 01 by other hands.
+// laid out; stdin is what it makes, and stdout what the second implementation answers to it, in Python, written from document 01 by
+// other hands (tests/oracle).
 
 ghost use mathlib.Core.Path.{_≡_};
 ghost use Prim.Native.Nat.{_+_, _≤_, _<_};
@@ -157,7 +157,7 @@ fn sum_from(words: &[u32; 64], start: usize) -> u64 {
     sum
 }
 
-fn print_merged(merged: tag::Merged) {
+fn print_merged(merged: pattern::Merged) {
     let words = merged.words;
     let count = merged.count;
     print_number(merged.number as u64);
@@ -171,7 +171,7 @@ fn print_merged(merged: tag::Merged) {
 fn print_write(words: &[u32], separator: &[u8], size: usize)
     requires { ⌜ size ≤ 1024 ⌝ }
 {
-    print_merged(tag::check(words, separator));
+    print_merged(pattern::check(words, separator));
     let mut buffer = [0xa5u8; 1024];
     let written = tag::write(words, separator, &mut buffer[..size]);
     print_number(written.number as u64);

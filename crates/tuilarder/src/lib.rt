@@ -1,9 +1,10 @@
 // The static library for C and Rust: each function makes one call of another crate, and stores what that gives where the caller lends room
-// for it.
+// for it. ABSORB, SQUEEZE and FINISH are the caller's own record's: the step by value, and the record that it leaves stored back.
 use session::Session;
 ghost use mathlib.Core.Path.{_≡_};
 ghost use lib.ListN.{length};
 ghost use Rattle.sha3.specs.Sponge.{sha3};
+ghost use Rattle.pattern.specs.Opening.{opening};
 ghost use Rattle.tag.specs.TagString.{written as writing, bufferAfter, readWords};
 ghost use Rattle.poseidon.specs.Permutation.{permuted};
 ghost use Rattle.session.specs.Calls.{giving, start, absorb, squeeze, squeezeBuffer, finish};
@@ -11,7 +12,7 @@ ghost use Rattle.session.specs.Calls.{giving, start, absorb, squeeze, squeezeBu
 // START into a lent record, whatever that held.
 #[no_mangle]
 pub extern "C" fn tuilarder_start(record: &mut Session, words: &[u32], separator: &[u8]) -> u32
-    ensures { λ r. ⌜ giving r (now («record» .exit)) ≡ start (now (words .entry)) (now (separator .entry)) ⌝ }
+    ensures { λ r. ⌜ giving r (now («record» .exit)) ≡ start (opening (now (words .entry)) (now (separator .entry))) ⌝ }
 {
     let opened = Session::start(words, separator);
     *record = opened.session;
@@ -23,7 +24,9 @@ pub extern "C" fn tuilarder_start(record: &mut Session, words: &[u32], separator
 pub extern "C" fn tuilarder_absorb(record: &mut Session, elements: &[u32]) -> u32
     ensures { λ r. ⌜ giving r (now («record» .exit)) ≡ absorb (now («record» .entry)) (now (elements .entry)) ⌝ }
 {
-    record.absorb(elements)
+    let answer = (*record).absorb_step(elements);
+    *record = answer.session;
+    answer.number
 }
 
 // SQUEEZE on a lent record.
@@ -32,7 +35,9 @@ pub extern "C" fn tuilarder_squeeze(record: &mut Session, out: &mut [u32]) -> u3
     ensures { λ r. ⌜ (giving r (now («record» .exit)) ≡ squeeze (now («record» .entry)) (length (now (out .entry)))) ×
         (now (out .exit) ≡ squeezeBuffer (now («record» .entry)) (now (out .entry))) ⌝ }
 {
-    record.squeeze(out)
+    let answer = (*record).squeeze_step(out);
+    *record = answer.session;
+    answer.number
 }
 
 // FINISH of a lent record.
@@ -40,7 +45,9 @@ pub extern "C" fn tuilarder_squeeze(record: &mut Session, out: &mut [u32]) -> u3
 pub extern "C" fn tuilarder_finish(record: &mut Session) -> u32
     ensures { λ r. ⌜ giving r (now («record» .exit)) ≡ finish (now («record» .entry)) ⌝ }
 {
-    record.finish()
+    let answer = (*record).finish_step();
+    *record = answer.session;
+    answer.number
 }
 
 // One permutation in place. Answers 0, or 10 with the state as it was where an element is p or more.
@@ -64,9 +71,9 @@ pub extern "C" fn tuilarder_write_tag(
     out: &mut [u8],
     written: &mut usize,
 ) -> u32
-    ensures { λ r. ⌜ (r ≡ writing (now (words .entry)) (now (separator .entry)) (now (out .entry)) .number) ×
-        (now (written .exit) ≡ writing (now (words .entry)) (now (separator .entry)) (now (out .entry)) .length) ×
-        (now (out .exit) ≡ bufferAfter (now (words .entry)) (now (separator .entry)) (now (out .entry))) ⌝ }
+    ensures { λ r. ⌜ (r ≡ writing (opening (now (words .entry)) (now (separator .entry))) (now (out .entry)) .number) ×
+        (now (written .exit) ≡ writing (opening (now (words .entry)) (now (separator .entry))) (now (out .entry)) .length) ×
+        (now (out .exit) ≡ bufferAfter (opening (now (words .entry)) (now (separator .entry))) (now (out .entry))) ⌝ }
 {
     let string = tag::write(words, separator, out);
     *written = string.length;

@@ -1,26 +1,50 @@
 -- `card::answer_card` meets its contract.
 -- Assumes nothing.
-use mathlib.Core.Path.{sym, ap, _∙_}
+use mathlib.Core.Path.{_≡_, sym, ap, _∙_}
 use mathlib.Core.List.{List}
-use Prim.Native.Nat.{ℕ}
+use Prim.Native.Nat.{ℕ, _≤_}
 use native.Mathlib.Omega.{arith}
-use lib.ListN.{length}
+use lib.ListN.{length, take}
 use lib.Seq.{length-take-le}
-use Rattle.tag.proofs.Checked.{number-checked, started, count-fits, count-inside}
-use Rattle.tag.proofs.Writing.{tag-string-short, string-inside}
+use Rattle.basics.specs.Numbers.{accepted}
+use Rattle.pattern.specs.Opening.{Opening, opening, startNumber}
+use Rattle.pattern.proofs.Checked.{number-checked, started, count-fits, count-inside}
+use Rattle.tag.specs.TagString.{tagString}
+use Rattle.tag.proofs.Writing.{tag-string-short}
 use Rattle.card.specs.Answer.{okText, beginning}
 use Rattle.card.proofs.Bounds.{few-permutations, small-number}
-use Rattle.card.proofs.CardAnswer.{refuses, counts, string-written, answers}
+use Rattle.card.proofs.CardAnswer.{string-inside, refuses, counts, string-written, answers}
 use borrow.Author.Needs.{needs}
 use Rattle.card.proofs.answer_card.Statement.{statement}
 use Rattle.card.proofs.answer_card.Tie as tie
 
+-- the opening that is checked
+abbrev opened : tie.After-check → Opening
+opened c = let args = c .before .before .before .before .args in opening (args .words .now) (args .separator .now)
+
+-- what is known where it is accepted
+starts : (c : tie.Else1) → startNumber (opened (c .before .before)) ≡ accepted
+starts c = started (opened (c .before .before)) _ (c .before .before .check .ensures) (c .if1 .left)
+
+count-in : (c : tie.Else1) → c .before .before .check .result .count ≤ length (c .before .before .check .result .words)
+count-in c = count-inside (opened (c .before .before)) _ (c .before .before .check .ensures) (c .if1 .left)
+
+-- the string lies in the 512 bytes, where it was written
+string-fits : (c : tie.After-write-string) → c .write-string .result .length ≤ length (c .write-string .last .1 .1 .0)
+string-fits c = rw (c .write-string .ensures .0, c .write-string .ensures .1) (string-inside _ _)
+
+string-read : (c : tie.After-write-string)
+    → take (c .write-string .result .length) (c .write-string .last .1 .1 .0) ≡ tagString (opened (c .before .before .before .before .before .before))
+string-read c =
+    let at-accepted = c .before .before .before .before in
+    let at-check = at-accepted .before .before in
+    string-written (opened at-check) _ (at-check .check .ensures) (at-accepted .if1 .left) _ _ (c .write-string .ensures .0) (c .write-string .ensures .1)
+
 put-no-requires : tie.Need-put-no-requires
 put-no-requires c κs =
     let at-check = c .before .before .before in
-    let args = at-check .before .before .before .before .args in
-    let number = number-checked _ _ _ (at-check .check .ensures) in
-    let small = small-number (args .words .now) (args .separator .now) in
+    let number = number-checked (opened at-check) _ (at-check .check .ensures) in
+    let small = small-number (opened at-check) in
     (search needs, omega arith)
 
 returns : tie.Need-returns
@@ -28,63 +52,58 @@ returns c =
     let at-no = c .before .before in
     let at-check = at-no .before .before .before .before in
     let buffer = at-check .before .before .before .before .args .buffer .now in
-    let text = sym (refuses _ _ _ (at-check .check .ensures) (at-no .before .before .if1 .taken)) in
+    let text = sym (refuses (opened at-check) _ (at-check .check .ensures) (at-no .before .before .if1 .taken)) in
     (at-no .put-no .ensures .0 ∙ ap length text, at-no .put-no .ensures .1 ∙ ap (λ (l : List ℕ). beginning l buffer) text)
 
 array-share-prefix-list : tie.Need-array-share-prefix-list
-array-share-prefix-list c =
-    let at-accepted = c .before .before .before .before in
-    count-inside _ _ _ (at-accepted .before .before .check .ensures) (at-accepted .if1 .left)
+array-share-prefix-list c = count-in (c .before)
+
+slice-aggregate-write-string : tie.Need-slice-aggregate-write-string
+slice-aggregate-write-string c = sym (length-take-le _ _ (count-in (c .before .before)))
+
+array-share-prefix-list-2 : tie.Need-array-share-prefix-list-2
+array-share-prefix-list-2 c = count-in (c .before .before .before .before .before)
 
 slice-aggregate-permutations-at : tie.Need-slice-aggregate-permutations-at
-slice-aggregate-permutations-at c =
-    let at-accepted = c .before .before .before .before .before in
-    sym (length-take-le _ _ (count-inside _ _ _ (at-accepted .before .before .check .ensures) (at-accepted .if1 .left)))
+slice-aggregate-permutations-at c = sym (length-take-le _ _ (count-in (c .before .before .before .before .before .before)))
 
 cast-permutations-at : tie.Need-cast-permutations-at
 cast-permutations-at c =
-    let at-accepted = c .before .before .before .before .before in
-    let few = count-fits _ _ _ (at-accepted .before .before .check .ensures) (at-accepted .if1 .left) in
+    let at-accepted = c .before .before .before .before .before .before in
+    let few = count-fits (opened (at-accepted .before .before)) _ (at-accepted .before .before .check .ensures) (at-accepted .if1 .left) in
     search needs
 
 array-share-prefix-string : tie.Need-array-share-prefix-string
-array-share-prefix-string c =
-    let write = c .before .before .before .before .before .write .ensures in
-    rw (write .0, write .1) (string-inside _ _ _)
+array-share-prefix-string c = string-fits (c .before .before .before .before)
 
 slice-aggregate-put-ok : tie.Need-slice-aggregate-put-ok
-slice-aggregate-put-ok c =
-    let write = c .before .before .before .before .before .before .write .ensures in
-    sym (length-take-le _ _ (rw (write .0, write .1) (string-inside _ _ _)))
+slice-aggregate-put-ok c = sym (length-take-le _ _ (string-fits (c .before .before .before .before .before)))
 
 put-ok-requires : tie.Need-put-ok-requires
 put-ok-requires c κs =
     let at-count = c .before .before in
-    let at-write = at-count .before .before .before .before in
-    let at-accepted = at-write .before .before in
+    let at-string = at-count .before .before .before in
+    let at-accepted = at-string .before .before .before .before in
     let at-check = at-accepted .before .before in
-    let args = at-check .before .before .before .before .args in
-    let checked = at-check .check .ensures in
-    let accepted = started _ _ _ checked (at-accepted .if1 .left) in
-    let string = string-written _ _ _ checked (at-accepted .if1 .left) _ _ (at-write .write .ensures .0) (at-write .write .ensures .1) in
-    let short = tag-string-short (args .words .now) (args .separator .now) accepted in
-    let few = few-permutations (args .words .now) (args .separator .now) accepted in
-    let counted = at-count .permutations-at .ensures ∙ counts _ _ _ checked (at-accepted .if1 .left) in
-    (search needs, omega (arith, ap length string), omega arith)
+    let o = opened at-check in
+    let short = tag-string-short o (starts at-accepted) in
+    let few = few-permutations o (starts at-accepted) in
+    let counted = at-count .permutations-at .ensures ∙ counts o _ (at-check .check .ensures) (at-accepted .if1 .left) in
+    (search needs, omega (arith, ap length (string-read at-string)), omega arith)
 
 returns-2 : tie.Need-returns-2
 returns-2 c =
     let at-ok = c .before .before in
     let at-count = at-ok .before .before .before in
-    let at-write = at-count .before .before .before .before in
-    let at-accepted = at-write .before .before in
+    let at-string = at-count .before .before .before in
+    let at-accepted = at-string .before .before .before .before in
     let at-check = at-accepted .before .before in
     let buffer = at-check .before .before .before .before .args .buffer .now in
     let text =
     ap (okText _) (at-count .permutations-at .ensures)
-    ∙ answers _ _ _ (at-check .check .ensures) (at-accepted .if1 .left) _ _
-    (at-write .write .ensures .0)
-    (at-write .write .ensures .1) in
+    ∙ answers (opened at-check) _ (at-check .check .ensures) (at-accepted .if1 .left) _ _
+    (at-string .write-string .ensures .0)
+    (at-string .write-string .ensures .1) in
     (at-ok .put-ok .ensures .0 ∙ ap length text, at-ok .put-ok .ensures .1 ∙ ap (λ (l : List ℕ). beginning l buffer) text)
 
 pub answer-card-spec : {M : Type 1} → statement M
@@ -95,9 +114,11 @@ answer-card-spec =
     put-no-requires
     (λ c. search needs)
     returns
+    array-share-prefix-list
+    slice-aggregate-write-string
     (λ c. search needs)
     (λ c κs. search needs)
-    array-share-prefix-list
+    array-share-prefix-list-2
     slice-aggregate-permutations-at
     cast-permutations-at
     (λ c κs. search needs)

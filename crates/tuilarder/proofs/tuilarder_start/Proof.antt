@@ -46,8 +46,9 @@ use denote.Triple.Walked.{goes-ref, goes-none-slice, Walks, ends-at, walked, wal
 use denote.Exit.{yes}
 use Rattle.session.specs.declared.Session.{Session}
 use Rattle.session.specs.declared.Answer.{Answer}
+use Rattle.pattern.specs.Opening.{opening}
 use Rattle.session.specs.Calls.{giving, start}
-use Rattle.session.proofs.LentRecord.{number-fits, session-is, opens-record, closes-record}
+use Rattle.tuilarder.proofs.LentSession.{number-fits, session-is, opens-record, closes-record}
 use Rattle.session.proofs.Session as session
 use Rattle.session.proofs.Session.Laws as session-laws
 use Rattle.session.proofs.Answer as answer
@@ -78,9 +79,9 @@ module _ {M : Type 1} (𝓤 : URA M) (H : Heap 𝓤) (A : Atoms 𝓤) (at-mem : 
   -- of the callee's `ensured`, the clause alone: it has no `&mut`, so what is said of last values is dropped
   step-of : (κ₁ κ₂ : Lft) (y z : RefT (List ℕ)) (r : Answer)
       → ent 𝓤 (ensured 𝓤 H A step.ended (step.clauses 𝓤 H A at-mem run) (κ₁, (κ₂, tt)) (y, (z, tt)) tt r)
-      (fact 𝓤 (r ≡ start (now y) (now z)))
+      (fact 𝓤 (r ≡ start (opening (now y) (now z))))
   step-of κ₁ κ₂ y z r =
-      exE 𝓤 _ (λ ws. snd∗ 𝓤 (sem 𝓤 H A (lasts step.ended (κ₁, (κ₂, tt)) (y, (z, tt)) ws)) (fact 𝓤 (r ≡ start (now y) (now z))))
+      exE 𝓤 _ (λ ws. snd∗ 𝓤 (sem 𝓤 H A (lasts step.ended (κ₁, (κ₂, tt)) (y, (z, tt)) ws)) (fact 𝓤 (r ≡ start (opening (now y) (now z)))))
 
 module _ {M : Type 1} (𝓤 : URA M) (H : Heap 𝓤) (A : Atoms 𝓤) (W : Given 𝓤 H A) (at-mem : Memory → SProp 𝓤) (run : Routine → Fun 𝓤)
     (κ κ₁ κ₂ : Lft) (q q₁ q₂ : Share) (b o : ℕ) (γ : GName) (h : Session) (y z : RefT (List ℕ)) where
@@ -109,7 +110,7 @@ module _ {M : Type 1} (𝓤 : URA M) (H : Heap 𝓤) (A : Atoms 𝓤) (W : Given
       qed W ((‵ (flft κ₁ q₁) ⊛ ‵ (flft κ₂ q₂) ⊛ ‵ ftrue) ∷ ‵ S ∷ ‵ P ∷ []) ∵
       nothing ! $ move ! (3 ∷ 0 ∷ []) $ fjoin ! $ move ! (2 ∷ 0 ∷ []) $ fjoin ! $ move ! (1 ∷ 0 ∷ []) $ join ! $ frame ! $ done !
 
-  exits : (r : Answer) → r ≡ start (now y) (now z) → r .number < 2 ^ 32
+  exits : (r : Answer) → r ≡ start (opening (now y) (now z)) → r .number < 2 ^ 32
       → ent 𝓤 (⋆ 𝓤 H A (‵ (fobs γ (session.the-row .coded .code (r .session))) ∷ ‵ (fbor κ (Body (mem session.the-row) b o γ)) ∷ ‵
       (flft κ q) ∷ (‵ (flft κ₁ q₁) ⊛ ‵ (flft κ₂ q₂) ⊛ ‵ ftrue) ∷ ‵ S ∷ ‵ P ∷ [])) (Post (vint w32 (r .number)))
   unfolding giving
@@ -147,8 +148,8 @@ module _ {M : Type 1} (𝓤 : URA M) (H : Heap 𝓤) (A : Atoms 𝓤) (W : Given
         use1 W (later (some (λ (r : Answer). ((‵ (flft κ₁ q₁) ⊛ ‵ (flft κ₂ q₂) ⊛ ‵ ftrue) ⊛ ‵ (answer.the-row .own r (w ∷ []))) ⊛ raw
         (ensured 𝓤 H A step.ended (step.clauses 𝓤 H A at-mem run) (κ₁, (κ₂, tt)) (y, (z, tt)) tt r)))) (id⊢ 𝓤 _) $ await ! tt $ pick !
         (λ r.
-        split ! $ move ! (1 ∷ []) $ use1 W (raw (fact 𝓤 (r ≡ start (now y) (now z)))) (step-of 𝓤 H A at-mem run κ₁ κ₂ y z r) $
-        heard ! (r ≡ start (now y) (now z)) (λ e. split ! $ move ! (1 ∷ []) $
+        split ! $ move ! (1 ∷ []) $ use1 W (raw (fact 𝓤 (r ≡ start (opening (now y) (now z))))) (step-of 𝓤 H A at-mem run κ₁ κ₂ y z r) $
+        heard ! (r ≡ start (opening (now y) (now z))) (λ e. split ! $ move ! (1 ∷ []) $
         -- [what the answer owns; the slices' tokens; the token; words; separator; true; what record owns; room for _4; …; _3; …; _2; …; _1; …; room
         -- for _0; …]
         peeks ! answer.the-row (Is answer.the-row) (shows 𝓤 H A answer.the-row) r (w ∷ []) (λ is.

@@ -1,65 +1,57 @@
 -- `session::Session::finish_step` meets its contract.
 -- Assumes nothing.
-use mathlib.Core.Path.{sym, ap, _∙_}
-use mathlib.Core.Bool.{not}
-use borrow.Author.Tests.{eq-eqb, ne-eqb}
-use Rattle.basics.proofs.Cases.{if-true, if-false}
-use Rattle.session.specs.Calls.{finish}
+use mathlib.Core.Path.{_≡_, sym, ap, _∙_}
+use mathlib.Core.Logic.{_≢_}
+use Prim.Native.Nat.{ℕ}
+use Rattle.basics.specs.Numbers.{accepted}
+use Rattle.basics.specs.Refusals.{firstNumber}
+use Rattle.session.specs.Record.{wiped}
+use Rattle.session.specs.Calls.{recordRows, finish}
+use Rattle.session.specs.Steps.{refusedWith}
+use Rattle.session.proofs.Numbers.{OpenSound, record-passes, answer-accepted, answer-refused, wiped-answer, finish-refused, finish-early, finish-passes}
 use borrow.Author.Needs.{needs}
 use Rattle.session.proofs.Session.finish_step.Statement.{statement}
 use Rattle.session.proofs.Session.finish_step.Tie as tie
 
+-- behind the rows about the record
+passed : (c : tie.Else1) → OpenSound (c .before .before .args .self)
+passed c = record-passes _ (sym (c .before .record-number .ensures) ∙ c .if1 .left)
+
 returns : tie.Need-returns
 unfolding finish
 returns c =
-    let at-if1 = c .before in
-    let e1 = ap not (ne-eqb _ 1 (at-if1 .if1 .taken)) in
-    c .leave .ensures ∙ sym (if-true _ _ _ e1)
+    let at-number = c .before .before in
+    let r = at-number .before .args .self in
+    let number = at-number .record-number .ensures in
+    let refused : firstNumber (recordRows r) ≢ accepted = λ e. c .before .if1 .taken (number ∙ e) in
+    c .refuse .ensures
+    ∙ ap (λ (n : ℕ). refusedWith n r) (number ∙ sym (finish-refused r refused))
+    ∙ sym (answer-refused r wiped _ (λ e. refused (sym (finish-refused r refused) ∙ e)))
 
 returns-2 : tie.Need-returns-2
 unfolding finish
 returns-2 c =
-    let at-if2 = c .before in
-    let at-is-sound = at-if2 .before in
-    let at-if1 = at-is-sound .before in
-    let e1 = ap not (eq-eqb _ 1 (at-if1 .if1 .left)) in
-    let e2 = sym (ap not (at-is-sound .is-sound .ensures)) ∙ at-if2 .if2 .taken in
-    c .leave2 .ensures ∙ sym (if-false _ _ _ e1 ∙ if-true _ _ _ e2)
+    let at-end = c .before in
+    let at-passed = at-end .before .before in
+    let r = at-passed .before .before .args .self in
+    c .wipe .ensures ∙ sym (wiped-answer r wiped _ (finish-early r (passed at-passed) (at-end .if2 .taken)))
 
 returns-3 : tie.Need-returns-3
 unfolding finish
 returns-3 c =
-    let at-if3 = c .before in
-    let at-if2 = at-if3 .before .before in
-    let at-is-sound = at-if2 .before in
-    let at-if1 = at-is-sound .before in
-    let e1 = ap not (eq-eqb _ 1 (at-if1 .if1 .left)) in
-    let e2 = sym (ap not (at-is-sound .is-sound .ensures)) ∙ at-if2 .if2 .left in
-    let e3 = ap not (ne-eqb _ _ (at-if3 .if3 .taken)) in
-    c .wipe .ensures ∙ sym (if-false _ _ _ e1 ∙ if-false _ _ _ e2 ∙ if-true _ _ _ e3)
-
-returns-4 : tie.Need-returns-4
-unfolding finish
-returns-4 c =
-    let at-if3 = c .before in
-    let at-if2 = at-if3 .before .before in
-    let at-is-sound = at-if2 .before in
-    let at-if1 = at-is-sound .before in
-    let e1 = ap not (eq-eqb _ 1 (at-if1 .if1 .left)) in
-    let e2 = sym (ap not (at-is-sound .is-sound .ensures)) ∙ at-if2 .if2 .left in
-    let e3 = ap not (eq-eqb _ _ (at-if3 .if3 .left)) in
-    c .wipe2 .ensures ∙ sym (if-false _ _ _ e1 ∙ if-false _ _ _ e2 ∙ if-false _ _ _ e3)
+    let at-end = c .before in
+    let at-passed = at-end .before .before in
+    let r = at-passed .before .before .args .self in
+    c .wipe2 .ensures ∙ sym (answer-accepted r wiped _ (finish-passes r (passed at-passed) (at-end .if2 .left)))
 
 pub finish-step-spec : {M : Type 1} → statement M
 finish-step-spec =
     tie.close
     (tie.spec
     (λ c κs. search needs)
-    returns
     (λ c κs. search needs)
+    returns
     (λ c κs. search needs)
     returns-2
     (λ c κs. search needs)
-    returns-3
-    (λ c κs. search needs)
-    returns-4)
+    returns-3)

@@ -1,127 +1,111 @@
 -- `session::Session::is_sound` meets its contract.
 -- Assumes nothing.
 use mathlib.Core.Path.{_≡_, sym, ap, _∙_}
-use Prim.Native.Nat.{_-_}
-use native.Mathlib.Omega.{arith}
-use borrow.Author.Tests.{leb-true, eq-eqb, ne-eqb, not-true, not-false}
+use mathlib.Core.Bool.{true}
+use borrow.Author.Tests.{eq-eqb, ne-eqb, not-true, not-false}
 use lib.Dec.{eqb}
-use lib.ListN.{length}
-use Rattle.basics.proofs.Cases.{and-left, and-right}
-use Rattle.session.specs.Steps.{wordsSound, placeSound}
-use Rattle.session.specs.declared.soundness.Positions.{Positions}
-use Rattle.session.proofs.SoundRecord.{fails-1, fails-2, fails-3, fails-4, fails-5, last-test}
-use Rattle.session.proofs.SoundPattern.{word-long}
+use Rattle.basics.specs.Logic.{all}
+use Rattle.basics.proofs.Cases.{and-step, and-stop}
+use Rattle.field.specs.Field.{isElement}
+use Rattle.pattern.specs.Pattern.{soundPlaces}
+use Rattle.progress.specs.Permutations.{permutationsAt}
+use Rattle.progress.specs.Positions.{positionsAt}
+use Rattle.progress.specs.Place.{soundPlace}
+use Rattle.progress.specs.declared.positions.Positions.{Positions}
+use Rattle.session.specs.Soundness.{sound}
+use Rattle.session.specs.declared.Session.{Session}
 use borrow.Author.Needs.{needs}
 use Rattle.session.proofs.Session.is_sound.Statement.{statement}
 use Rattle.session.proofs.Session.is_sound.Tie as tie
 
+-- the record
+abbrev self : tie.Else1 → Session
+self c = c .before .before .before .before .args .self
+
+-- the branch behind each test, from that behind a later one
+abbrev at-1 : tie.Else2 → tie.Else1
+at-1 c = c .before .before .before
+
+abbrev at-2 : tie.Else3 → tie.Else2
+at-2 c = c .before .before .before .before
+
+abbrev at-3 : tie.Else4 → tie.Else3
+at-3 c = c .before .before .before .before
+
+abbrev at-4 : tie.Else5 → tie.Else4
+at-4 c = c .before .before .before .before .before
+
+-- what each branch leaves behind
+passed-1 : (c : tie.Else1) → let r = self c in soundPlaces (r .words) (r .count) ≡ true
+passed-1 c = sym (c .before .places-sound .ensures) ∙ not-false _ (c .if1 .left)
+
+passed-2 : (c : tie.Else2) → let r = self (at-1 c) in soundPlace (r .words) (r .count) (r .phase) (r .done) ≡ true
+passed-2 c = sym (c .before .is-sound .ensures) ∙ not-false _ (c .if2 .left)
+
+passed-3 : (c : tie.Else3) → all isElement (self (at-1 (at-2 c)) .state) ≡ true
+passed-3 c = sym (c .before .is-reduced .ensures) ∙ not-false _ (c .if3 .left)
+
+passed-4 : (c : tie.Else4)
+    → let r = self (at-1 (at-2 (at-3 c))) in eqb (r .permutations) (permutationsAt (r .words) (r .phase) (r .done)) ≡ true
+passed-4 c = eq-eqb _ _ (c .if4 .left ∙ c .before .before .permutations-at .ensures)
+
+passed-5 : (c : tie.Else5)
+    → let r = self (at-1 (at-2 (at-3 (at-4 c)))) in eqb (r .«absorb_position») (positionsAt (r .words) (r .phase) (r .done) .absorb) ≡ true
+passed-5 c = eq-eqb _ _ (c .if5 .left ∙ ap (λ (at : Positions). at .absorb) (c .before .before .before .positions-at .ensures))
+
 returns : tie.Need-returns
-returns c =
-    let at-words-sound = c .before in
-    let at-entry = at-words-sound .before .before .before in
-    let self = at-entry .args .self in
-    let e1 = sym (at-words-sound .words-sound .ensures) ∙ not-true _ (c .if1 .taken) in
-    sym (fails-1 self e1)
+unfolding sound
+returns c = sym (and-stop _ _ (sym (c .before .places-sound .ensures) ∙ not-true _ (c .if1 .taken)))
 
 returns-2 : tie.Need-returns-2
+unfolding sound
 returns-2 c =
-    let at-place-sound = c .before in
-    let at-if1 = at-place-sound .before .before in
-    let at-words-sound = at-if1 .before in
-    let at-entry = at-words-sound .before .before .before in
-    let self = at-entry .args .self in
-    let e1 = sym (at-words-sound .words-sound .ensures) ∙ not-false _ (at-if1 .if1 .left) in
-    let e2 = sym (at-place-sound .place-sound .ensures) ∙ not-true _ (c .if2 .taken) in
-    sym (fails-2 self e1 e2)
+    sym (and-step _ _ (passed-1 (c .before .before .before)) ∙ and-stop _ _ (sym (c .before .is-sound .ensures) ∙ not-true _ (c .if2 .taken)))
 
 returns-3 : tie.Need-returns-3
+unfolding sound
 returns-3 c =
-    let at-is-reduced = c .before in
-    let at-if2 = at-is-reduced .before .before .before in
-    let at-place-sound = at-if2 .before in
-    let at-if1 = at-place-sound .before .before in
-    let at-words-sound = at-if1 .before in
-    let at-entry = at-words-sound .before .before .before in
-    let self = at-entry .args .self in
-    let e1 = sym (at-words-sound .words-sound .ensures) ∙ not-false _ (at-if1 .if1 .left) in
-    let e2 = sym (at-place-sound .place-sound .ensures) ∙ not-false _ (at-if2 .if2 .left) in
-    let e3 = sym (at-is-reduced .is-reduced .ensures) ∙ not-true _ (c .if3 .taken) in
-    sym (fails-3 self e1 e2 e3)
+    let at = c .before .before .before .before in
+    sym
+    (and-step _ _ (passed-1 (at-1 at))
+    ∙ and-step _ _ (passed-2 at)
+    ∙ and-stop _ _ (sym (c .before .is-reduced .ensures) ∙ not-true _ (c .if3 .taken)))
 
 returns-4 : tie.Need-returns-4
+unfolding sound
 returns-4 c =
-    let at-permutations-at = c .before .before in
-    let at-if3 = at-permutations-at .before .before in
-    let at-is-reduced = at-if3 .before in
-    let at-if2 = at-is-reduced .before .before .before in
-    let at-place-sound = at-if2 .before in
-    let at-if1 = at-place-sound .before .before in
-    let at-words-sound = at-if1 .before in
-    let at-entry = at-words-sound .before .before .before in
-    let self = at-entry .args .self in
-    let e1 = sym (at-words-sound .words-sound .ensures) ∙ not-false _ (at-if1 .if1 .left) in
-    let e2 = sym (at-place-sound .place-sound .ensures) ∙ not-false _ (at-if2 .if2 .left) in
-    let e3 = sym (at-is-reduced .is-reduced .ensures) ∙ not-false _ (at-if3 .if3 .left) in
-    let e4 = ne-eqb _ _ (λ e. c .if4 .taken (e ∙ sym (at-permutations-at .permutations-at .ensures))) in
-    sym (fails-4 self e1 e2 e3 e4)
-
-positions-at-requires : tie.Need-positions-at-requires
-unfolding wordsSound placeSound
-positions-at-requires c κs =
-    let self = c .before .before .before .before .before .before .before .before .before .before .before .before .before .before .before .before .args .self in
-    let long : length (self .words) ≡ 64 = search needs in
-    let at-if2 = c .before .before .before .before .before .before .before .before .before in
-    let at-place-sound = at-if2 .before in
-    let at-if1 = at-place-sound .before .before in
-    let at-words-sound = at-if1 .before in
-    let e1 = sym (at-words-sound .words-sound .ensures) ∙ not-false _ (at-if1 .if1 .left) in
-    let e2 = sym (at-place-sound .place-sound .ensures) ∙ not-false _ (at-if2 .if2 .left) in
-    let count = leb-true (self .count) (length (self .words)) (and-left _ _ e1) in
-    let phase = leb-true (self .phase) (self .count) (and-left _ _ e2) in
-    let pattern = and-left _ _ (and-right _ _ e1) in
-    λ later. word-long (self .words) (self .count) count pattern (self .phase - 1) (omega arith)
+    let at = c .before .before .before .before in
+    sym
+    (and-step _ _ (passed-1 (at-1 (at-2 at)))
+    ∙ and-step _ _ (passed-2 (at-2 at))
+    ∙ and-step _ _ (passed-3 at)
+    ∙ and-stop _ _ (ne-eqb _ _ (λ e. c .if4 .taken (e ∙ sym (c .before .before .permutations-at .ensures)))))
 
 returns-5 : tie.Need-returns-5
+unfolding sound
 returns-5 c =
-    let at-positions-at = c .before .before .before in
-    let at-if4 = at-positions-at .before .before in
-    let at-permutations-at = at-if4 .before .before in
-    let at-if3 = at-permutations-at .before .before in
-    let at-is-reduced = at-if3 .before in
-    let at-if2 = at-is-reduced .before .before .before in
-    let at-place-sound = at-if2 .before in
-    let at-if1 = at-place-sound .before .before in
-    let at-words-sound = at-if1 .before in
-    let at-entry = at-words-sound .before .before .before in
-    let self = at-entry .args .self in
-    let e1 = sym (at-words-sound .words-sound .ensures) ∙ not-false _ (at-if1 .if1 .left) in
-    let e2 = sym (at-place-sound .place-sound .ensures) ∙ not-false _ (at-if2 .if2 .left) in
-    let e3 = sym (at-is-reduced .is-reduced .ensures) ∙ not-false _ (at-if3 .if3 .left) in
-    let e4 = eq-eqb _ _ (at-if4 .if4 .left ∙ at-permutations-at .permutations-at .ensures) in
-    let e5 = ne-eqb _ _ (λ e. c .if5 .taken (e ∙ sym (ap (λ (at : Positions). at .absorb) (at-positions-at .positions-at .ensures)))) in
-    sym (fails-5 self e1 e2 e3 e4 e5)
+    let at = c .before .before .before .before .before in
+    let position = ap (λ (at : Positions). at .absorb) (c .before .before .before .positions-at .ensures) in
+    sym
+    (and-step _ _ (passed-1 (at-1 (at-2 (at-3 at))))
+    ∙ and-step _ _ (passed-2 (at-2 (at-3 at)))
+    ∙ and-step _ _ (passed-3 (at-3 at))
+    ∙ and-step _ _ (passed-4 at)
+    ∙ and-stop _ _ (ne-eqb _ _ (λ e. c .if5 .taken (e ∙ sym position))))
 
 returns-6 : tie.Need-returns-6
+unfolding sound
 returns-6 c =
-    let at-if5 = c .before .before in
-    let at-positions-at = at-if5 .before .before .before in
-    let at-if4 = at-positions-at .before .before in
-    let at-permutations-at = at-if4 .before .before in
-    let at-if3 = at-permutations-at .before .before in
-    let at-is-reduced = at-if3 .before in
-    let at-if2 = at-is-reduced .before .before .before in
-    let at-place-sound = at-if2 .before in
-    let at-if1 = at-place-sound .before .before in
-    let at-words-sound = at-if1 .before in
-    let at-entry = at-words-sound .before .before .before in
-    let self = at-entry .args .self in
-    let e1 = sym (at-words-sound .words-sound .ensures) ∙ not-false _ (at-if1 .if1 .left) in
-    let e2 = sym (at-place-sound .place-sound .ensures) ∙ not-false _ (at-if2 .if2 .left) in
-    let e3 = sym (at-is-reduced .is-reduced .ensures) ∙ not-false _ (at-if3 .if3 .left) in
-    let e4 = eq-eqb _ _ (at-if4 .if4 .left ∙ at-permutations-at .permutations-at .ensures) in
-    let e5 = eq-eqb _ _ (at-if5 .if5 .left ∙ ap (λ (at : Positions). at .absorb) (at-positions-at .positions-at .ensures)) in
-    let last = ap (λ (at : Positions). eqb (self .«squeeze_position») (at .squeeze)) (at-positions-at .positions-at .ensures) in
-    last ∙ sym (last-test self e1 e2 e3 e4 e5)
+    let last = c .before .before in
+    let at = at-4 last in
+    let r = self (at-1 (at-2 (at-3 at))) in
+    ap (λ (at : Positions). eqb (r .«squeeze_position») (at .squeeze)) (last .before .before .before .positions-at .ensures)
+    ∙ sym
+    (and-step _ _ (passed-1 (at-1 (at-2 (at-3 at))))
+    ∙ and-step _ _ (passed-2 (at-2 (at-3 at)))
+    ∙ and-step _ _ (passed-3 (at-3 at))
+    ∙ and-step _ _ (passed-4 at)
+    ∙ and-step _ _ (passed-5 last))
 
 pub is-sound-spec : {M : Type 1} → statement M
 is-sound-spec =
@@ -140,6 +124,6 @@ is-sound-spec =
     (λ c κs. search needs)
     returns-4
     (λ c. search needs)
-    positions-at-requires
+    (λ c κs. search needs)
     returns-5
     returns-6)

@@ -1,107 +1,74 @@
 -- `session::Session::squeeze_step` meets its contract.
 -- Assumes nothing.
-use mathlib.Core.Path.{refl, sym, ap, _∙_}
-use mathlib.Core.Bool.{not}
-use borrow.Author.Tests.{eq-eqb, ne-eqb, not-false}
-use Rattle.basics.proofs.Cases.{if-true, if-false}
-use Rattle.session.specs.Calls.{giving, squeeze}
-use Rattle.session.proofs.Places.{within}
-use Rattle.session.proofs.Buffers.{buffer-left, buffer-empty, buffer-written}
+use mathlib.Core.Path.{_≡_, sym, ap, _∙_}
+use mathlib.Core.Bool.{false}
+use mathlib.Core.Logic.{_≢_}
+use Prim.Native.Nat.{ℕ}
+use lib.ListN.{length}
+use Rattle.basics.specs.Numbers.{accepted}
+use Rattle.basics.specs.Refusals.{firstNumber}
+use Rattle.sponge.specs.declared.Sponge.{Sponge}
+use Rattle.session.specs.Record.{squeezeAll}
+use Rattle.session.specs.Calls.{giving, callRows, squeeze}
+use Rattle.session.specs.Steps.{refusedWith, movedOn}
+use Rattle.session.proofs.Folds.{squeeze-all, squeezed-all}
+use Rattle.session.proofs.Numbers.{Takes, answer-accepted, answer-refused, call-takes, squeeze-countable}
+use Rattle.session.proofs.Buffers.{buffer-left, buffer-written}
 use borrow.Author.Needs.{needs}
 use Rattle.session.proofs.Session.squeeze_step.Statement.{statement}
 use Rattle.session.proofs.Session.squeeze_step.Tie as tie
 
+-- behind the rows of the call
+takes : (c : tie.Else1) → let args = c .before .before .before .args in Takes (args .self) false (length (args .output .now))
+takes c = call-takes _ _ _ (sym (c .before .call-number .ensures) ∙ c .if1 .left)
+
 returns : tie.Need-returns
 unfolding squeeze
 returns c =
-    let at-if1 = c .before in
-    let e1 = ap not (ne-eqb _ 1 (at-if1 .if1 .taken)) in
-    let answer = if-true _ _ _ e1 in
-    (c .leave .ensures ∙ sym answer, sym (buffer-left _ _ _ _ answer refl))
+    let at-number = c .before .before in
+    let args = at-number .before .before .args in
+    let r = args .self in
+    let buffer = args .output .now in
+    let number = at-number .call-number .ensures in
+    let refused : firstNumber (callRows false (length buffer) r) ≢ accepted = λ e. c .before .if1 .taken (number ∙ e) in (
+      c .refuse .ensures ∙ ap (λ (n : ℕ). refusedWith n r) number ∙ sym (answer-refused r (squeezeAll r (length buffer)) _ refused),
+      sym (buffer-left r buffer refused),
+    )
+
+move-on-requires : tie.Need-move-on-requires
+move-on-requires c κs =
+    let at-squeezed = c .before .before in
+    let at-takes = at-squeezed .before .before .before in
+    let args = at-takes .before .before .before .args in
+    rw (at-squeezed .squeeze .ensures .0) (squeeze-countable (args .self) (length (args .output .now)) (takes at-takes))
 
 returns-2 : tie.Need-returns-2
-unfolding squeeze
+unfolding squeeze giving
 returns-2 c =
-    let at-if2 = c .before in
-    let at-is-sound = at-if2 .before in
-    let at-if1 = at-is-sound .before in
-    let e1 = ap not (eq-eqb _ 1 (at-if1 .if1 .left)) in
-    let e2 = sym (ap not (at-is-sound .is-sound .ensures)) ∙ at-if2 .if2 .taken in
-    let answer = if-false _ _ _ e1 ∙ if-true _ _ _ e2 in
-    (c .leave2 .ensures ∙ sym answer, sym (buffer-left _ _ _ _ answer refl))
-
-returns-3 : tie.Need-returns-3
-unfolding squeeze
-returns-3 c =
-    let at-if3 = c .before in
-    let at-if2 = at-if3 .before in
-    let at-is-sound = at-if2 .before in
-    let at-if1 = at-is-sound .before in
-    let e1 = ap not (eq-eqb _ 1 (at-if1 .if1 .left)) in
-    let e2 = sym (ap not (at-is-sound .is-sound .ensures)) ∙ at-if2 .if2 .left in
-    let e3 = eq-eqb _ 0 (at-if3 .if3 .taken) in
-    let answer = if-false _ _ _ e1 ∙ if-false _ _ _ e2 ∙ if-true _ _ _ e3 in
-    (c .leave3 .ensures ∙ sym answer, sym (buffer-empty _ _ _ (search needs) answer))
-
-returns-4 : tie.Need-returns-4
-unfolding squeeze
-returns-4 c =
-    let at-if4 = c .before in
-    let at-in-pattern = at-if4 .before in
-    let at-if3 = at-in-pattern .before in
-    let at-if2 = at-if3 .before in
-    let at-is-sound = at-if2 .before in
-    let at-if1 = at-is-sound .before in
-    let e1 = ap not (eq-eqb _ 1 (at-if1 .if1 .left)) in
-    let e2 = sym (ap not (at-is-sound .is-sound .ensures)) ∙ at-if2 .if2 .left in
-    let e3 = ne-eqb _ 0 (at-if3 .if3 .left) in
-    let e4 = sym (ap not (at-in-pattern .in-pattern .ensures)) ∙ at-if4 .if4 .taken in
-    let answer = if-false _ _ _ e1 ∙ if-false _ _ _ e2 ∙ if-false _ _ _ e3 ∙ if-true _ _ _ e4 in
-    (c .wipe .ensures ∙ sym answer, sym (buffer-left _ _ _ _ answer refl))
-
-squeeze-all-requires : tie.Need-squeeze-all-requires
-squeeze-all-requires c κs =
-    let at-if4 = c .before in
-    let at-in-pattern = at-if4 .before in
-    let at-if2 = at-in-pattern .before .before in
-    let at-is-sound = at-if2 .before in
-    let sound = sym (at-is-sound .is-sound .ensures) ∙ not-false _ (at-if2 .if2 .left) in
-    let fits = sym (at-in-pattern .in-pattern .ensures) ∙ not-false _ (at-if4 .if4 .left) in
-    within _ sound _ _ fits (search needs)
-
-returns-5 : tie.Need-returns-5
-unfolding squeeze
-returns-5 c =
-    let at-squeeze-all = c .before .before .before in
-    let at-if4 = at-squeeze-all .before .before in
-    let at-in-pattern = at-if4 .before in
-    let at-if3 = at-in-pattern .before in
-    let at-if2 = at-if3 .before in
-    let at-is-sound = at-if2 .before in
-    let at-if1 = at-is-sound .before in
-    let e1 = ap not (eq-eqb _ 1 (at-if1 .if1 .left)) in
-    let e2 = sym (ap not (at-is-sound .is-sound .ensures)) ∙ at-if2 .if2 .left in
-    let e3 = ne-eqb _ 0 (at-if3 .if3 .left) in
-    let e4 = sym (ap not (at-in-pattern .in-pattern .ensures)) ∙ at-if4 .if4 .left in
-    let squeezed = at-squeeze-all .squeeze-all .ensures in
-    let answer = if-false _ _ _ e1 ∙ if-false _ _ _ e2 ∙ if-false _ _ _ e3 ∙ if-false _ _ _ e4 in
-    (c .leave4 .ensures ∙ ap (giving 0) (squeezed .0) ∙ sym answer, squeezed .1 ∙ sym (buffer-written _ _ _ answer))
+    let at-squeezed = c .before .before .before in
+    let at-takes = at-squeezed .before .before .before in
+    let args = at-takes .before .before .before .args in
+    let r = args .self in
+    let buffer = args .output .now in
+    let n = length buffer in
+    let number = sym (at-takes .before .call-number .ensures) ∙ at-takes .if1 .left in
+    let same : length (at-squeezed .squeeze .last .1 .1 .1 .0) ≡ n = search needs in
+    let next = c .move-on .ensures
+    ∙ ap (movedOn r _) same
+    ∙ ap (λ (s : Sponge). movedOn r s n) (at-squeezed .squeeze .ensures .0)
+    ∙ squeeze-all r n (takes at-takes .fits) in (
+      (λ i. record { number = at-takes .if1 .left i; session = next i }) ∙ sym (answer-accepted r (squeezeAll r n) _ number),
+      at-squeezed .squeeze .ensures .1 ∙ squeezed-all r n ∙ sym (buffer-written r buffer number),
+    )
 
 pub squeeze-step-spec : {M : Type 1} → statement M
 squeeze-step-spec =
     tie.close
     (tie.spec
     (λ c κs. search needs)
+    (λ c κs. search needs)
     returns
     (λ c κs. search needs)
-    (λ c κs. search needs)
-    returns-2
-    (λ c κs. search needs)
-    returns-3
-    (λ c κs. search needs)
-    (λ c κs. search needs)
-    returns-4
-    squeeze-all-requires
-    (λ c κs. search needs)
+    move-on-requires
     (λ c. search needs)
-    returns-5)
+    returns-2)

@@ -1,19 +1,20 @@
 -- `session::Session::start` meets its contract.
 -- Assumes nothing.
-use mathlib.Core.Path.{sym, ap, ap₂, _∙_}
+use mathlib.Core.Path.{_≡_, sym, ap, ap₂, _∙_}
 use mathlib.Core.List.{List}
-use Prim.Native.Nat.{ℕ}
+use Prim.Native.Nat.{ℕ, _≤_}
 use lib.Dec.{lit≤}
-use lib.ListN.{take, replicate}
+use lib.ListN.{length, take, replicate}
 use lib.Seq.{length-take-le}
 use Rattle.basics.specs.Numbers.{accepted}
 use Rattle.sha3.specs.Sponge.{sha3}
-use Rattle.tag.specs.Start.{withWords}
+use Rattle.pattern.specs.Opening.{Opening, opening, startNumber, withWords}
+use Rattle.pattern.proofs.Checked.{number-checked, started, answer-checked, words-checked, count-fits, count-inside}
+use Rattle.tag.specs.TagString.{stringOf, tagString, bufferNumber, stringWritten, stringBuffer}
 use Rattle.tag.specs.Elements.{tagElements}
 use Rattle.tag.specs.declared.Written.{Written}
-use Rattle.tag.proofs.Checked.{number-checked, started, answer-checked, count-fits}
-use Rattle.tag.proofs.Writing.{room-for-any, string-inside, front-of-buffer}
-use Rattle.session.specs.Sponge.{tagState}
+use Rattle.tag.proofs.Writing.{room-for-any, inside, front}
+use Rattle.sponge.specs.Sponge.{tagState}
 use Rattle.session.specs.Record.{opened, wiped, openRecord}
 use Rattle.session.specs.Calls.{giving, startRecord}
 use Rattle.session.proofs.Opening.{start-refused, start-opens}
@@ -21,54 +22,75 @@ use borrow.Author.Needs.{needs}
 use Rattle.session.proofs.Session.start.Statement.{statement}
 use Rattle.session.proofs.Session.start.Tie as tie
 
+-- the opening that is checked
+abbrev checking : tie.After-check → Opening
+checking c = let args = c .before .before .before .args in opening (args .words .now) (args .separator .now)
+
+-- what is known where it is accepted
+starts : (c : tie.Else1) → startNumber (checking (c .before .before)) ≡ accepted
+starts c = started (checking (c .before .before)) _ (c .before .before .check .ensures) (c .if1 .left)
+
+count-in : (c : tie.Else1) → c .before .before .check .result .count ≤ length (c .before .before .check .result .words)
+count-in c = count-inside (checking (c .before .before)) _ (c .before .before .check .ensures) (c .if1 .left)
+
+-- the string lies in the 512 bytes, where it was written
+string-fits : (c : tie.After-write-string) → c .write-string .result .length ≤ length (c .write-string .last .1 .1 .0)
+unfolding stringWritten stringBuffer
+string-fits c = rw (c .write-string .ensures .0, c .write-string .ensures .1) (inside _ _ _)
+
+string-read : (c : tie.After-write-string)
+    → take (c .write-string .result .length) (c .write-string .last .1 .1 .0) ≡ tagString (checking (c .before .before .before .before .before .before))
+unfolding stringWritten stringBuffer tagString
+string-read c =
+    let at-accepted = c .before .before .before .before in
+    let at-check = at-accepted .before .before in
+    let o = checking at-check in
+    let zeros : List ℕ = replicate 512 0 in
+    let words = words-checked o _ (at-check .check .ensures) (at-accepted .if1 .left) in
+    ap₂ (λ (w : Written) (l : List ℕ). take (w .length) l) (c .write-string .ensures .0) (c .write-string .ensures .1)
+    ∙ ap (λ (ws : List ℕ). take (stringWritten (stringOf ws (o .separator)) zeros .length) (stringBuffer (stringOf ws (o .separator)) zeros)) words
+    ∙ front (bufferNumber (tagString o) zeros) (tagString o) zeros (room-for-any o zeros (starts at-accepted) (lit≤ tt))
+
 returns : tie.Need-returns
 returns c =
     let at-if1 = c .before in
     let at-check = at-if1 .before .before in
-    let at-entry = at-check .before .before .before in
-    let words = at-entry .args .words .now in
-    let separator = at-entry .args .separator .now in
-    let number = number-checked words separator _ (at-check .check .ensures) in
+    let o = checking at-check in
+    let number = number-checked o _ (at-check .check .ensures) in
     c .wipe .ensures
     ∙ ap (λ (n : ℕ). giving n wiped) number
-    ∙ sym (start-refused words separator (λ e. at-if1 .if1 .taken (number ∙ e)))
+    ∙ sym (start-refused o (λ e. at-if1 .if1 .taken (number ∙ e)))
+
+array-share-prefix-merged-words : tie.Need-array-share-prefix-merged-words
+array-share-prefix-merged-words c = count-in (c .before)
+
+slice-aggregate-write-string : tie.Need-slice-aggregate-write-string
+slice-aggregate-write-string c = sym (length-take-le _ _ (count-in (c .before .before)))
 
 array-share-prefix-string : tie.Need-array-share-prefix-string
-array-share-prefix-string c =
-    let write = c .before .write .ensures in
-    rw (write .0, write .1) (string-inside _ _ _)
+array-share-prefix-string c = string-fits (c .before)
 
 slice-aggregate-sha3-256 : tie.Need-slice-aggregate-sha3-256
-slice-aggregate-sha3-256 c =
-    let write = c .before .before .write .ensures in
-    sym (length-take-le _ _ (rw (write .0, write .1) (string-inside _ _ _)))
+slice-aggregate-sha3-256 c = sym (length-take-le _ _ (string-fits (c .before .before)))
 
-cast-t16 : tie.Need-cast-t16
-cast-t16 c =
-    let at-if1 = c .before .before .before .before .before .before .before .before .before in
-    let few = count-fits _ _ _ (at-if1 .before .before .check .ensures) (at-if1 .if1 .left) in
+cast-t20 : tie.Need-cast-t20
+cast-t20 c =
+    let at-accepted = c .before .before .before .before .before .before .before .before .before in
+    let few = count-fits (checking (at-accepted .before .before)) _ (at-accepted .before .before .check .ensures) (at-accepted .if1 .left) in
     search needs
 
 returns-2 : tie.Need-returns-2
 unfolding giving startRecord openRecord withWords
 returns-2 c =
-    let at-tag-state = c .before in
-    let at-elements = at-tag-state .before in
-    let at-sha3-256 = at-elements .before in
-    let at-write = at-sha3-256 .before .before .before in
-    let at-if1 = at-write .before .before .before in
-    let at-check = at-if1 .before .before in
-    let at-entry = at-check .before .before .before in
-    let words = at-entry .args .words .now in
-    let separator = at-entry .args .separator .now in
-    let opens = started words separator _ (at-check .check .ensures) (at-if1 .if1 .left) in
-    let write = at-write .write .ensures in
-    let written-string =
-    ap₂ (λ (w : Written) (l : List ℕ). take (w .length) l) (write .0) (write .1)
-    ∙ front-of-buffer words separator (replicate 512 0) (room-for-any words separator (replicate 512 0) opens (lit≤ tt)) in
-    let digest = at-sha3-256 .sha3-256 .ensures ∙ ap sha3 written-string in
-    let state = at-tag-state .tag-state .ensures ∙ ap tagState (at-elements .elements .ensures ∙ ap tagElements digest) in
-    let merged = answer-checked words separator _ (at-check .check .ensures) (at-if1 .if1 .left) in
+    let at-elements = c .before in
+    let at-hash = at-elements .before in
+    let at-string = at-hash .before .before .before in
+    let at-accepted = at-string .before .before .before .before in
+    let at-check = at-accepted .before .before in
+    let o = checking at-check in
+    let digest = at-hash .sha3-256 .ensures ∙ ap sha3 (string-read at-string) in
+    let state = c .tag-state .ensures ∙ ap tagState (at-elements .elements .ensures ∙ ap tagElements digest) in
+    let merged = answer-checked o _ (at-check .check .ensures) (at-accepted .if1 .left) in
     (λ i.
     giving accepted (record {
       status = opened;
@@ -81,7 +103,7 @@ returns-2 c =
       «squeeze_position» = 0;
       permutations = 0;
     }))
-    ∙ sym (start-opens words separator opens)
+    ∙ sym (start-opens o (starts at-accepted))
 
 pub start-spec : {M : Type 1} → statement M
 start-spec =
@@ -90,6 +112,8 @@ start-spec =
     (λ c κs. search needs)
     (λ c κs. search needs)
     returns
+    array-share-prefix-merged-words
+    slice-aggregate-write-string
     (λ c. search needs)
     (λ c κs. search needs)
     array-share-prefix-string
@@ -97,5 +121,5 @@ start-spec =
     (λ c κs. search needs)
     (λ c κs. search needs)
     (λ c κs. search needs)
-    cast-t16
+    cast-t20
     returns-2)

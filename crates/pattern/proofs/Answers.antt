@@ -1,0 +1,148 @@
+-- Laws of the answers that hold words.
+-- Assumes nothing.
+use mathlib.Core.Path.{_≡_, refl, sym, ap, _∙_}
+use mathlib.Core.Bool.{Bool, true, false}
+use mathlib.Core.List.{List, [], _∷_, _++_}
+use mathlib.Core.Logic.{_≢_}
+use Prim.Native.Nat.{ℕ, suc, _+_, _-_, _≤_, _<_}
+use native.Mathlib.Omega.{arith}
+use lib.ListN.{length, getD, take, set, replicate, length-append, length-set, List·getD-append}
+use lib.Seq.{take-append-seam, set-at, set-append-left, append-snoc}
+use Rattle.basics.specs.Logic.{if_then_else_, same, any}
+use Rattle.basics.specs.Numbers.{accepted, mergedLengthTooLong}
+use Rattle.basics.proofs.Cases.{cases}
+use Rattle.basics.proofs.Zeros.{push-number}
+use Rattle.words.specs.Words.{isAbsorb, lengthOf}
+use Rattle.pattern.specs.Pattern.{merge, phases, mergedWords}
+use Rattle.pattern.specs.Opening.{tooLong, given, withWords, answerWith}
+use Rattle.pattern.specs.Steps.{mergeNumber, merged, Holds, Stepped}
+use Rattle.pattern.specs.declared.Merged.{Merged}
+use Rattle.pattern.proofs.MergeStep.{stays-too-long, merged-refused, merged-accepted, merged-words-length, lastWord, step-first, step-other-kind, step-too-long, step-same-kind}
+
+-- an answer with another word at a place, and another count
+abbrev changed : Merged → ℕ → ℕ → ℕ → Merged
+changed m i w count = record { number = m .number; words = set (m .words) i w; count = count }
+
+module _ (n : ℕ) (ws : List ℕ) where
+  pub count-at : withWords n ws .count ≡ length ws
+  unfolding withWords
+  count-at = refl
+
+  pub word-at : (i : ℕ) → i < length ws → getD (withWords n ws .words) i 0 ≡ getD ws i 0
+  unfolding withWords
+  word-at i h = List·getD-append ws (replicate (64 - length ws) 0) 0 i h
+
+  pub count-within : withWords n ws .count ≤ length (withWords n ws .words)
+  unfolding withWords
+  count-within = omega (arith, length-append ws (replicate (64 - length ws) 0))
+
+  pub words-used : take (withWords n ws .count) (withWords n ws .words) ≡ ws
+  unfolding withWords
+  words-used = take-append-seam ws (replicate (64 - length ws) 0)
+
+  -- one word more, where there is room for it
+  pub push : (w : ℕ) → length ws < 64 → changed (withWords n ws) (length ws) w (length ws + 1) ≡ withWords n (ws ++ (w ∷ []))
+  unfolding withWords
+  push w h = λ i. record { number = n; words = push-number 64 ws w h i; count = sym (length-append ws (w ∷ [])) i }
+
+  -- another word at a place
+  pub replace : (i w : ℕ) → i < length ws → changed (withWords n ws) i w (length ws) ≡ withWords n (set ws i w)
+  unfolding withWords
+  replace i w h =
+      let same-length = length-set ws i w in
+      let words =
+      set-append-left ws (replicate (64 - length ws) 0) i w h
+      ∙ sym (ap (λ (k : ℕ). set ws i w ++ replicate (64 - k) 0) same-length) in
+      λ j. record { number = n; words = words j; count = sym same-length j }
+
+-- ---- the merged words, or number 5
+
+pub if-accepted : (ws : List ℕ) → merged ws .number ≡ 0 → any tooLong (phases ws) ≡ false
+unfolding withWords
+if-accepted ws e =
+    cases (any tooLong (phases ws)) (λ t. absurd (omega (arith, e, ap (λ (m : Merged). m .number) (merged-refused ws t)))) λ f. f
+
+pub if-refused : (ws : List ℕ) → merged ws .number ≢ 0 → any tooLong (phases ws) ≡ true
+unfolding withWords
+if-refused ws e =
+    cases (any tooLong (phases ws)) (λ t. t) λ f. absurd (e (ap (λ (m : Merged). m .number) (merged-accepted ws f)))
+
+-- a merged length that is too long stays so
+pub merged-stays : (ws vs : List ℕ) → merged ws ≡ withWords mergedLengthTooLong [] → merged (ws ++ vs) ≡ withWords mergedLengthTooLong []
+unfolding withWords
+merged-stays ws vs e =
+    let long = if-refused ws (λ z. omega (arith, z, ap (λ (m : Merged). m .number) e)) in
+    merged-refused (ws ++ vs) (stays-too-long ws vs long)
+
+-- ---- a list that holds merged words
+
+pub holds-none : Holds [] (replicate 64 0) 0
+unfolding merged mergeNumber mergedWords phases merge answerWith given withWords any if_then_else_
+holds-none = record { holds = refl }
+
+module _ (ws list : List ℕ) (count : ℕ) (h : Holds ws list count) where
+  fine : any tooLong (phases ws) ≡ false
+  fine = if-accepted ws (ap (λ (m : Merged). m .number) (h .holds))
+
+  answer : record { number = accepted; words = list; count = count } ≡ withWords accepted (mergedWords ws)
+  answer = sym (h .holds) ∙ merged-accepted ws fine
+
+  counted : count ≡ length (mergedWords ws)
+  counted = ap (λ (m : Merged). m .count) answer ∙ count-at accepted (mergedWords ws)
+
+  pub holds-few : count ≤ length ws
+  holds-few = rw counted (merged-words-length ws)
+
+-- one step of the pass: a list that holds the merged words of ws, and the word w behind them
+module _ (ws list : List ℕ) (count w : ℕ) (bound : w < 4294967296) (h : Holds ws list count) where
+  abbrev more : List ℕ
+  more = ws ++ (w ∷ [])
+
+  abbrev last : ℕ
+  last = getD list (count - 1) 0
+
+  pushed : count < 64 → merged more ≡ withWords accepted (mergedWords ws ++ (w ∷ [])) → Stepped more (set list count w) (count + 1)
+  pushed room e =
+      let a = answer ws list count h in
+      let c = counted ws list count h in
+      let same = (λ i. changed (a i) (c i) w (c i + 1)) ∙ push accepted (mergedWords ws) w (rw c at room) in
+      record { merges = λ _. record { holds = e ∙ sym same }; refuses = λ z. absurd (omega arith) }
+
+  pub first-word : count < 64 → count ≡ 0 → Stepped more (set list count w) (count + 1)
+  first-word room z = pushed room (step-first ws w bound (fine ws list count h) (sym (counted ws list count h) ∙ z))
+
+  module _ (some : count ≢ 0) where
+    words : 0 < length (mergedWords ws)
+    words = let l : length (mergedWords ws) ≢ 0 = rw (counted ws list count h) at some in omega (arith, l)
+
+    last-word : last ≡ lastWord ws
+    last-word =
+        ap (λ (m : Merged). getD (m .words) (m .count - 1) 0) (answer ws list count h)
+        ∙ ap (λ (k : ℕ). getD (withWords accepted (mergedWords ws) .words) (k - 1) 0) (count-at accepted (mergedWords ws))
+        ∙ word-at accepted (mergedWords ws) (length (mergedWords ws) - 1) (omega (arith, words))
+
+    kinds : (k : Bool) → same (isAbsorb last) (isAbsorb w) ≡ k → same (isAbsorb (lastWord ws)) (isAbsorb w) ≡ k
+    kinds k s = sym (ap (λ (x : ℕ). same (isAbsorb x) (isAbsorb w)) last-word) ∙ s
+
+    pub other-kind : count < 64 → same (isAbsorb last) (isAbsorb w) ≡ false → Stepped more (set list count w) (count + 1)
+    other-kind room s = pushed room (step-other-kind ws w bound (fine ws list count h) words (kinds false s))
+
+    pub too-long : same (isAbsorb last) (isAbsorb w) ≡ true → 2147483647 < lengthOf last + lengthOf w → Stepped more list 0
+    too-long s l =
+        record {
+          merges = λ z. absurd (z refl);
+          refuses = λ _. step-too-long ws w bound (fine ws list count h) words (kinds true s) (rw last-word at l);
+        }
+
+    pub same-kind : same (isAbsorb last) (isAbsorb w) ≡ true → lengthOf last + lengthOf w ≤ 2147483647
+        → Stepped more (set list (count - 1) (last + lengthOf w)) count
+    same-kind s l =
+        let a = answer ws list count h in
+        let c = counted ws list count h in
+        let longer =
+        (λ i. changed (a i) (c i - 1) (last-word i + lengthOf w) (c i))
+        ∙ replace accepted (mergedWords ws) (length (mergedWords ws) - 1) (lastWord ws + lengthOf w) (omega (arith, words)) in
+        record {
+          merges = λ _. record { holds = step-same-kind ws w bound (fine ws list count h) words (kinds true s) (rw last-word at l) ∙ sym longer };
+          refuses = λ z. absurd (some z);
+        }

@@ -1,0 +1,18 @@
+-- `pattern::merging::lengthened` meets its contract.
+-- Assumes nothing.
+use native.Mathlib.Omega.{arith}
+use Rattle.words.specs.Words.{lengthOf}
+use borrow.Author.Needs.{needs}
+use Rattle.pattern.proofs.merging.lengthened.Statement.{statement}
+use Rattle.pattern.proofs.merging.lengthened.Tie as tie
+
+add-result : tie.Need-add-result
+unfolding lengthOf
+add-result c = omega (arith, c .pre)
+
+pub lengthened-spec : {M : Type 1} → statement M
+lengthened-spec =
+    tie.close
+    (tie.spec
+    add-result
+    (λ c. search needs))

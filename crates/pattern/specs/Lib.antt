@@ -1,0 +1,3 @@
+pub mod Pattern
+pub mod Opening
+pub mod Steps

@@ -1,0 +1,63 @@
+-- What START gets, and the start check of document 01, "Calls turned away": "START checks 1 to 6 in number order, whichever word is at fault".
+use mathlib.Core.Bool.{Bool, not}
+use mathlib.Core.List.{List, [], _++_}
+use Prim.Native.Nat.{ℕ, _-_}
+use lib.Dec.{ltb, eqb}
+use lib.ListN.{length, getD, replicate}
+use Rattle.basics.specs.Logic.{if_then_else_, _or_, any}
+use Rattle.basics.specs.Numbers.{accepted, wordCountOutOfRange, wordLengthZero, firstWordSqueeze, lastWordAbsorb, mergedLengthTooLong, separatorTooLong}
+use Rattle.basics.specs.Refusals.{Row, _gets_⨾_, firstNumber}
+use Rattle.words.specs.Words.{maxLength, isAbsorb, lengthOf, Phase}
+use Rattle.pattern.specs.Pattern.{maxWords, phases, mergedWords}
+use Rattle.pattern.specs.declared.Merged.{Merged}
+
+-- what START gets: the words that declare a pattern, and the separator (SAFE's domain separator), a string of bytes
+pub record Opening : Type 0 where
+  pub words : List ℕ
+  pub separator : List ℕ
+
+-- an opening of its parts
+abbrev pub opening : List ℕ → List ℕ → Opening
+opening ws separator = record { words = ws; separator = separator }
+
+-- the longest separator, in bytes
+abbrev pub maxSeparator : ℕ
+maxSeparator = 256
+
+-- "merged length above 2147483647"
+unfoldable pub tooLong : Phase → Bool
+tooLong a = ltb maxLength (a .elements)
+
+-- the rows about words alone, in the order in which they count
+unfoldable pub wordRows : List ℕ → List Row
+wordRows ws =
+    eqb (length ws) 0 or ltb maxWords (length ws) gets wordCountOutOfRange ⨾
+    any (λ w. eqb (lengthOf w) 0) ws gets wordLengthZero ⨾
+    not (isAbsorb (getD ws 0 0)) gets firstWordSqueeze ⨾
+    isAbsorb (getD ws (length ws - 1) 0) gets lastWordAbsorb ⨾
+    any tooLong (phases ws) gets mergedLengthTooLong ⨾
+    []
+
+-- all rows, in the order in which they count: behind those about words the one about the separator
+unfoldable pub startRows : Opening → List Row
+startRows o = wordRows (o .words) ++ (ltb maxSeparator (length (o .separator)) gets separatorTooLong ⨾ [])
+
+-- the number that an opening gets
+unfoldable pub startNumber : Opening → ℕ
+startNumber o = firstNumber (startRows o)
+
+-- what comes with a number: nothing if the call is refused
+unfoldable pub given : ℕ → List ℕ → List ℕ
+given number xs = if eqb number accepted then xs else []
+
+-- a number with words: 64 places, unused ones 0, and how many are used
+unfoldable pub withWords : ℕ → List ℕ → Merged
+withWords number ws = record { number = number; words = ws ++ replicate (maxWords - length ws) 0; count = length ws }
+
+-- an answer that holds words: its number, and the words if that is 0
+unfoldable pub answerWith : ℕ → List ℕ → Merged
+answerWith number ws = withWords number (given number ws)
+
+-- the start check's answer: its number and the merged words
+unfoldable pub checked : Opening → Merged
+checked o = answerWith (startNumber o) (mergedWords (o .words))

@@ -1,0 +1,3 @@
+pub mod PermutationCounts
+pub mod Bounds
+pub mod Calls

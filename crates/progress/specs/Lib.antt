@@ -1,0 +1,3 @@
+pub mod Permutations
+pub mod Positions
+pub mod Place

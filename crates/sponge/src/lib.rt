@@ -1,0 +1,131 @@
+// The sponge, element by element: SAFE's state, with an absorb and a squeeze position from 0 to 8.
+ghost use mathlib.Core.Path.{_≡_};
+ghost use Prim.Native.Nat.{_+_};
+ghost use lib.ListN.{length, getD};
+ghost use Rattle.poseidon.specs.Permutation.{babyBear};
+ghost use Rattle.sponge.specs.Sponge.{tagState, sponge, outer, absorbElements, squeezeElements, squeezedElements};
+ghost use Rattle.sponge.specs.Steps.{stateFor, permutationsFor, stateWith, absorbFor};
+
+// How many outer elements the state has. Positions are 32-bit numbers, as in a session's record.
+const RATE: u32 = 8;
+
+// What a call leaves: the state, both positions, and how many permutations the call took.
+pub struct Sponge {
+    pub state: [u32; 24],
+    pub absorb_position: u32,
+    pub squeeze_position: u32,
+    pub permutations: u64,
+}
+
+// The state that the eight elements of a tag open: they stand behind the outer elements.
+pub fn tag_state(elements: [u32; 8]) -> [u32; 24]
+    ensures { λ r. ⌜ r ≡ tagState elements ⌝ }
+{
+    let mut state = [0u32; 24];
+    for k in 0..8 {
+        state[8 + k] = elements[k];
+    }
+    state
+}
+
+// Permutes the state where a position is RATE. Answers how many permutations that is.
+fn permute_if_full(state: &mut [u32; 24], position: u32) -> u64
+    ensures { λ r. ⌜ (r ≡ permutationsFor position) × (now (state .exit) ≡ stateFor babyBear position (now (state .entry))) ⌝ }
+{
+    if position != RATE {
+        return 0;
+    }
+    let permuted = poseidon::permutation(*state);
+    *state = permuted;
+    1
+}
+
+// The position behind an element at a position.
+fn next_position(position: u32) -> u32
+    ensures { λ r. ⌜ r ≡ outer position + 1 ⌝ }
+{
+    position % RATE + 1
+}
+
+// Adds an element at a position, and permutes first where that is RATE. Answers how many permutations that is.
+fn absorb_element(state: &mut [u32; 24], position: u32, element: u32) -> u64
+    ensures { λ r. ⌜ (r ≡ permutationsFor position) × (now (state .exit) ≡ stateWith babyBear position (now (state .entry)) element) ⌝ }
+{
+    let permutations = permute_if_full(state, position);
+    let at = (position % RATE) as usize;
+    state[at] = field::add(state[at], element);
+    permutations
+}
+
+// The element at a position.
+fn element_at(state: &[u32; 24], position: u32) -> u32
+    ensures { λ r. ⌜ r ≡ getD (now (state .entry)) (outer position) 0 ⌝ }
+{
+    let at = (position % RATE) as usize;
+    state[at]
+}
+
+// The absorb position after an element is squeezed: 0 where that permutes.
+fn absorb_position_after(absorb_position: u32, squeeze_position: u32) -> u32
+    ensures { λ r. ⌜ r ≡ absorbFor «squeeze_position» «absorb_position» ⌝ }
+{
+    if squeeze_position == RATE {
+        0
+    } else {
+        absorb_position
+    }
+}
+
+// Absorbs elements one after the other.
+pub fn absorb(
+    state: [u32; 24],
+    absorb_position: u32,
+    squeeze_position: u32,
+    input: &[u32],
+) -> Sponge
+    ensures { λ r. ⌜ r ≡ absorbElements babyBear (sponge state «absorb_position» «squeeze_position» 0) (now (input .entry)) ⌝ }
+{
+    let mut next = state;
+    let mut position = absorb_position;
+    let mut squeeze = squeeze_position;
+    let mut permutations: u64 = 0;
+    for i in 0..input.len() {
+        permutations += absorb_element(&mut next, position, input[i]);
+        position = next_position(position);
+        squeeze = RATE;
+    }
+    Sponge {
+        state: next,
+        absorb_position: position,
+        squeeze_position: squeeze,
+        permutations,
+    }
+}
+
+// Squeezes elements one after the other, until the output is full.
+pub fn squeeze(
+    state: [u32; 24],
+    absorb_position: u32,
+    squeeze_position: u32,
+    output: &mut [u32],
+) -> Sponge
+    ensures { λ r. ⌜ (r ≡ squeezeElements babyBear (sponge state «absorb_position» «squeeze_position» 0) (length (now (output .entry)))) ×
+        (now (output .exit) ≡ squeezedElements babyBear (sponge state «absorb_position» «squeeze_position» 0) (length (now (output .entry)))) ⌝ }
+{
+    let mut next = state;
+    let mut absorb = absorb_position;
+    let mut position = squeeze_position;
+    let mut permutations: u64 = 0;
+    for i in 0..output.len() {
+        permutations += permute_if_full(&mut next, position);
+        absorb = absorb_position_after(absorb, position);
+        output[i] = element_at(&next, position);
+        position = next_position(position);
+    }
+    Sponge {
+        state: next,
+        absorb_position: absorb,
+        squeeze_position: position,
+        permutations,
+    }
+}

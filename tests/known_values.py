@@ -1,0 +1,53 @@
+#!/usr/bin/env python3
+"""Whether the elements that the tests in C and Rust expect are those of the second implementation (tests/oracle): what the samples B4 to B7 and the
+protocol of two rounds squeeze, and a permuted state.
+
+  tests/known_values.py test
+"""
+import itertools
+import re
+import sys
+
+from second_implementation import oracle
+from tree import read, report
+
+ABSORB = 1 << 31
+SOURCES = ("bindings/rust/tests/api.rs", "bindings/c/tests/session.c")
+# numbers there that nothing answers with: p, the longest length, and a word in hexadecimal digits
+OTHERS = {2013265921, 2147483647, 80000003}
+
+
+def squeezed(lengths, separator, elements):
+    """All that a session of ABSORB and SQUEEZE in turn squeezes, where it absorbs these elements one after the other."""
+    number, record = oracle.start([length + (0 if k % 2 else ABSORB) for k, length in enumerate(lengths)], separator)
+    out = []
+    for k, length in enumerate(lengths):
+        if k % 2:
+            number, record, part = oracle.squeeze(record, [0] * length)
+            out += part
+        else:
+            number, record = oracle.absorb(record, list(itertools.islice(elements, length)))
+    assert oracle.finish(record)[0] == 0
+    return out
+
+
+def values():
+    for lengths, separator in (((8, 1), b""), ((9, 1), b""), ((1, 9), b""), ((8, 8, 1, 1), b""), ((8, 8, 1, 1), b"AB")):
+        yield from squeezed(lengths, separator, itertools.count(1))
+    for last in (66, 67):
+        yield from squeezed((4, 1, 2, 1), b"two rounds", iter([11, 22, 33, 44, 55, last]))
+    yield from oracle.permute(list(range(24)))[1]
+
+
+def findings():
+    known = OTHERS.union(values())
+    for path in SOURCES:
+        for number in re.findall(r"(?<![\w.])\d{7,10}(?!\w)", read(path)):
+            if int(number) not in known:
+                yield f"{path}: {number} is not an element of the second implementation's"
+
+
+if __name__ == "__main__":
+    if sys.argv[1:] != ["test"]:
+        sys.exit(__doc__)
+    report([*findings()], f"known values: {len(set(values()))} elements are the second implementation's")
