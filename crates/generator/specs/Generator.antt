@@ -9,10 +9,10 @@ use Rattle.field.specs.Field.{p}
 use Rattle.generator.specs.declared.Generated.{Generated}
 
 -- "An 80-bit register starts as, from bit 0 on and each number high bit first: field kind 1 (2 bits), power 0 (4),
--- 31 (12), 24 (12), 8 (10), 21 (10), thirty ones."
-unfoldable pub firstRegister : List ℕ
-firstRegister =
-    digits 2 2 1 ++ (digits 2 4 0 ++ (digits 2 12 31 ++ (digits 2 12 24 ++ (digits 2 10 8 ++ (digits 2 10 21 ++ replicate 30 1)))))
+-- 31 (12), 24 (12), 8 (10), 21 (10), thirty ones.", where 21 is how many partial rounds the permutation has
+unfoldable pub firstRegister : ℕ → List ℕ
+firstRegister partialRounds =
+    digits 2 2 1 ++ (digits 2 4 0 ++ (digits 2 12 31 ++ (digits 2 12 24 ++ (digits 2 10 8 ++ (digits 2 10 partialRounds ++ replicate 30 1)))))
 
 -- "The next bit is the exclusive or of register bits 62, 51, 38, 23, 13 and 0": the parity of their sum
 unfoldable pub nextBit : List ℕ → ℕ
@@ -48,12 +48,12 @@ kept modulus [] = []
 kept modulus (candidate ∷ rest) = (if ltb candidate modulus then candidate ∷ [] else []) ++ kept modulus rest
 
 -- "The first 160 new bits are dropped." "It stops at 696 constants or 262,144 new bits, dropped ones included":
--- the constants found among the first limit new bits, at most wanted of them
-unfoldable pub found : ℕ → ℕ → ℕ → List ℕ
-found modulus wanted limit = take wanted (kept modulus (candidates (outputBits (drop 160 (newBits limit firstRegister)))))
+-- the constants found among the first limit new bits from a register on, at most wanted of them
+unfoldable pub found : List ℕ → ℕ → ℕ → ℕ → List ℕ
+found register modulus wanted limit = take wanted (kept modulus (candidates (outputBits (drop 160 (newBits limit register)))))
 
 -- "gives those found, zeros in the places left, and how many"
 unfoldable pub generated : Generated
 generated =
-    let constants = found p 696 262144 in
+    let constants = found (firstRegister 21) p 696 262144 in
     record { constants = constants ++ replicate (696 - length constants) 0; count = length constants }

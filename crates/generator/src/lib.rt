@@ -80,7 +80,7 @@ fn shift(register: &[u8; 80]) -> [u8; 80]
 
 // The register behind the 160 new bits that are dropped.
 fn start() -> [u8; 80]
-    ensures { λ r. ⌜ ((n : ℕ) → drop 160 (newBits (160 + n) firstRegister) ≡ newBits n r) ⌝ }
+    ensures { λ r. ⌜ ((n : ℕ) → drop 160 (newBits (160 + n) (firstRegister 21)) ≡ newBits n r) ⌝ }
 {
     let mut register = tables::FIRST_REGISTER;
     let mut i: usize = 0;

@@ -29,7 +29,7 @@ fn print_bytes(bytes: &[u8; 32]) {
 }
 
 fn print_digest(message: &[u8]) {
-    let digest = keccak::sha3_256(message);
+    let digest = sha3::sha3_256(message);
     io::print_decimal(1, message.len() as u64);
     io::write_all(1, b" ");
     print_bytes(&digest);

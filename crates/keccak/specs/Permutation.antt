@@ -5,7 +5,7 @@ use Prim.Native.Nat.{ℕ, zero, suc, _+_, _-_, _*_, _/_, _%_, _^_}
 use lib.Bits.{bitAnd, bitXor}
 use lib.ListN.{getD, set}
 use Rattle.basics.specs.Lists.{tabulate}
-use Rattle.keccak.specs.Tables.{offsets, roundConstants}
+use Rattle.keccak_tables.specs.Tables.{offsets, roundConstants}
 
 -- 3.1.2: A[x, y] stands at x + 5 y, its coordinates modulo 5
 abbrev pub lane : List ℕ → ℕ → ℕ → ℕ

@@ -1,152 +1,250 @@
-// SHA3-256 (FIPS 202) of any string of bytes.
-mod permutation;
-mod tables;
-
+// The permutation Keccak-f[1600]. A state is 25 lanes by value; each step makes the next state of five planes, where a plane is the
+// five lanes of one y.
 ghost use mathlib.Core.Path.{_≡_};
-ghost use Prim.Native.Nat.{_+_, _*_, _≤_, _<_};
-ghost use lib.ListN.{length, getD};
-ghost use Rattle.keccak.specs.Sponge.{padded, laneAt, block, addedLane, addBlock, byteOf, squeeze, sha3};
-ghost use Rattle.keccak.specs.Steps.{littleEndian};
+ghost use Prim.Native.Nat.{_<_};
+ghost use Rattle.keccak.specs.Permutation.{lane, rotate, parity, effect, thetaLane, theta, rhoLane, rho, piLane, pi, chiLane, chi, iota, permutation};
+ghost use Rattle.keccak.specs.Steps.{plane, ofPlanes, effectOf};
+ghost use Rattle.keccak_tables.specs.Tables.{offsets};
 
-// The bytes of a block: 1088 bits, which with the capacity of 512 bits are the state.
-const RATE: usize = 136;
-
-// The place of the last byte of a block.
-const LAST: usize = RATE - 1;
-
-// The byte i of the padded message: behind the message come the bits 0 1, 1, 0 .. 0, 1, the lowest bit of a byte first.
-fn padded_byte(data: &[u8], i: usize) -> u8
-    ensures { λ r. ⌜ r ≡ getD (padded (now («data» .entry))) i 0 ⌝ }
+// The lane x, y, coordinates modulo 5.
+fn lane(a: &[u64; 25], x: usize, y: usize) -> u64
+    ensures { λ r. ⌜ r ≡ lane (now (a .entry)) x y ⌝ }
 {
-    let n = data.len();
-    if i < n {
-        return data[i];
-    }
-    // the last byte of the last block
-    let last = n / RATE * RATE + LAST;
-    if i == n {
-        if i == last {
-            return 0x86;
-        }
-        return 0x06;
-    }
-    if i == last {
-        return 0x80;
-    }
-    0
+    a[x % 5 + 5 * (y % 5)]
 }
 
-// Sums and not ors, as in the definition; the compiler makes one load of them.
-fn little_endian(b0: u8, b1: u8, b2: u8, b3: u8, b4: u8, b5: u8, b6: u8, b7: u8) -> u64
-    ensures { λ r. ⌜ r ≡ littleEndian b0 b1 b2 b3 b4 b5 b6 b7 ⌝ }
+// Rotation to the left by shifts, of which none may be by all 64 places.
+fn rotate(x: u64, n: u64) -> u64
+    ensures { λ r. ⌜ r ≡ rotate x n ⌝ }
 {
-    b0 as u64
-        + b1 as u64 * 0x100
-        + b2 as u64 * 0x1_0000
-        + b3 as u64 * 0x100_0000
-        + b4 as u64 * 0x1_0000_0000
-        + b5 as u64 * 0x100_0000_0000
-        + b6 as u64 * 0x1_0000_0000_0000
-        + b7 as u64 * 0x100_0000_0000_0000
+    let left = n % 64;
+    if left == 0 {
+        return x;
+    }
+    (x << left) | (x >> (64 - left))
 }
 
-// The lane that begins at the byte k, all of it in the message.
-fn message_lane(data: &[u8], k: usize) -> u64
-    requires { ⌜ k + 8 ≤ length (now «data») ⌝ }
-    ensures { λ r. ⌜ r ≡ laneAt (now («data» .entry)) k ⌝ }
+// The state of five planes, from y = 0 on.
+fn of_planes(p: [u64; 5], q: [u64; 5], r: [u64; 5], s: [u64; 5], t: [u64; 5]) -> [u64; 25]
+    ensures { λ z. ⌜ z ≡ ofPlanes p q r s t ⌝ }
 {
-    little_endian(
-        data[k],
-        data[k + 1],
-        data[k + 2],
-        data[k + 3],
-        data[k + 4],
-        data[k + 5],
-        data[k + 6],
-        data[k + 7],
+    [
+        p[0],
+        p[1],
+        p[2],
+        p[3],
+        p[4],
+        q[0],
+        q[1],
+        q[2],
+        q[3],
+        q[4],
+        r[0],
+        r[1],
+        r[2],
+        r[3],
+        r[4],
+        s[0],
+        s[1],
+        s[2],
+        s[3],
+        s[4],
+        t[0],
+        t[1],
+        t[2],
+        t[3],
+        t[4],
+    ]
+}
+
+// C[x] of theta.
+fn parity(a: &[u64; 25], x: usize) -> u64
+    ensures { λ r. ⌜ r ≡ parity (now (a .entry)) x ⌝ }
+{
+    lane(a, x, 0) ^ lane(a, x, 1) ^ lane(a, x, 2) ^ lane(a, x, 3) ^ lane(a, x, 4)
+}
+
+fn parities(a: &[u64; 25]) -> [u64; 5]
+    ensures { λ r. ⌜ r ≡ plane (parity (now (a .entry))) ⌝ }
+{
+    [
+        parity(a, 0),
+        parity(a, 1),
+        parity(a, 2),
+        parity(a, 3),
+        parity(a, 4),
+    ]
+}
+
+// D[x] of theta, from the parities C.
+fn effect(c: &[u64; 5], x: usize) -> u64
+    requires { ⌜ x < 5 ⌝ }
+    ensures { λ r. ⌜ r ≡ effectOf (now (c .entry)) x ⌝ }
+{
+    c[(x + 4) % 5] ^ rotate(c[(x + 1) % 5], 1)
+}
+
+fn effects(a: &[u64; 25]) -> [u64; 5]
+    ensures { λ r. ⌜ r ≡ plane (effect (now (a .entry))) ⌝ }
+{
+    let c = parities(a);
+    [
+        effect(&c, 0),
+        effect(&c, 1),
+        effect(&c, 2),
+        effect(&c, 3),
+        effect(&c, 4),
+    ]
+}
+
+// The lane x, y after theta, from the effects D, which the five planes share.
+fn theta_lane(a: &[u64; 25], d: &[u64; 5], x: usize, y: usize) -> u64
+    requires { ⌜ (x < 5) × (now d ≡ plane (effect (now a))) ⌝ }
+    ensures { λ r. ⌜ r ≡ thetaLane (now (a .entry)) x y ⌝ }
+{
+    lane(a, x, y) ^ d[x]
+}
+
+fn theta_plane(a: &[u64; 25], d: &[u64; 5], y: usize) -> [u64; 5]
+    requires { ⌜ now d ≡ plane (effect (now a)) ⌝ }
+    ensures { λ r. ⌜ r ≡ plane (λ x. thetaLane (now (a .entry)) x y) ⌝ }
+{
+    [
+        theta_lane(a, d, 0, y),
+        theta_lane(a, d, 1, y),
+        theta_lane(a, d, 2, y),
+        theta_lane(a, d, 3, y),
+        theta_lane(a, d, 4, y),
+    ]
+}
+
+fn theta(a: [u64; 25]) -> [u64; 25]
+    ensures { λ r. ⌜ r ≡ theta a ⌝ }
+{
+    let d = effects(&a);
+    of_planes(
+        theta_plane(&a, &d, 0),
+        theta_plane(&a, &d, 1),
+        theta_plane(&a, &d, 2),
+        theta_plane(&a, &d, 3),
+        theta_plane(&a, &d, 4),
     )
 }
 
-// The lane that begins at the byte k of the padded message, byte by byte.
-fn padding_lane(data: &[u8], k: usize) -> u64
-    requires { ⌜ k ≤ length (now «data») + 136 ⌝ }
-    ensures { λ r. ⌜ r ≡ laneAt (padded (now («data» .entry))) k ⌝ }
+// The lane x, y after rho: rotated by its offset.
+fn rho_lane(a: &[u64; 25], table: &[u64; 25], x: usize, y: usize) -> u64
+    requires { ⌜ now table ≡ offsets ⌝ }
+    ensures { λ r. ⌜ r ≡ rhoLane (now (a .entry)) x y ⌝ }
 {
-    little_endian(
-        padded_byte(data, k),
-        padded_byte(data, k + 1),
-        padded_byte(data, k + 2),
-        padded_byte(data, k + 3),
-        padded_byte(data, k + 4),
-        padded_byte(data, k + 5),
-        padded_byte(data, k + 6),
-        padded_byte(data, k + 7),
+    rotate(lane(a, x, y), lane(table, x, y))
+}
+
+fn rho_plane(a: &[u64; 25], table: &[u64; 25], y: usize) -> [u64; 5]
+    requires { ⌜ now table ≡ offsets ⌝ }
+    ensures { λ r. ⌜ r ≡ plane (λ x. rhoLane (now (a .entry)) x y) ⌝ }
+{
+    [
+        rho_lane(a, table, 0, y),
+        rho_lane(a, table, 1, y),
+        rho_lane(a, table, 2, y),
+        rho_lane(a, table, 3, y),
+        rho_lane(a, table, 4, y),
+    ]
+}
+
+fn rho(a: [u64; 25]) -> [u64; 25]
+    ensures { λ r. ⌜ r ≡ rho a ⌝ }
+{
+    let table = keccak_tables::offsets();
+    of_planes(
+        rho_plane(&a, &table, 0),
+        rho_plane(&a, &table, 1),
+        rho_plane(&a, &table, 2),
+        rho_plane(&a, &table, 3),
+        rho_plane(&a, &table, 4),
     )
 }
 
-// The lane that begins at the byte k of the padded message, by the quicker of the two ways.
-fn padded_lane(data: &[u8], k: usize) -> u64
-    requires { ⌜ k ≤ length (now «data») + 136 ⌝ }
-    ensures { λ r. ⌜ r ≡ laneAt (padded (now («data» .entry))) k ⌝ }
+// The plane y after pi: its lane x was the lane x + 3 y, x. The five sums are written alike, for x from 0 to 4.
+fn pi_plane(a: &[u64; 25], y: usize) -> [u64; 5]
+    requires { ⌜ y < 5 ⌝ }
+    ensures { λ r. ⌜ r ≡ plane (λ x. piLane (now (a .entry)) x y) ⌝ }
 {
-    if k + 8 <= data.len() {
-        return message_lane(data, k);
-    }
-    padding_lane(data, k)
+    [
+        lane(a, 0 + 3 * y, 0),
+        lane(a, 1 + 3 * y, 1),
+        lane(a, 2 + 3 * y, 2),
+        lane(a, 3 + 3 * y, 3),
+        lane(a, 4 + 3 * y, 4),
+    ]
 }
 
-// The lane i of the state with the block n added: 17 lanes, and then the capacity.
-fn added_lane(a: &[u64; 25], data: &[u8], n: usize, i: usize) -> u64
-    requires { ⌜ (i < 25) × (136 * n ≤ length (now «data»)) ⌝ }
-    ensures { λ r. ⌜ r ≡ addedLane (now (a .entry)) (block (padded (now («data» .entry))) n) i ⌝ }
+fn pi(a: [u64; 25]) -> [u64; 25]
+    ensures { λ r. ⌜ r ≡ pi a ⌝ }
 {
-    if i < 17 {
-        return a[i] ^ padded_lane(data, RATE * n + 8 * i);
-    }
-    a[i]
+    of_planes(
+        pi_plane(&a, 0),
+        pi_plane(&a, 1),
+        pi_plane(&a, 2),
+        pi_plane(&a, 3),
+        pi_plane(&a, 4),
+    )
 }
 
-// The state with the block n of the padded message added.
-fn add_block(a: [u64; 25], data: &[u8], n: usize) -> [u64; 25]
-    requires { ⌜ 136 * n ≤ length (now «data») ⌝ }
-    ensures { λ r. ⌜ r ≡ addBlock a (block (padded (now («data» .entry))) n) ⌝ }
+// The lane x, y after chi.
+fn chi_lane(a: &[u64; 25], x: usize, y: usize) -> u64
+    requires { ⌜ x < 5 ⌝ }
+    ensures { λ r. ⌜ r ≡ chiLane (now (a .entry)) x y ⌝ }
 {
-    let mut out = [0u64; 25];
-    for i in 0..25 {
-        out[i] = added_lane(&a, data, n, i);
-    }
-    out
+    lane(a, x, y) ^ (!lane(a, x + 1, y) & lane(a, x + 2, y))
 }
 
-// The byte i of the state, the lowest byte of a lane first.
-fn byte_of(a: &[u64; 25], i: usize) -> u8
-    requires { ⌜ i < 32 ⌝ }
-    ensures { λ r. ⌜ r ≡ byteOf (now (a .entry)) i ⌝ }
+fn chi_plane(a: &[u64; 25], y: usize) -> [u64; 5]
+    ensures { λ r. ⌜ r ≡ plane (λ x. chiLane (now (a .entry)) x y) ⌝ }
 {
-    let right = 8 * (i % 8);
-    ((a[i / 8] >> right) % 256) as u8
+    [
+        chi_lane(a, 0, y),
+        chi_lane(a, 1, y),
+        chi_lane(a, 2, y),
+        chi_lane(a, 3, y),
+        chi_lane(a, 4, y),
+    ]
 }
 
-// The first 32 bytes of the state.
-fn squeeze(a: [u64; 25]) -> [u8; 32]
-    ensures { λ r. ⌜ r ≡ squeeze a ⌝ }
+fn chi(a: [u64; 25]) -> [u64; 25]
+    ensures { λ r. ⌜ r ≡ chi a ⌝ }
 {
-    let mut out = [0u8; 32];
-    for i in 0..32 {
-        out[i] = byte_of(&a, i);
-    }
-    out
+    of_planes(
+        chi_plane(&a, 0),
+        chi_plane(&a, 1),
+        chi_plane(&a, 2),
+        chi_plane(&a, 3),
+        chi_plane(&a, 4),
+    )
 }
 
-// The digest of any string of bytes. Padding adds 1 to 136 bytes, so the last block is there also where the message is whole blocks.
-pub fn sha3_256(data: &[u8]) -> [u8; 32]
-    ensures { λ r. ⌜ r ≡ sha3 (now («data» .entry)) ⌝ }
+// Adds the round constant to the lane 0, 0.
+fn iota(mut a: [u64; 25], constant: u64) -> [u64; 25]
+    ensures { λ r. ⌜ r ≡ iota a constant ⌝ }
 {
-    let mut a = [0u64; 25];
-    let blocks = (data.len() + RATE) / RATE;
-    for n in 0..blocks {
-        let next = permutation::permute(add_block(a, data, n));
+    a[0] = a[0] ^ constant;
+    a
+}
+
+fn round(a: [u64; 25], constant: u64) -> [u64; 25]
+    ensures { λ r. ⌜ r ≡ iota (chi (pi (rho (theta a)))) constant ⌝ }
+{
+    iota(chi(pi(rho(theta(a)))), constant)
+}
+
+// The 24 rounds.
+pub fn permute(mut a: [u64; 25]) -> [u64; 25]
+    ensures { λ r. ⌜ r ≡ permutation a ⌝ }
+{
+    let constants = keccak_tables::round_constants();
+    for i in 0..24 {
+        let next = round(a, constants[i]);
         a = next;
     }
-    squeeze(a)
+    a
 }

@@ -5,7 +5,7 @@ use mathlib.Core.Logic.{_↔_}
 use mathlib.Core.List.{List, map}
 use Prim.Native.Nat.{ℕ}
 use lib.ListN.{length}
-use Rattle.keccak.specs.Sponge.{sha3}
+use Rattle.sha3.specs.Sponge.{sha3}
 use Rattle.words.specs.Words.{Phase, wordOf}
 use Rattle.pattern.specs.Pattern.{mergedWords}
 use Rattle.tag.specs.Elements.{tagElements}

@@ -6,9 +6,9 @@ use Prim.Native.Nat.{ℕ}
 use Rattle.basics.specs.Logic.{if_then_else_, _and_, _or_, same, all, any}
 use Rattle.basics.specs.Lists.{tabulate, sum}
 use Rattle.basics.specs.Digits.{digits, number, numberAfter}
-use Rattle.keccak.specs.Sponge as hash
+use Rattle.sha3.specs.Sponge as hash
 use Rattle.keccak.specs.Permutation as keccak
-use Rattle.keccak.specs.Tables.{offsets, roundConstants}
+use Rattle.keccak_tables.specs.Tables.{offsets, roundConstants}
 use Rattle.basics.specs.Refusals.{firstNumber}
 use Rattle.words.specs.Words.{isAbsorb, lengthOf, phaseOf, wordOf}
 use Rattle.pattern.specs.Pattern.{join, merge, phases, mergedWords}

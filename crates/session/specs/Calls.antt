@@ -8,7 +8,7 @@ use Rattle.basics.specs.Logic.{if_then_else_, _or_, all}
 use Rattle.basics.specs.Numbers.{accepted, recordNotOpen, recordNotSound, callNotInPattern, elementNotReduced, patternNotDone}
 use Rattle.basics.specs.Refusals.{Row, _gets_⨾_, firstNumber}
 use Rattle.field.specs.Field.{isElement}
-use Rattle.keccak.specs.Sponge.{sha3}
+use Rattle.sha3.specs.Sponge.{sha3}
 use Rattle.pattern.specs.Pattern.{mergedWords}
 use Rattle.pattern.specs.Opening.{Opening, startNumber}
 use Rattle.progress.specs.Place.{inPattern}

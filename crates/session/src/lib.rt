@@ -93,7 +93,7 @@ impl Session {
         let mut string = [0u8; tag::MAX_STRING];
         let written = tag::write_string(&merged_words[..count], separator, &mut string);
         let length = written.length;
-        let digest = keccak::sha3_256(&string[..length]);
+        let digest = sha3::sha3_256(&string[..length]);
         let state = sponge::tag_state(tag::elements(digest));
         Answer {
             number: basics::ACCEPTED,

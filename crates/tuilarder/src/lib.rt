@@ -3,7 +3,7 @@
 use session::Session;
 ghost use mathlib.Core.Path.{_≡_};
 ghost use lib.ListN.{length};
-ghost use Rattle.keccak.specs.Sponge.{sha3};
+ghost use Rattle.sha3.specs.Sponge.{sha3};
 ghost use Rattle.pattern.specs.Opening.{opening};
 ghost use Rattle.tag.specs.TagString.{written as writing, bufferAfter, readWords};
 ghost use Rattle.poseidon.specs.Permutation.{permuted};
@@ -104,6 +104,6 @@ pub extern "C" fn tuilarder_read_tag(
 pub extern "C" fn tuilarder_sha3_256(data: &[u8], out: &mut [u8; 32])
     ensures { λ _. ⌜ now (out .exit) ≡ sha3 (now («data» .entry)) ⌝ }
 {
-    let hashed = keccak::sha3_256(data);
+    let hashed = sha3::sha3_256(data);
     *out = hashed;
 }

@@ -8,7 +8,7 @@ use borrow.Author.Tests.{not-true, not-false}
 use lib.ListN.{length, take, drop, set, replicate, length-set, take-append-drop}
 use lib.Seq.{take-nil, length-take-le, drop-set-lt, drop-drop}
 use Rattle.field.specs.Field.{p}
-use Rattle.generator.specs.Generator.{outputBits, candidates, kept, found, generated}
+use Rattle.generator.specs.Generator.{firstRegister, outputBits, candidates, kept, found, generated}
 use Rattle.generator.specs.Steps.{bitsLeft}
 use Rattle.generator.specs.declared.Source.{Source}
 use Rattle.generator.specs.declared.Generated.{Generated}
@@ -22,7 +22,7 @@ record Progress (source : Source) (constants : List ℕ) (count : ℕ) : Type 0 
   within : count ≤ 696
   long : length constants ≡ 696
   blank : drop count constants ≡ replicate (696 - count) 0
-  all : found p 696 262144 ≡ take count constants ++ take (696 - count) (kept p (candidates (outputBits (bitsLeft source))))
+  all : found (firstRegister 21) p 696 262144 ≡ take count constants ++ take (696 - count) (kept p (candidates (outputBits (bitsLeft source))))
 
 -- nothing is to come: what there is, is the answer
 done : {source : Source} (constants : List ℕ) (count : ℕ) → Progress source constants count
@@ -30,7 +30,7 @@ done : {source : Source} (constants : List ℕ) (count : ℕ) → Progress sourc
     → _≡_ {A = Generated} (record { constants = constants; count = count }) generated
 unfolding generated
 done constants count k e =
-    let f : found p 696 262144 ≡ take count constants = k .all ∙ ap (λ (rest : List ℕ). take count constants ++ rest) e ∙ append-nil _ in
+    let f : found (firstRegister 21) p 696 262144 ≡ take count constants = k .all ∙ ap (λ (rest : List ℕ). take count constants ++ rest) e ∙ append-nil _ in
     let n : length (take count constants) ≡ count = length-take-le count constants (omega arith) in
     rw (f, n, ← k .blank, take-append-drop count constants)
 

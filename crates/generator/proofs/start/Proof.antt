@@ -13,7 +13,7 @@ use Rattle.generator.proofs.start.Statement.{statement}
 use Rattle.generator.proofs.start.Tie as tie
 
 abbrev Inv-loop : tie.InvT-loop
-Inv-loop register₀ i₀ register i = (i ≤ 160) × (length register ≡ 80) × ((n : ℕ) → drop i (newBits (i + n) firstRegister) ≡ newBits n register)
+Inv-loop register₀ i₀ register i = (i ≤ 160) × (length register ≡ 80) × ((n : ℕ) → drop i (newBits (i + n) (firstRegister 21)) ≡ newBits n register)
 
 abbrev μ-loop : tie.MeasureT-loop
 μ-loop register₀ i₀ register i = 160 - i

@@ -7,7 +7,7 @@ use lib.Dec.{lit≤}
 use lib.ListN.{length, take, replicate}
 use lib.Seq.{length-take-le}
 use Rattle.basics.specs.Numbers.{accepted}
-use Rattle.keccak.specs.Sponge.{sha3}
+use Rattle.sha3.specs.Sponge.{sha3}
 use Rattle.pattern.specs.Opening.{Opening, opening, startNumber, withWords}
 use Rattle.pattern.proofs.Checked.{number-checked, started, answer-checked, words-checked, count-fits, count-inside}
 use Rattle.tag.specs.TagString.{stringOf, tagString, bufferNumber, stringWritten, stringBuffer}

@@ -1,0 +1,2 @@
+pub mod OnNumbers
+pub mod GeneratedTable

@@ -1,0 +1,21 @@
+-- `keccak::effect` meets its contract.
+-- Assumes nothing.
+use borrow.Author.Needs.{needs}
+use Rattle.keccak.proofs.effect.Statement.{statement}
+use Rattle.keccak.proofs.effect.Tie as tie
+
+returns : tie.Need-returns
+returns c = cc
+
+pub effect-spec : {M : Type 1} → statement M
+effect-spec =
+    tie.close
+    (tie.spec
+    (λ c. search needs)
+    (λ c. search needs)
+    (λ c. search needs)
+    (λ c. search needs)
+    (λ c. search needs)
+    (λ c. search needs)
+    (λ c κs. search needs)
+    returns)
