@@ -8,8 +8,9 @@
 
 `write` writes what documents have from the tree itself: into docs/CLAIMS.md the table of what each contract rules out, by the line `of:` of every
 must-fail edit, and how many lines there are to read; into README.md the closing line of the gate. `test` fails where a document has not what
-`write` would write, where an edit names no contract, or one that is not in the tree, where a public function has fewer than two edits, and where
-a name that a document cites is not in the tree. `selftest` puts such mistakes into the tree, in memory, and fails where `test` would not notice
+`write` would write, where an edit names no contract, or one that is not in the tree, where a public function has fewer than two edits, where
+docs/ARCHITECTURE.md has no line for a crate or has it before one that it depends on, and where a name that a document cites is not in the
+tree. `selftest` puts such mistakes into the tree, in memory, and fails where `test` would not notice
 one. `papers` prints the sentences of documents 00 and 01, in FOLDER, that docs/CLAIMS.md does not quote.
 """
 import difflib
@@ -20,7 +21,7 @@ from collections import namedtuple
 
 from tree import files, read, report, trials, write
 
-CLAIMS, README = "docs/CLAIMS.md", "README.md"
+CLAIMS, README, ARCHITECTURE = "docs/CLAIMS.md", "README.md", "docs/ARCHITECTURE.md"
 DOCUMENTS = [README] + files("docs/*.md")
 RULED_OUT = "## What each public contract rules out"
 # words in docs/CLAIMS.md that name nothing in the tree
@@ -179,8 +180,21 @@ def not_written():
             yield "\n".join([f"{path}: `tests/claims.py write` changes {len(changed)} lines:", *changed[:20]])
 
 
+def misplaced():
+    """Crates that docs/ARCHITECTURE.md has no line for, and those that stand before one that they depend on."""
+    lines = [re.findall(r"`(\w+)`", line.split(" | ")[0]) for line in read(ARCHITECTURE).splitlines() if line.startswith("| `")]
+    place = {crate: number for number, line in enumerate(lines) for crate in line}
+    for crate, libraries in re.findall(r"^(\w+):(.*)$", read("crates.txt"), re.MULTILINE):
+        if crate not in place:
+            yield f"{ARCHITECTURE}: no line for {crate}"
+            continue
+        for library in libraries.split():
+            if place.get(library, -1) > place[crate]:
+                yield f"{ARCHITECTURE}: {crate} stands before {library}, which it depends on"
+
+
 def findings():
-    return [*untried()] or [*not_written(), *not_found()]
+    return [*untried()] or [*not_written(), *misplaced(), *not_found()]
 
 
 def mistakes():
@@ -198,6 +212,8 @@ def mistakes():
         ("crates/field/must-fail/sum_of_first.edit", "file: src/", "file: proofs/", "changes neither"),
         ("crates/field/src/lib.rt", "\npub fn ", "\npub fn untold() {}\n\npub fn ", "fewer than two edits of field::untold"),
         ("crates.txt", "field: basics\n", "", "passed, 0 failed"),
+        ("crates.txt", "\nwords: basics\n", "\nwords: basics tag\n", "words stands before tag"),
+        (ARCHITECTURE, "| `words` |", "| one word |", "no line for words"),
     ]
 
 

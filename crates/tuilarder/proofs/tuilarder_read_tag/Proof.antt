@@ -1,7 +1,7 @@
 -- `tuilarder::tuilarder_read_tag` meets its contract.
 -- Assumes nothing.
 use mathlib.Core.Path.{ap}
-use Rattle.tag.specs.declared.Merged.{Merged}
+use Rattle.pattern.specs.declared.Merged.{Merged}
 use borrow.Author.Needs.{needs}
 use Rattle.tuilarder.proofs.tuilarder_read_tag.Statement.{statement}
 use Rattle.tuilarder.proofs.tuilarder_read_tag.Tie as tie
