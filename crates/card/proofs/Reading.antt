@@ -11,8 +11,9 @@ use lib.Seq.{take-append-seam}
 use Rattle.basics.specs.Numbers.{notCard}
 use Rattle.basics.proofs.Cases.{if-true, if-false}
 use Rattle.card_grammar.specs.Grammar.{Reading, card, none}
-use Rattle.card_grammar.specs.Card.{cardOf, places, reading}
-use Rattle.card_grammar.specs.declared.Card.{Card}
+use Rattle.card_grammar.specs.Card.{cardOf}
+use Rattle.card_reader.specs.Reading.{places, reading}
+use Rattle.card_reader.specs.declared.Card.{Card}
 use Rattle.pattern.specs.Opening.{opening}
 use Rattle.card.specs.Answer.{noText, cardAnswer, answer, hasRoom, answerInto}
 use Rattle.card.proofs.Cut.{cut-answer}

@@ -65,7 +65,7 @@ pub fn answer(line: &[u8], buffer: &mut [u8]) -> usize
     if buffer.len() < ROOM {
         return 0;
     }
-    let card = card_grammar::read(line);
+    let card = card_reader::read(line);
     if !card.is_card {
         return put_no(buffer, basics::NOT_CARD);
     }

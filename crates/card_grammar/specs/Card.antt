@@ -1,37 +1,11 @@
--- What reading a line gives.
-use mathlib.Core.Bool.{true, false}
-use mathlib.Core.List.{List, _++_}
+-- What a line is read as.
+use mathlib.Core.List.{List}
 use mathlib.Core.Logic.{⊎-elim}
-use Prim.Native.Nat.{ℕ, _-_}
-use lib.ListN.{length, take, replicate}
+use Prim.Native.Nat.{ℕ}
 use Rattle.card_grammar.specs.Grammar.{Reading, card, none}
 use Rattle.card_grammar.specs.Decided.{decided}
-use Rattle.card_grammar.specs.declared.Card.{Card}
 
 -- What a line is read as: the separator and words whose card it is, or none if it is no card. `decided` gives one of the two for every line,
 -- with its proof. A line has at most one separator and list of words, by the law `unambiguous`, so however it is decided, this is the same.
 unfoldable pub cardOf : List ℕ → Reading
 cardOf line = ⊎-elim (λ c. card (c .separator) (c .words)) (λ n. none) (decided line)
-
--- the first n numbers of a list, with zeros behind them up to n
-unfoldable pub places : ℕ → List ℕ → List ℕ
-places n xs = take n xs ++ replicate (n - length xs) 0
-
--- a reading as the record that `read` gives
-unfoldable pub reading : Reading → Card
-reading (card separator ws) =
-    record {
-      «is_card» = true;
-      separator = places 257 separator;
-      «separator_length» = length (take 257 separator);
-      words = places 65 ws;
-      «word_count» = length (take 65 ws);
-    }
-reading none =
-    record {
-      «is_card» = false;
-      separator = replicate 257 0;
-      «separator_length» = 0;
-      words = replicate 65 0;
-      «word_count» = 0;
-    }
