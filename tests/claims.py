@@ -9,8 +9,9 @@
 `write` writes what documents have from the tree itself: into docs/CLAIMS.md the table of what each contract rules out, by the line `of:` of every
 must-fail edit, and how many lines there are to read; into README.md the closing line of the gate. `test` fails where a document has not what
 `write` would write, where an edit names no contract, or one that is not in the tree, where a public function has fewer than two edits, where
-docs/ARCHITECTURE.md lacks a crate or has it below one that it depends on, and where a name that a document cites is not in the tree. `selftest` puts such mistakes into the tree, in memory, and fails where `test` would not notice
-one. `papers` prints the sentences of documents 00 and 01, in FOLDER, that docs/CLAIMS.md does not quote.
+docs/ARCHITECTURE.md lacks a crate or has it below one that it depends on, and where a name that a document cites is not in the tree. `selftest`
+puts such mistakes into the tree, in memory, and fails where `test` would not notice one. `papers` prints the sentences of documents 00 and 01, in
+FOLDER, that docs/CLAIMS.md does not quote.
 """
 import difflib
 import os
