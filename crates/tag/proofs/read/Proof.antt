@@ -31,7 +31,7 @@ size c = c .words-length .result
 
 -- the test of the words, where they were read
 tested : (c : tie.After-is-sound)
-    → let at = c .before .before .before .before .before .before .before in
+    → let at = c .before .before .before .before .before .before in
     soundBytes (wordsPart (string (at .before)) (n (at .before))) ≡ c .is-sound .result
 tested c =
     let at = c .before .before .before .before .before .before in
