@@ -9,9 +9,9 @@
 `write` writes what documents have from the tree itself: into docs/CLAIMS.md the table of what each contract rules out, by the line `of:` of every
 must-fail edit, and how many lines there are to read; into README.md the closing line of the gate. `test` fails where a document has not what
 `write` would write, where an edit names no contract, or one that is not in the tree, where a public function has fewer than two edits, where
-docs/ARCHITECTURE.md has no line for a crate or has it before one that it depends on, and where a name that a document cites is not in the
-tree. `selftest` puts such mistakes into the tree, in memory, and fails where `test` would not notice
-one. `papers` prints the sentences of documents 00 and 01, in FOLDER, that docs/CLAIMS.md does not quote.
+docs/ARCHITECTURE.md lacks a crate or has it below one that it depends on, and where a name that a document cites is not in the tree. `selftest`
+puts such mistakes into the tree, in memory, and fails where `test` would not notice one. `papers` prints the sentences of documents 00 and 01, in
+FOLDER, that docs/CLAIMS.md does not quote.
 """
 import difflib
 import os
@@ -181,16 +181,17 @@ def not_written():
 
 
 def misplaced():
-    """Crates that docs/ARCHITECTURE.md has no line for, and those that stand before one that they depend on."""
-    lines = [re.findall(r"`(\w+)`", line.split(" | ")[0]) for line in read(ARCHITECTURE).splitlines() if line.startswith("| `")]
-    place = {crate: number for number, line in enumerate(lines) for crate in line}
+    """Crates that docs/ARCHITECTURE.md has no line or no place for, and those that depend on one above or to the left of them."""
+    text = read(ARCHITECTURE)
+    lines = {crate for line in text.splitlines() if line.startswith("| `") for crate in re.findall(r"`(\w+)`", line.split(" | ")[0])}
+    picture = text.split("```\n")[1].splitlines()
+    place = {crate: (layer, column) for layer, line in enumerate(picture) for column, crate in enumerate(line.split()[1:])}
     for crate, libraries in re.findall(r"^(\w+):(.*)$", read("crates.txt"), re.MULTILINE):
-        if crate not in place:
-            yield f"{ARCHITECTURE}: no line for {crate}"
+        if crate not in lines or crate not in place:
+            yield f"{ARCHITECTURE}: no line or no place for {crate}"
             continue
-        for library in libraries.split():
-            if place.get(library, -1) > place[crate]:
-                yield f"{ARCHITECTURE}: {crate} stands before {library}, which it depends on"
+        yield from (f"{ARCHITECTURE}: {crate} depends on {library}, which is not below it or to its right"
+                    for library in libraries.split() if library in place and place[library] < place[crate])
 
 
 def findings():
@@ -212,8 +213,9 @@ def mistakes():
         ("crates/field/must-fail/sum_of_first.edit", "file: src/", "file: proofs/", "changes neither"),
         ("crates/field/src/lib.rt", "\npub fn ", "\npub fn untold() {}\n\npub fn ", "fewer than two edits of field::untold"),
         ("crates.txt", "field: basics\n", "", "passed, 0 failed"),
-        ("crates.txt", "\nwords: basics\n", "\nwords: basics tag\n", "words stands before tag"),
-        (ARCHITECTURE, "| `words` |", "| one word |", "no line for words"),
+        ("crates.txt", "\nwords: basics\n", "\nwords: basics tag\n", "words depends on tag"),
+        (ARCHITECTURE, "| `words` |", "| one word |", "no line or no place for words"),
+        (ARCHITECTURE, "poseidon   keccak ", "keccak ", "no line or no place for poseidon"),
     ]
 
 

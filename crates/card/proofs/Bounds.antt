@@ -51,7 +51,7 @@ few-digits (suc k) n h =
     let one-more = length-decimal-more n large in
     omega (arith, few-digits k (n / 10) q)
 
-pub number-digits : (n : ℕ) → n ≤ 14 → length (decimal n) ≤ 2
+pub number-digits : (n : ℕ) → n ≤ 99 → length (decimal n) ≤ 2
 number-digits n h = few-digits 1 n (omega arith)
 
 pub count-digits : (n : ℕ) → n ≤ 99999999999 → length (decimal n) ≤ 11
@@ -68,9 +68,9 @@ few-permutations o e =
     let behind = phase-bound (getD (mergedWords (o .words)) count 0) 0 in
     omega arith
 
-pub small-number : (o : Opening) → startNumber o ≤ 14
+pub small-number : (o : Opening) → startNumber o ≤ 99
 unfolding startNumber startRows wordRows all _and_
-small-number o = number-bound 14 (startRows o) refl
+small-number o = number-bound 99 (startRows o) refl
 
 -- ---- answers
 
@@ -85,7 +85,7 @@ pub length-no : (number : ℕ) → length (noText number) ≡ 4 + length (decima
 unfolding noText
 length-no number = omega (arith, length-append (decimal number) (41 ∷ []))
 
-no-short : (number : ℕ) → number ≤ 14 → length (noText number) ≤ longestAnswer
+no-short : (number : ℕ) → number ≤ 99 → length (noText number) ≤ longestAnswer
 no-short number h = omega (arith, length-no number, number-digits number h)
 
 card-answer-short : (o : Opening) → length (cardAnswer o) ≤ longestAnswer

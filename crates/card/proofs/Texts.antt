@@ -6,7 +6,8 @@ use Prim.Native.Nat.{ℕ, _+_, _-_, _≤_}
 use native.Mathlib.Omega.{arith}
 use lib.ListN.{length, take, length-append}
 use Rattle.card_grammar.specs.Text.{ascii, hex, decimal}
-use Rattle.card.specs.Answer.{okText, noText, beginning, placed}
+use Rattle.tag.specs.TagString.{maxString}
+use Rattle.card.specs.Answer.{room, okText, noText, beginning, placed}
 use Rattle.card.proofs.Placed.{begins, begins-end, begins-more, begins-copied}
 use Rattle.card.proofs.Bounds.{length-hex, number-digits, count-digits, length-ok, length-no}
 
@@ -17,7 +18,7 @@ abbrev okFront : List ℕ
 okFront = ascii "(ok "
 
 -- three parts, and what the buffer is after each
-pub no-written : (buffer after1 after2 after3 : List ℕ) (number end : ℕ) → 1042 ≤ length buffer → number ≤ 14
+pub no-written : (buffer after1 after2 after3 : List ℕ) (number end : ℕ) → room ≤ length buffer → number ≤ 99
     → after1 ≡ placed buffer 0 (take (length buffer - 0) noFront)
     → (end ≡ 4 + length (decimal number)) × (after2 ≡ placed after1 4 (decimal number))
     → after3 ≡ placed after2 end (take (length after2 - end) (ascii ")"))
@@ -41,8 +42,8 @@ ok-parts string permutations =
 
 -- five parts, and what the buffer is after each
 pub ok-written : (buffer after1 after2 after3 after4 after5 string : List ℕ) (permutations tag-end end : ℕ)
-    → 1042 ≤ length buffer
-    → length string ≤ 512
+    → room ≤ length buffer
+    → length string ≤ maxString
     → permutations ≤ 99999999999
     → after1 ≡ placed buffer 0 (take (length buffer - 0) okFront)
     → (tag-end ≡ 4 + length (hex string)) × (after2 ≡ placed after1 4 (hex string))

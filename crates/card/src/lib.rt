@@ -5,6 +5,7 @@ ghost use mathlib.Core.Path.{_≡_};
 ghost use Prim.Native.Nat.{_≤_};
 ghost use lib.ListN.{length};
 ghost use Rattle.pattern.specs.Opening.{opening};
+ghost use Rattle.tag.specs.TagString.{maxString};
 ghost use Rattle.card.specs.Answer.{room, okText, noText, cardAnswer, answerInto, beginning};
 
 // What a buffer has to hold at least: the longest answer, of 1,041 bytes, and a newline.
@@ -12,7 +13,7 @@ pub const ROOM: usize = 1042;
 
 // Writes "(no N)".
 fn put_no(buffer: &mut [u8], number: u32) -> usize
-    requires { ⌜ (room ≤ length (now buffer)) × (number ≤ 14) ⌝ }
+    requires { ⌜ (room ≤ length (now buffer)) × (number ≤ 99) ⌝ }
     ensures { λ r. ⌜ (r ≡ length (noText number)) ×
         (now (buffer .exit) ≡ beginning (noText number) (now (buffer .entry))) ⌝ }
 {
@@ -24,7 +25,7 @@ fn put_no(buffer: &mut [u8], number: u32) -> usize
 
 // Writes "(ok TAG COUNT)" for a tag string.
 fn put_ok(buffer: &mut [u8], string: &[u8], permutations: u64) -> usize
-    requires { ⌜ (room ≤ length (now buffer)) × (length (now string) ≤ 512) × (permutations ≤ 99999999999) ⌝ }
+    requires { ⌜ (room ≤ length (now buffer)) × (length (now string) ≤ maxString) × (permutations ≤ 99999999999) ⌝ }
     ensures { λ r. ⌜ (r ≡ length (okText (now (string .entry)) permutations)) ×
         (now (buffer .exit) ≡ beginning (okText (now (string .entry)) permutations) (now (buffer .entry))) ⌝ }
 {

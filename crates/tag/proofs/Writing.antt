@@ -18,7 +18,7 @@ use Rattle.pattern.specs.Pattern.{mergedWords}
 use Rattle.pattern.specs.Opening.{Opening, wordRows, startRows, startNumber, given}
 use Rattle.pattern.proofs.Given.{given-accepted, given-refused}
 use Rattle.pattern.proofs.StartCheck.{passed, few-words}
-use Rattle.tag.specs.TagString.{wordBytes, stringOf, tagString, bufferRows, bufferNumber, writeRows, writeNumber, writtenWith, bufferWith, stringWritten, stringBuffer, written, bufferAfter}
+use Rattle.tag.specs.TagString.{wordBytes, maxString, stringOf, tagString, bufferRows, bufferNumber, writeRows, writeNumber, writtenWith, bufferWith, stringWritten, stringBuffer, written, bufferAfter}
 use Rattle.tag.specs.declared.Written.{Written}
 use Rattle.tag.proofs.WordBytes.{length-word-bytes}
 
@@ -114,7 +114,7 @@ module _ (o : Opening) where
   length-tag-string = length-string (mergedWords (o .words)) (o .separator)
 
   -- every accepted opening's: 64 words of four bytes, and 256 bytes
-  pub tag-string-short : startNumber o ≡ accepted → length (tagString o) ≤ 512
+  pub tag-string-short : startNumber o ≡ accepted → length (tagString o) ≤ maxString
   tag-string-short e = omega (arith, length-tag-string, few-words o e, passed o e .short)
 
   module _ (buffer : List ℕ) where
@@ -126,8 +126,8 @@ module _ (o : Opening) where
     unfolding writeNumber writeRows startNumber bufferNumber startRows wordRows all _and_
     number-of-buffer e = behind (startRows o) (bufferRows (tagString o) buffer) (accepted-none (startRows o) refl e)
 
-    -- a buffer of 512 bytes holds every tag string
-    pub room-for-any : startNumber o ≡ accepted → 512 ≤ length buffer → bufferNumber (tagString o) buffer ≡ accepted
+    -- a buffer of so many bytes holds every tag string
+    pub room-for-any : startNumber o ≡ accepted → maxString ≤ length buffer → bufferNumber (tagString o) buffer ≡ accepted
     room-for-any e h = number-0 (tagString o) buffer (omega (arith, tag-string-short e))
 
     pub check-refuses : (number : ℕ) → number ≡ startNumber o → number ≢ accepted

@@ -1,7 +1,7 @@
 -- Tag strings, written and read. From document 01, "Tags" and "Calls turned away".
 use mathlib.Core.Bool.{Bool, not}
 use mathlib.Core.List.{List, [], _∷_, _++_}
-use Prim.Native.Nat.{ℕ, _-_, _*_, _/_, _%_}
+use Prim.Native.Nat.{ℕ, _+_, _-_, _*_, _/_, _%_}
 use lib.Dec.{ltb, eqb}
 use lib.ListN.{length, take, drop}
 use Rattle.basics.specs.Logic.{_and_}
@@ -9,7 +9,7 @@ use Rattle.basics.specs.Lists.{tabulate}
 use Rattle.basics.specs.Digits.{digits, number}
 use Rattle.basics.specs.Numbers.{separatorTooLong, bufferTooShort, notTagString}
 use Rattle.basics.specs.Refusals.{Row, _gets_⨾_, firstNumber}
-use Rattle.pattern.specs.Pattern.{mergedWords, soundWords}
+use Rattle.pattern.specs.Pattern.{maxWords, mergedWords, soundWords}
 use Rattle.pattern.specs.Opening.{Opening, maxSeparator, startRows, given, answerWith}
 use Rattle.pattern.specs.declared.Merged.{Merged}
 use Rattle.tag.specs.declared.Written.{Written}
@@ -26,6 +26,10 @@ stringOf ws separator = wordBytes ws ++ separator
 -- "The tag string is the merged words, four bytes each, highest byte first, then the separator."
 unfoldable pub tagString : Opening → List ℕ
 tagString o = stringOf (mergedWords (o .words)) (o .separator)
+
+-- the longest tag string of an accepted opening, in bytes
+abbrev pub maxString : ℕ
+maxString = 4 * maxWords + maxSeparator
 
 -- "lent buffer shorter than the tag string": the row of a string and a buffer
 unfoldable pub bufferRows : List ℕ → List ℕ → List Row

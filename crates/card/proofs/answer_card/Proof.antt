@@ -11,9 +11,10 @@ use Rattle.pattern.specs.Opening.{Opening, opening, startNumber}
 use Rattle.pattern.proofs.Checked.{number-checked, started, count-fits, count-inside}
 use Rattle.tag.specs.TagString.{tagString}
 use Rattle.tag.proofs.Writing.{tag-string-short}
+use Rattle.tag.proofs.CheckedString.{string-inside, string-written}
 use Rattle.card.specs.Answer.{okText, beginning}
 use Rattle.card.proofs.Bounds.{few-permutations, small-number}
-use Rattle.card.proofs.CardAnswer.{string-inside, refuses, counts, string-written, answers}
+use Rattle.card.proofs.CardAnswer.{refuses, counts, answers}
 use borrow.Author.Needs.{needs}
 use Rattle.card.proofs.answer_card.Statement.{statement}
 use Rattle.card.proofs.answer_card.Tie as tie
@@ -29,9 +30,12 @@ starts c = started (opened (c .before .before)) _ (c .before .before .check .ens
 count-in : (c : tie.Else1) → c .before .before .check .result .count ≤ length (c .before .before .check .result .words)
 count-in c = count-inside (opened (c .before .before)) _ (c .before .before .check .ensures) (c .if1 .left)
 
--- the string lies in the 512 bytes, where it was written
+-- where the string was written it lies in the bytes lent for it, and is the tag string
 string-fits : (c : tie.After-write-string) → c .write-string .result .length ≤ length (c .write-string .last .1 .1 .0)
-string-fits c = rw (c .write-string .ensures .0, c .write-string .ensures .1) (string-inside _ _)
+string-fits c =
+    let at-accepted = c .before .before .before .before in
+    let at-check = at-accepted .before .before in
+    string-inside (opened at-check) _ (at-check .check .ensures) (at-accepted .if1 .left) _ _ (c .write-string .ensures .0) (c .write-string .ensures .1)
 
 string-read : (c : tie.After-write-string)
     → take (c .write-string .result .length) (c .write-string .last .1 .1 .0) ≡ tagString (opened (c .before .before .before .before .before .before))
@@ -101,9 +105,7 @@ returns-2 c =
     let buffer = at-check .before .before .before .before .args .buffer .now in
     let text =
     ap (okText _) (at-count .permutations-at .ensures)
-    ∙ answers (opened at-check) _ (at-check .check .ensures) (at-accepted .if1 .left) _ _
-    (at-string .write-string .ensures .0)
-    (at-string .write-string .ensures .1) in
+    ∙ answers (opened at-check) _ (at-check .check .ensures) (at-accepted .if1 .left) _ (string-read at-string) in
     (at-ok .put-ok .ensures .0 ∙ ap length text, at-ok .put-ok .ensures .1 ∙ ap (λ (l : List ℕ). beginning l buffer) text)
 
 pub answer-card-spec : {M : Type 1} → statement M

@@ -1,73 +1,104 @@
 -- `tag::read` meets its contract.
 -- Assumes nothing.
-use mathlib.Core.Path.{refl, sym, _∙_}
+use mathlib.Core.Path.{_≡_, refl, sym, _∙_}
+use mathlib.Core.List.{List}
+use Prim.Native.Nat.{ℕ, _≤_}
+use lib.ListN.{length}
 use lib.Seq.{length-take-le}
+use Rattle.pattern.specs.Opening.{maxSeparator}
+use Rattle.tag.specs.TagString.{wordsPart, soundBytes}
 use Rattle.tag.proofs.Reading.{read-refused, read-accepted, number-6, number-13-short, number-13, number-0, length-part, cut-word, too-long, sound-test, answer}
 use borrow.Author.Needs.{needs}
 use Rattle.tag.proofs.read.Statement.{statement}
 use Rattle.tag.proofs.read.Tie as tie
 
+-- the string and the length given, where both bounds on that hold
+abbrev string : tie.Else2 → List ℕ
+string c = c .before .before .before .args .string .now
+
+abbrev n : tie.Else2 → ℕ
+n c = c .before .before .before .args .separator-length
+
+short : (c : tie.Else2) → n c ≤ maxSeparator
+short c = search needs
+
+long : (c : tie.Else2) → n c ≤ length (string c)
+long c = search needs
+
+-- the size of what precedes the separator
+abbrev size : tie.After-words-length → ℕ
+size c = c .words-length .result
+
+-- the test of the words, where they were read
+tested : (c : tie.After-is-sound)
+    → let at = c .before .before .before .before .before .before in
+    soundBytes (wordsPart (string (at .before)) (n (at .before))) ≡ c .is-sound .result
+tested c =
+    let at = c .before .before .before .before .before .before in
+    let read = c .before .before .words-of in
+    sound-test (string (at .before)) (n (at .before)) (long (at .before)) (size at) (at .words-length .ensures) (search needs) (read .result) _
+    (read .ensures) (c .is-sound .ensures)
+
 returns : tie.Need-returns
 returns c =
-    let string = c .before .before .before .args .string .now in
-    let n = c .before .before .before .args .separator-length in
-    c .refused .ensures ∙ sym (read-refused string n _ refl (number-6 string n (search needs)))
+    let args = c .before .before .before .args in
+    c .refused .ensures
+    ∙ sym (read-refused (args .string .now) (args .separator-length) _ refl (number-6 (args .string .now) (args .separator-length) (search needs)))
 
 returns-2 : tie.Need-returns-2
 returns-2 c =
-    let string = c .before .before .before .before .args .string .now in
-    let n = c .before .before .before .before .args .separator-length in
-    c .refused2 .ensures ∙ sym (read-refused string n _ refl (number-13-short string n (search needs) (search needs)))
+    let args = c .before .before .before .before .args in
+    c .refused2 .ensures
+    ∙ sym
+    (read-refused (args .string .now) (args .separator-length) _ refl
+    (number-13-short (args .string .now) (args .separator-length) (search needs) (search needs)))
 
 returns-3 : tie.Need-returns-3
 returns-3 c =
-    let string = c .before .before .before .before .before .before .args .string .now in
-    let n = c .before .before .before .before .before .before .args .separator-length in
-    let size = c .before .before .words-length in
-    c .refused3 .ensures ∙ sym (read-refused string n _ refl (number-13 string n (search needs) (search needs) (cut-word string n (search needs) (size .result) (size .ensures) (search needs))))
+    let at = c .before .before in
+    let e = at .before in
+    c .refused3 .ensures
+    ∙ sym
+    (read-refused (string e) (n e) _ refl
+    (number-13 (string e) (n e) (short e) (long e) (cut-word (string e) (n e) (long e) (size at) (at .words-length .ensures) (search needs))))
 
 returns-4 : tie.Need-returns-4
 returns-4 c =
-    let string = c .before .before .before .before .before .before .before .args .string .now in
-    let n = c .before .before .before .before .before .before .before .args .separator-length in
-    let size = c .before .before .before .words-length in
-    c .refused4 .ensures ∙ sym (read-refused string n _ refl (number-13 string n (search needs) (search needs) (too-long string n (search needs) (size .result) (size .ensures) (search needs))))
+    let at = c .before .before .before in
+    let e = at .before in
+    c .refused4 .ensures
+    ∙ sym
+    (read-refused (string e) (n e) _ refl
+    (number-13 (string e) (n e) (short e) (long e) (too-long (string e) (n e) (long e) (size at) (at .words-length .ensures) (search needs))))
 
 slice-aggregate-words-of : tie.Need-slice-aggregate-words-of
 slice-aggregate-words-of c =
-    let string = c .before .before .before .before .before .before .before .args .string .now in
-    let n = c .before .before .before .before .before .before .before .args .separator-length in
-    let size = c .before .before .before .words-length in
-    sym (length-part string n (search needs) (size .result) (size .ensures))
+    let at = c .before .before .before in
+    sym (length-part (string (at .before)) (n (at .before)) (long (at .before)) (size at) (at .words-length .ensures))
 
 words-of-requires : tie.Need-words-of-requires
 words-of-requires c κs =
-    let string = c .before .before .before .before .before .before .before .args .string .now in
-    let n = c .before .before .before .before .before .before .before .args .separator-length in
-    let size = c .before .before .before .words-length in
-    rw (length-part string n (search needs) (size .result) (size .ensures)) (search needs)
+    let at = c .before .before .before in
+    rw (length-part (string (at .before)) (n (at .before)) (long (at .before)) (size at) (at .words-length .ensures)) (search needs)
 
 slice-aggregate-is-sound : tie.Need-slice-aggregate-is-sound
 slice-aggregate-is-sound c = sym (length-take-le _ _ (search needs))
 
 returns-5 : tie.Need-returns-5
 returns-5 c =
-    let string = c .before .before .before .before .before .before .before .before .before .before .before .args .string .now in
-    let n = c .before .before .before .before .before .before .before .before .before .before .before .args .separator-length in
-    let size = c .before .before .before .before .before .before .before .words-length in
-    let list = c .before .before .before .words-of in
-    let sound = sound-test string n (search needs) (size .result) (size .ensures) (search needs) (list .result) _ (list .ensures) (c .before .is-sound .ensures) in
-    answer string n (search needs) (size .result) (size .ensures) (list .result) (list .ensures)
-    ∙ sym (read-accepted string n (number-0 string n (search needs) (search needs) (sound ∙ c .if5 .taken)))
+    let at-test = c .before in
+    let at = at-test .before .before .before .before .before .before in
+    let e = at .before in
+    let read = at-test .before .before .words-of in
+    answer (string e) (n e) (long e) (size at) (at .words-length .ensures) (read .result) (read .ensures)
+    ∙ sym (read-accepted (string e) (n e) (number-0 (string e) (n e) (short e) (long e) (tested at-test ∙ c .if5 .taken)))
 
 returns-6 : tie.Need-returns-6
 returns-6 c =
-    let string = c .before .before .before .before .before .before .before .before .before .before .before .before .args .string .now in
-    let n = c .before .before .before .before .before .before .before .before .before .before .before .before .args .separator-length in
-    let size = c .before .before .before .before .before .before .before .before .words-length in
-    let list = c .before .before .before .before .words-of in
-    let sound = sound-test string n (search needs) (size .result) (size .ensures) (search needs) (list .result) _ (list .ensures) (c .before .before .is-sound .ensures) in
-    c .refused5 .ensures ∙ sym (read-refused string n _ refl (number-13 string n (search needs) (search needs) (sound ∙ c .before .if5 .left)))
+    let at-test = c .before .before in
+    let e = at-test .before .before .before .before .before .before .before in
+    c .refused5 .ensures
+    ∙ sym (read-refused (string e) (n e) _ refl (number-13 (string e) (n e) (short e) (long e) (tested at-test ∙ c .before .if5 .left)))
 
 pub read-spec : {M : Type 1} → statement M
 read-spec =

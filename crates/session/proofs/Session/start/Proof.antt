@@ -1,19 +1,16 @@
 -- `session::Session::start` meets its contract.
 -- Assumes nothing.
-use mathlib.Core.Path.{_≡_, sym, ap, ap₂, _∙_}
-use mathlib.Core.List.{List}
+use mathlib.Core.Path.{_≡_, sym, ap, _∙_}
 use Prim.Native.Nat.{ℕ, _≤_}
-use lib.Dec.{lit≤}
-use lib.ListN.{length, take, replicate}
+use lib.ListN.{length, take}
 use lib.Seq.{length-take-le}
 use Rattle.basics.specs.Numbers.{accepted}
 use Rattle.sha3.specs.Sponge.{sha3}
 use Rattle.pattern.specs.Opening.{Opening, opening, startNumber, withWords}
-use Rattle.pattern.proofs.Checked.{number-checked, started, answer-checked, words-checked, count-fits, count-inside}
-use Rattle.tag.specs.TagString.{stringOf, tagString, bufferNumber, stringWritten, stringBuffer}
+use Rattle.pattern.proofs.Checked.{number-checked, started, answer-checked, count-fits, count-inside}
+use Rattle.tag.specs.TagString.{tagString}
 use Rattle.tag.specs.Elements.{tagElements}
-use Rattle.tag.specs.declared.Written.{Written}
-use Rattle.tag.proofs.Writing.{room-for-any, inside, front}
+use Rattle.tag.proofs.CheckedString.{string-inside, string-written}
 use Rattle.sponge.specs.Sponge.{tagState}
 use Rattle.session.specs.Record.{opened, wiped, openRecord}
 use Rattle.session.specs.Calls.{giving, startRecord}
@@ -33,23 +30,19 @@ starts c = started (checking (c .before .before)) _ (c .before .before .check .e
 count-in : (c : tie.Else1) → c .before .before .check .result .count ≤ length (c .before .before .check .result .words)
 count-in c = count-inside (checking (c .before .before)) _ (c .before .before .check .ensures) (c .if1 .left)
 
--- the string lies in the 512 bytes, where it was written
+-- where the string was written it lies in the bytes lent for it, and is the tag string
 string-fits : (c : tie.After-write-string) → c .write-string .result .length ≤ length (c .write-string .last .1 .1 .0)
-unfolding stringWritten stringBuffer
-string-fits c = rw (c .write-string .ensures .0, c .write-string .ensures .1) (inside _ _ _)
+string-fits c =
+    let at-accepted = c .before .before .before .before in
+    let at-check = at-accepted .before .before in
+    string-inside (checking at-check) _ (at-check .check .ensures) (at-accepted .if1 .left) _ _ (c .write-string .ensures .0) (c .write-string .ensures .1)
 
 string-read : (c : tie.After-write-string)
     → take (c .write-string .result .length) (c .write-string .last .1 .1 .0) ≡ tagString (checking (c .before .before .before .before .before .before))
-unfolding stringWritten stringBuffer tagString
 string-read c =
     let at-accepted = c .before .before .before .before in
     let at-check = at-accepted .before .before in
-    let o = checking at-check in
-    let zeros : List ℕ = replicate 512 0 in
-    let words = words-checked o _ (at-check .check .ensures) (at-accepted .if1 .left) in
-    ap₂ (λ (w : Written) (l : List ℕ). take (w .length) l) (c .write-string .ensures .0) (c .write-string .ensures .1)
-    ∙ ap (λ (ws : List ℕ). take (stringWritten (stringOf ws (o .separator)) zeros .length) (stringBuffer (stringOf ws (o .separator)) zeros)) words
-    ∙ front (bufferNumber (tagString o) zeros) (tagString o) zeros (room-for-any o zeros (starts at-accepted) (lit≤ tt))
+    string-written (checking at-check) _ (at-check .check .ensures) (at-accepted .if1 .left) _ _ (c .write-string .ensures .0) (c .write-string .ensures .1)
 
 returns : tie.Need-returns
 returns c =
