@@ -1,4 +1,4 @@
--- What the private functions give: the machine that reads a line byte by byte. `cardOf` is computed by it; the type of `decided` fixes the
+-- The machine that reads a line byte by byte, whose code is the crate card_machine. `cardOf` is computed by it; the type of `decided` fixes the
 -- outcome, whatever the machine.
 use mathlib.Core.List.{List, [], _∷_, _++_}
 use Prim.Native.Nat.{ℕ, _+_, _-_, _*_}

@@ -1,2 +1,3 @@
-// Which lines are cards. No function: the definitions, and the decision that every line is a card or none, are of the machine's modes and moves.
+// Which lines are cards. No function: definitions, the decision that every line is a card or none, and the modes and moves of the machine that
+// decides.
 pub mod machine;

@@ -1,4 +1,4 @@
--- Cards. `cardOf`, `answerInto`, `fed`, `lineAfter`, `outputAfter` and `lastAnswer` are those that the contracts of `card_grammar`, `card` and
+-- Cards. `cardOf`, `answerInto`, `fed`, `lineAfter`, `outputAfter` and `lastAnswer` are those that the contracts of `card_reader`, `card` and
 -- `card_lines` cite; `output` is what document 01 has the card program print for a whole input.
 use mathlib.Core.Path.{_≡_, refl, sym, ap, ap₂, _∙_}
 use mathlib.Core.Bool.{true}
