@@ -31,7 +31,7 @@ ANSWERS = {
     "permute": ("crates/permutation_vectors/stdout", r"(\d+)"),
     "cards": ("crates/cards/stdout", r"\((?:ok|no (\d+))"),
 }
-Row = namedtuple("Row", "number name condition reason example calls")
+Row = namedtuple("Row", "number name condition message reason example calls")
 
 
 # ---- the table
@@ -43,8 +43,8 @@ def cells(heading):
 
 
 def table():
-    return [Row(int(number), name, condition, reason, example, calls.split(", ") if calls else [])
-            for number, name, condition, reason, example, calls in cells("No.")]
+    return [Row(int(number), name, condition, message or condition, reason, example, calls.split(", ") if calls else [])
+            for number, name, condition, message, reason, example, calls in cells("No.")]
 
 
 def exports():
@@ -72,17 +72,17 @@ def lower_camel(name):
     return name.split()[0] + camel(name.partition(" ")[2])
 
 
-def sentence(text):
-    return text[0].upper() + text[1:] + "."
+def sentence(row):
+    return row.condition[0].upper() + row.condition[1:] + "."
 
 
 # ---- the four places with a row for each number
 
-def place(path, text, pattern, rows, name, comment=str):
+def place(path, text, pattern, rows, name, comment=lambda row: row.condition):
     """A place's path; what its text has, row by row, and whatever else stands there; and the rows that it has to have."""
     found = ["{number} {name}: {comment}".format(**match.groupdict()) for match in re.finditer(pattern, text)]
     rest = re.sub(pattern, "", text).split()
-    return path, found + [" ".join(rest)] * bool(rest), [f"{row.number} {name(row.name)}: {comment(row.condition)}" for row in rows]
+    return path, found + [" ".join(rest)] * bool(rest), [f"{row.number} {name(row.name)}: {comment(row)}" for row in rows]
 
 
 def behind_heading(path):
@@ -103,7 +103,7 @@ def places():
     yield place(CODE, behind_heading(CODE), code, rows, snake, sentence)
     yield place(DEFINITIONS, behind_heading(DEFINITIONS), definitions, rows, lower_camel)
     yield place(HEADER, between(HEADER, "enum tuilarder_number {\n", "};"), header, known, lambda name: "TUILARDER_" + snake(name))
-    yield place(RUST, between(RUST, "\nrefusals! {\n", "}\n"), rust, known[1:], camel)
+    yield place(RUST, between(RUST, "\nrefusals! {\n", "}\n"), rust, known[1:], camel, lambda row: row.message)
 
 
 def quoted():
@@ -187,7 +187,7 @@ def named():
         text = " ".join(read(path).split())
         for match in re.finditer(r"(?:refused with |\(|; )(\d+): ", text):
             row = rows.get(int(match[1]))
-            if not row or not text.startswith(row.condition, match.end()):
+            if not row or not text.startswith((row.condition, row.message), match.end()):
                 yield f"{path}: {text[match.start():match.end() + 40]}"
         for number in re.findall(r"\b(?:gets?|\(no) (\d+)", text):
             if int(number) not in rows:
@@ -202,9 +202,9 @@ MISTAKES = [
     (NUMBERS, "| 7 | record not open", "| 17 | record not open", "one after the other"),
     (NUMBERS, "| record not open |", "| record not sound |", "the name record not sound"),
     (NUMBERS, "| 14 | not card |", "| 14 | not card line |", "NOT_CARD"),
-    (NUMBERS, "| 14 | not card |", "| 14 | another one | of something | | an example | write |\n| 15 | not card |", "TUILARDER_ANOTHER_ONE"),
+    (NUMBERS, "| 14 | not card |", "| 14 | another one | of something | | | an example | write |\n| 15 | not card |", "TUILARDER_ANOTHER_ONE"),
     (NUMBERS, "ABSORB, permute |", "ABSORB |", "permute gives [0, 10]"),
-    (NUMBERS, "| not a card line | | (card) | cards |", "| not a card line | | (card) | |", "NotCard"),
+    (NUMBERS, "| not a card line | | | (card) | cards |", "| not a card line | | | (card) | |", "NotCard"),
     (NUMBERS, "| permute | `tuilarder_permute` |", "| permute | |", "lacks tuilarder_permute"),
     (NUMBERS, "| FINISH |\n| 12", "| FINISH, SHUT |\n| 12", "no call SHUT"),
     (CODE, "u32 = 6;", "u32 = 5;", "SEPARATOR_TOO_LONG"),
@@ -217,6 +217,7 @@ MISTAKES = [
     (HEADER, "Checks 7, 8, 11.", "Checks 7, 11.", "tuilarder_finish is said to check [7, 11]"),
     (RUST, "7 RecordNotOpen", "8 RecordNotOpen", "8 RecordNotOpen"),
     (RUST, '"record not open"', '"record closed"', "record closed"),
+    (RUST, "of 2013265921 or more", "of p or more", "an element of p or more"),
     (DECLARED, "Checks 6 (of the length given), then 13.", "Checks 13.", "tuilarder_read_tag is said to check [13]"),
     ("bindings/rust/src/session.rs", "[`Refusal::SeparatorTooLong`] (6)", "[`Refusal::SeparatorTooLong`] (5)", "SeparatorTooLong (5)"),
     (CLAIMS, '"80000003, length 0"', '"80000003"', '13: "no tag string of that separator length", "80000003"'),

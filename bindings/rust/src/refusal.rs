@@ -1,9 +1,9 @@
 use core::fmt;
 
-/// Makes [`Refusal`] from one list, a row for each number: the number, the variant and the condition, and lines of documentation before
+/// Makes [`Refusal`] from one list, a row for each number: the number, the variant and the message, and lines of documentation before
 /// them that say more.
 macro_rules! refusals {
-    ($($(#[doc = $more:literal])* $number:literal $variant:ident $condition:literal,)*) => {
+    ($($(#[doc = $more:literal])* $number:literal $variant:ident $message:literal,)*) => {
         /// Why a call was turned away: the conditions of the specification, document 01, each with its number.
         ///
         /// There can be more of them in a later version, so a `match` outside of this crate needs an arm for others.
@@ -12,7 +12,7 @@ macro_rules! refusals {
         #[repr(u32)]
         pub enum Refusal {
             $(
-                #[doc = concat!($number, ": ", $condition, ".")]
+                #[doc = concat!($number, ": ", $message, ".")]
                 $(#[doc = $more])*
                 $variant = $number,
             )*
@@ -36,7 +36,7 @@ macro_rules! refusals {
         impl fmt::Display for Refusal {
             fn fmt(&self, f: &mut fmt::Formatter<'_>) -> fmt::Result {
                 f.write_str(match self {
-                    $(Refusal::$variant => $condition,)*
+                    $(Refusal::$variant => $message,)*
                 })
             }
         }
@@ -54,8 +54,8 @@ refusals! {
     7 RecordNotOpen "record not open",
     8 RecordNotSound "open record not sound",
     /// The record is wiped.
-    9 CallNotInPattern "wrong kind, past the phase's end, or after the last phase",
-    10 ElementNotReduced "an element of p or more",
+    9 CallNotInPattern "call of the wrong kind, past the phase's end, or after the last phase",
+    10 ElementNotReduced "an element of 2013265921 or more",
     /// The record is wiped.
     11 PatternNotDone "FINISH before the last phase's end",
     12 BufferTooShort "lent buffer shorter than the tag string",

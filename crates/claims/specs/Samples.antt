@@ -4,7 +4,7 @@ use mathlib.Core.Bool.{Bool, true, false}
 use mathlib.Core.List.{List, [], _∷_, _++_}
 use Prim.Native.Nat.{ℕ, _-_, _*_, _%_}
 use lib.Dec.{eqb}
-use lib.ListN.{length, getD, replicate}
+use lib.ListN.{getD, replicate}
 use Rattle.basics.specs.Logic.{if_then_else_, _and_, _or_, same, all, any}
 use Rattle.basics.specs.Lists.{tabulate, sum}
 use Rattle.basics.specs.Digits.{digits, number, numberAfter}
@@ -19,8 +19,8 @@ use Rattle.tag.specs.Elements.{tagElements}
 use Rattle.progress.specs.Permutations.{blockCount, phasePermutations, permutationsAt, fullPermutations}
 use Rattle.poseidon_tables.specs.Tables.{constants, inverses}
 use Rattle.poseidon.specs.Permutation.{addConstants, raiseAll, raiseFirst, raise, matrix, multiply, rounds, permutation, babyBear}
-use Rattle.sponge.specs.Sponge.{tagState, readyToAbsorb, absorbElement, readyToSqueeze, squeezedElement, squeezeElement}
-use Rattle.session.specs.Record.{wiped, openRecord, spongeOf, moved}
+use Rattle.sponge.specs.Sponge.{readyToAbsorb, absorbElement, readyToSqueeze, squeezedElement, squeezeElement}
+use Rattle.session.specs.Record.{tagState, wiped, openRecord, spongeOf, moved}
 use Rattle.session.specs.Record.{absorbOne, squeezeOne, squeezedOne, absorbAll, squeezeAll}
 use Rattle.progress.specs.Positions.{inLastBlock, positionsAfter, positionsAt}
 use Rattle.progress.specs.Place.{soundPlace, inPattern, nextPlace}

@@ -1,6 +1,6 @@
 -- The permutation of a state is that of its remainders, since the first step adds constants modulo the modulus. Over any parameters.
 -- Assumes nothing.
-use mathlib.Core.Path.{_≡_, _∙_, sym, ap, subst}
+use mathlib.Core.Path.{_≡_, _∙_, ap, subst}
 use mathlib.Core.List.{List}
 use Prim.Native.Nat.{ℕ, zero, suc, _+_, _*_, _%_}
 use native.Mathlib.Nat.{mod-add-mod}

@@ -7,7 +7,8 @@ use Rattle.basics.specs.Figures.{rate}
 use Rattle.words.specs.Words.{isAbsorb, lengthOf}
 use Rattle.progress.specs.declared.positions.Positions.{Positions}
 
--- how many elements the last of the blocks of n elements has, n at least 1: 1 to 8
+-- how many elements the last of the blocks of n elements has, n at least 1: 1 to 8. Of 0 elements, which no sound
+-- pattern has, it gives 8.
 unfoldable pub inLastBlock : ℕ → ℕ
 inLastBlock n = (n + 7) % rate + 1
 

@@ -10,8 +10,7 @@ use Rattle.words.specs.Words.{Phase, wordOf}
 use Rattle.pattern.specs.Pattern.{mergedWords}
 use Rattle.tag.specs.Elements.{tagElements}
 use Rattle.tag.proofs.ReadBack.{strings-tell}
-use Rattle.sponge.specs.Sponge.{tagState}
-use Rattle.session.specs.Record.{openRecord}
+use Rattle.session.specs.Record.{tagState, openRecord}
 use Rattle.session.specs.Calls.{startRecord}
 use Rattle.session.specs.declared.Session.{Session}
 use Rattle.runs.specs.Blocks.{blocks}

@@ -15,9 +15,9 @@ use Rattle.basics.proofs.Cases.{and-left, and-right}
 use Rattle.words.specs.Words.{isAbsorb, lengthOf, Phase, phaseOf}
 use Rattle.sponge.specs.declared.Sponge.{Sponge}
 use Rattle.progress.specs.declared.place.Place.{Place}
-use Rattle.session.specs.Record.{moved, phaseWord, placeNext}
+use Rattle.session.specs.Record.{moved, nextPlaceOf}
 use Rattle.session.specs.declared.Session.{Session}
-use Rattle.session.proofs.SoundRecord.{Sound}
+use Rattle.session.proofs.SoundRecord.{phaseWord, Sound}
 use Rattle.runs.specs.Lengths.{absorbLength}
 use Rattle.runs.proofs.Places.{next-place}
 
@@ -74,7 +74,7 @@ module _ (r : Session) (k : Bool) (e : isAbsorb (phaseWord r) ≡ k) (h : r .don
   kinds-here = rw (← e) (kinds-at (r .words) (r .phase) (omega arith))
 
   -- the first is of the phase's kind, and the others are those of the record after one element
-  pub next-to-do : (t : Sponge) → toDo r ≡ k ∷ toDo (moved r t (placeNext r))
+  pub next-to-do : (t : Sponge) → toDo r ≡ k ∷ toDo (moved r t (nextPlaceOf r))
   unfolding toDo moved
   next-to-do t =
       let here = ap (drop (r .done)) kinds-here ∙ drop-replicate (lengthOf (phaseWord r)) (r .done) k laterKinds h in

@@ -19,12 +19,12 @@ use Rattle.pattern.specs.Pattern.{phases}
 use Rattle.poseidon.specs.Permutation.{babyBear}
 use Rattle.sponge.specs.Sponge.{absorbElement, squeezeElement}
 use Rattle.sponge.specs.declared.Sponge.{Sponge}
-use Rattle.session.specs.Record.{opened, spongeOf, moved, phaseWord, placeNext, absorbOne, squeezeOne, absorbAll, squeezeAll}
+use Rattle.session.specs.Record.{opened, spongeOf, moved, nextPlaceOf, absorbOne, squeezeOne, absorbAll, squeezeAll}
 use Rattle.pattern.specs.Opening.{Opening}
 use Rattle.session.specs.Calls.{giving, absorb, squeeze, finish, start}
 use Rattle.session.specs.declared.Session.{Session}
 use Rattle.session.specs.declared.Answer.{Answer}
-use Rattle.session.proofs.SoundRecord.{Sound, parts, whole, element-left}
+use Rattle.session.proofs.SoundRecord.{phaseWord, Sound, parts, whole, element-left}
 use Rattle.session.proofs.Folds.{InPhase}
 use Rattle.runs.specs.Calls.{Call, ABSORB, SQUEEZE, FINISH, answered, accepts, left, leftBy, absorbedIn, absorbed}
 use Rattle.runs.specs.Lengths.{absorbLength}
@@ -63,7 +63,7 @@ module _ (r : Session) (o : eqb (r .status) opened ≡ true) (s : Sound r) where
         let past = ltb-false (r .phase) (r .count) l in
         absurd (nil≢cons (sym (none-to-do r s (omega arith)) ∙ e))
 
-    split : (t : Sponge) → isAbsorb (phaseWord r) ∷ toDo (moved r t (placeNext r)) ≡ k ∷ ks
+    split : (t : Sponge) → isAbsorb (phaseWord r) ∷ toDo (moved r t (nextPlaceOf r)) ≡ k ∷ ks
     split t = sym (next-to-do r _ refl (element-left r s before-end) t) ∙ e
 
     in-phase : InPhase r k 1
@@ -73,7 +73,7 @@ module _ (r : Session) (o : eqb (r .status) opened ≡ true) (s : Sound r) where
     takes : Takes r k 1
     takes = record { opens = o; sounds = whole r s; fits = λ _. in-phase }
 
-    still-to-do : (t : Sponge) → toDo (moved r t (placeNext r)) ≡ ks
+    still-to-do : (t : Sponge) → toDo (moved r t (nextPlaceOf r)) ≡ ks
     still-to-do t = tail-eq-of-cons-eq (split t)
 
   absorbs-one : (x : ℕ) (ks : List Bool) → toDo r ≡ true ∷ ks → ltb x p ≡ true → absorb r (x ∷ []) ≡ giving accepted (absorbOne r x)

@@ -19,11 +19,11 @@ use Rattle.poseidon.specs.Permutation.{babyBear}
 use Rattle.sponge.specs.Sponge.{readyToAbsorb, absorbElement, readyToSqueeze, squeezeElement}
 use Rattle.sponge.specs.declared.Sponge.{Sponge}
 use Rattle.progress.specs.declared.place.Place.{Place}
-use Rattle.session.specs.Record.{spongeOf, moved, phaseWord, placeNext, absorbOne, squeezeOne}
+use Rattle.session.specs.Record.{spongeOf, moved, nextPlaceOf, absorbOne, squeezeOne}
 use Rattle.progress.specs.Positions.{positionsAfter, positionsAt}
 use Rattle.session.specs.declared.Session.{Session}
 use Rattle.sponge.proofs.Elements.{sum-reduced}
-use Rattle.session.proofs.SoundRecord.{Sound, element-left}
+use Rattle.session.proofs.SoundRecord.{phaseWord, Sound, element-left}
 use Rattle.pattern.proofs.SoundPattern.{word-long, begins-absorbing, turns}
 use Rattle.runs.proofs.Positions.{position, no-permutations, positions-absorb, positions-squeeze, absorb-position, squeeze-position, squeeze-keeps-absorb}
 use Rattle.runs.proofs.ReadySponge.{Ready, ready-to-absorb, ready-to-squeeze}
@@ -34,24 +34,24 @@ abbrev permutationsBefore : Session → ℕ
 permutationsBefore r = sum (r .phase) (wholePhase (r .words))
 
 module _ (r : Session) (s : Sound r) (h : r .phase < r .count) where
-  positions-next : positionsAt (r .words) (placeNext r .phase) (placeNext r .done) ≡ positionsAfter (phaseWord r) (suc (r .done))
+  positions-next : positionsAt (r .words) (nextPlaceOf r .phase) (nextPlaceOf r .done) ≡ positionsAfter (phaseWord r) (suc (r .done))
   unfolding positionsAt
   positions-next =
       next-place r (λ (at : Place). positionsAt (r .words) (at .phase) (at .done) ≡ positionsAfter (phaseWord r) (suc (r .done)))
       (λ e. ap (positionsAfter (phaseWord r)) (sym e))
       λ _. refl
 
-  permutations-next : permutationsAt (r .words) (placeNext r .phase) (placeNext r .done) ≡ permutationsBefore r + phasePermutations (phaseWord r) (suc (r .done))
+  permutations-next : permutationsAt (r .words) (nextPlaceOf r .phase) (nextPlaceOf r .done) ≡ permutationsBefore r + phasePermutations (phaseWord r) (suc (r .done))
   unfolding permutationsAt sum
   permutations-next =
       next-place r (λ (at : Place). permutationsAt (r .words) (at .phase) (at .done) ≡ permutationsBefore r + phasePermutations (phaseWord r) (suc (r .done)))
       (λ e. rw (e, no-permutations) (omega arith))
       λ _. refl
 
-  within-next : placeNext r .phase ≤ r .count
+  within-next : nextPlaceOf r .phase ≤ r .count
   within-next = next-place r (λ (at : Place). at .phase ≤ r .count) (λ _. h) λ _. s .within
 
-  place-next : (if ltb (placeNext r .phase) (r .count) then ltb (placeNext r .done) (lengthOf (getD (r .words) (placeNext r .phase) 0)) else eqb (placeNext r .done) 0)
+  place-next : (if ltb (nextPlaceOf r .phase) (r .count) then ltb (nextPlaceOf r .done) (lengthOf (getD (r .words) (nextPlaceOf r .phase) 0)) else eqb (nextPlaceOf r .done) 0)
       ≡ true
   place-next =
       next-place r
@@ -68,7 +68,7 @@ module _ (r : Session) (s : Sound r) (h : r .phase < r .count) where
       → t .permutations ≡ permutationsBefore r + phasePermutations (phaseWord r) (suc (r .done))
       → t .«absorb_position» ≡ positionsAfter (phaseWord r) (suc (r .done)) .absorb
       → t .«squeeze_position» ≡ positionsAfter (phaseWord r) (suc (r .done)) .squeeze
-      → Sound (moved r t (placeNext r))
+      → Sound (moved r t (nextPlaceOf r))
   unfolding moved
   moved-sound t b c a q =
       record {

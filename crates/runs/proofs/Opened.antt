@@ -19,8 +19,7 @@ use Rattle.pattern.specs.Opening.{Opening, startNumber}
 use Rattle.tag.specs.Elements.{tagElements}
 use Rattle.progress.specs.Permutations.{permutationsAt}
 use Rattle.pattern.proofs.MergedWords.{merged-sound}
-use Rattle.sponge.specs.Sponge.{tagState}
-use Rattle.session.specs.Record.{opened, openRecord, phaseWord}
+use Rattle.session.specs.Record.{tagState, opened, openRecord}
 use Rattle.progress.specs.Positions.{positionsAt}
 use Rattle.session.specs.Soundness.{sound}
 use Rattle.session.specs.Calls.{giving, startRecord, start}

@@ -19,12 +19,12 @@ use Rattle.poseidon.specs.Permutation.{babyBear}
 use Rattle.sponge.specs.Sponge.{absorbElement, squeezeElement}
 use Rattle.sponge.specs.declared.Sponge.{Sponge}
 use Rattle.progress.specs.declared.place.Place.{Place}
-use Rattle.session.specs.Record.{opened, openRecord, spongeOf, moved, phaseWord, placeNext, absorbOne, squeezeOne, absorbAll, squeezeAll}
+use Rattle.session.specs.Record.{opened, openRecord, spongeOf, moved, nextPlaceOf, absorbOne, squeezeOne, absorbAll, squeezeAll}
 use Rattle.pattern.specs.Opening.{Opening}
 use Rattle.session.specs.Calls.{giving, startRecord, start}
 use Rattle.session.specs.declared.Session.{Session}
 use Rattle.session.specs.declared.Answer.{Answer}
-use Rattle.session.proofs.SoundRecord.{Sound, parts, whole, element-left}
+use Rattle.session.proofs.SoundRecord.{phaseWord, Sound, parts, whole, element-left}
 use Rattle.runs.specs.Calls.{Call, ABSORB, SQUEEZE, answered, left, leftBy, OpenAt}
 use Rattle.runs.proofs.Places.{next-place}
 use Rattle.session.proofs.Numbers.{Takes}
@@ -44,7 +44,7 @@ module _ (r : Session) (o : eqb (r .status) opened ≡ true) (s : Sound r) (h : 
         fits = λ _. record { before-end = h; kind = e; room = omega (arith, element-left r s h) };
       }
 
-  one-more : (c : Call) × (t : Sponge) × (left r c ≡ moved r t (placeNext r))
+  one-more : (c : Call) × (t : Sponge) × (left r c ≡ moved r t (nextPlaceOf r))
   unfolding left answered giving absorbAll squeezeAll absorbOne squeezeOne all _and_
   one-more =
       cases (isAbsorb (phaseWord r))
@@ -86,12 +86,12 @@ module _ (o : Opening) (e : start o .number ≡ accepted) where
     element-there = rw length-there at (element-left there sounds early)
 
     -- one call more leads to the next place
-    next : Reached (placeNext there .phase) (placeNext there .done)
+    next : Reached (nextPlaceOf there .phase) (nextPlaceOf there .done)
     unfolding leftBy moved
     next =
         let more = one-more there (eq-eqb _ _ still) sounds early in (
           cs ++ (more .0 ∷ []),
-          subst (λ (r : Session). OpenAt r (placeNext there .phase) (placeNext there .done)) (sym (left-by-append opened-record cs (more .0 ∷ []) ∙ more .2))
+          subst (λ (r : Session). OpenAt r (nextPlaceOf there .phase) (nextPlaceOf there .done)) (sym (left-by-append opened-record cs (more .0 ∷ []) ∙ more .2))
               (record { opens = still; phase = refl; done = refl }),
         )
 

@@ -17,7 +17,6 @@ use Rattle.words.specs.Words.{lengthOf}
 use Rattle.pattern.specs.Pattern.{mergedWords}
 use Rattle.progress.specs.Permutations.{permutationsAt}
 use Rattle.pattern.proofs.MergedWords.{sound-merged, sound-accepted}
-use Rattle.session.specs.Record.{phaseWord}
 use Rattle.progress.specs.Positions.{positionsAfter, positionsAt}
 use Rattle.pattern.specs.Opening.{opening}
 use Rattle.session.specs.Calls.{start}

@@ -15,8 +15,7 @@ use Rattle.pattern.specs.Pattern.{join, merge, phases, mergedWords}
 use Rattle.pattern.specs.Opening.{opening, tooLong, wordRows, startRows, startNumber}
 use Rattle.tag.specs.TagString.{wordBytes, stringOf, tagString, wordAt}
 use Rattle.tag.specs.Elements.{tagElements}
-use Rattle.sponge.specs.Sponge.{tagState}
-use Rattle.session.specs.Record.{openRecord}
+use Rattle.session.specs.Record.{tagState, openRecord}
 use Rattle.session.specs.Calls.{giving, startRecord, start}
 use Rattle.session.specs.declared.Session.{Session}
 

@@ -1,24 +1,24 @@
 -- What a call does to a record, as what it does to the sponge, with the place moved on at once.
 -- Assumes nothing.
-use mathlib.Core.Path.{_≡_, refl, sym, ap, ap₂, subst, _∙_}
+use mathlib.Core.Path.{_≡_, refl, sym, ap, subst, _∙_}
 use mathlib.Core.Bool.{Bool, true, false}
-use mathlib.Core.Logic.{_≢_}
 use mathlib.Core.List.{List, [], _∷_}
-use Prim.Native.Nat.{ℕ, zero, suc, _+_, _≤_, _<_}
+use Prim.Native.Nat.{ℕ, zero, suc, _<_}
 use native.Mathlib.Nat.{add-zero}
 use native.Mathlib.Omega.{arith}
 use lib.ListN.{length}
 use Rattle.words.specs.Words.{lengthOf}
-use Rattle.progress.specs.Place.{nextPlace, placeAfter}
+use Rattle.progress.specs.Place.{placeAfter}
 use Rattle.progress.specs.declared.place.Place.{Place}
 use Rattle.progress.proofs.Calls as calls
 use Rattle.poseidon.specs.Permutation.{babyBear}
 use Rattle.sponge.specs.Sponge.{sponge, absorbElement, squeezeElement, squeezedElement, absorbElements, squeezeElements, squeezedElements}
 use Rattle.sponge.specs.declared.Sponge.{Sponge}
 use Rattle.sponge.proofs.Folds.{counted, absorbed-counted, squeezes-counted, elements-counted}
-use Rattle.session.specs.Record.{spongeOf, moved, phaseWord, placeNext, absorbOne, squeezeOne, squeezedOne, absorbAll, squeezeAll, squeezedAll}
+use Rattle.session.specs.Record.{spongeOf, moved, nextPlaceOf, absorbOne, squeezeOne, squeezedOne, absorbAll, squeezeAll, squeezedAll}
 use Rattle.session.specs.Steps.{movedOn}
 use Rattle.session.specs.declared.Session.{Session}
+use Rattle.session.proofs.SoundRecord.{phaseWord}
 
 -- n elements of a kind lie in the record's phase
 abbrev pub InPhase : Session → Bool → ℕ → Type 0
@@ -30,20 +30,20 @@ placeLater r n = placeAfter (r .words) (r .count) (r .phase) (r .done) n
 
 module _ (r : Session) (early : r .phase < r .count) (more : suc (r .done) < lengthOf (phaseWord r)) where
   -- the place after one element that is not the phase's last
-  inside : placeNext r ≡ record { phase = r .phase; done = suc (r .done) }
+  inside : nextPlaceOf r ≡ record { phase = r .phase; done = suc (r .done) }
   inside =
       calls.next-place (r .words) (r .count) (r .phase) (r .done) (λ (at : Place). at ≡ record { phase = r .phase; done = suc (r .done) })
       (λ e. absurd (omega arith))
       λ _. refl
 
   -- n elements more after one that is not the phase's last
-  further : (s : Sponge) (n : ℕ) → placeLater (moved r s (placeNext r)) n ≡ placeLater r (suc n)
+  further : (s : Sponge) (n : ℕ) → placeLater (moved r s (nextPlaceOf r)) n ≡ placeLater r (suc n)
   unfolding moved
   further s n =
       ap (λ (at : Place). placeAfter (r .words) (r .count) (at .phase) (at .done) n) inside
       ∙ calls.after-more (r .words) (r .count) (r .phase) (r .done) n early more
 
-  in-phase-further : (s : Sponge) (absorbs : Bool) (n : ℕ) → InPhase r absorbs (suc n) → InPhase (moved r s (placeNext r)) absorbs n
+  in-phase-further : (s : Sponge) (absorbs : Bool) (n : ℕ) → InPhase r absorbs (suc n) → InPhase (moved r s (nextPlaceOf r)) absorbs n
   unfolding moved
   in-phase-further s absorbs n i =
       subst (λ (at : Place). InPhase (moved r s at) absorbs n) (sym inside)
@@ -72,7 +72,7 @@ absorb-some (y ∷ xs) x r i =
     let more : suc (r .done) < lengthOf (phaseWord r) = omega (arith, i .room) in
     let n = suc (length xs) in
     absorb-some xs y (absorbOne r x) (in-phase-further r early more s true n i)
-    ∙ rw (sponge-moved r s (placeNext r))
+    ∙ rw (sponge-moved r s (nextPlaceOf r))
     (moved-twice r s (absorbElements babyBear s (y ∷ xs)) _ _ ∙ ap (moved r (absorbElements babyBear s (y ∷ xs))) (further r early more s n))
 
 squeeze-some : (n : ℕ) (r : Session) → InPhase r false (suc n)
@@ -84,7 +84,7 @@ squeeze-some (suc n) r i =
     let early = i .before-end in
     let more : suc (r .done) < lengthOf (phaseWord r) = omega (arith, i .room) in
     squeeze-some n (squeezeOne r) (in-phase-further r early more s false (suc n) i)
-    ∙ rw (sponge-moved r s (placeNext r))
+    ∙ rw (sponge-moved r s (nextPlaceOf r))
     (moved-twice r s (squeezeElements babyBear s (suc n)) _ _ ∙ ap (moved r (squeezeElements babyBear s (suc n))) (further r early more s (suc n)))
 
 squeezed-some : (n : ℕ) (r : Session) → squeezedAll r n ≡ squeezedElements babyBear (spongeOf r) n
@@ -93,7 +93,7 @@ squeezed-some zero r = refl
 squeezed-some (suc n) r =
     ap (λ (l : List ℕ). squeezedElement babyBear (spongeOf r) ∷ l)
     (squeezed-some n (squeezeOne r)
-    ∙ ap (λ (s : Sponge). squeezedElements babyBear s n) (sponge-moved r (squeezeElement babyBear (spongeOf r)) (placeNext r)))
+    ∙ ap (λ (s : Sponge). squeezedElements babyBear s n) (sponge-moved r (squeezeElement babyBear (spongeOf r)) (nextPlaceOf r)))
 
 -- ---- what a call makes of the record's sponge, counted from 0
 

@@ -4,7 +4,7 @@ use mathlib.Core.Path.{_≡_, refl, ap, _∙_}
 use mathlib.Core.Bool.{Bool, true, false, not}
 use mathlib.Core.List.{List, [], _∷_}
 use mathlib.Core.Logic.{_≢_}
-use Prim.Native.Nat.{ℕ, zero, suc, _<_}
+use Prim.Native.Nat.{ℕ, _<_}
 use native.Mathlib.Omega.{arith}
 use borrow.Author.Tests.{eqb-true, eqb-false, eq-eqb, ne-eqb, not-false}
 use lib.Dec.{eqb}
@@ -21,13 +21,13 @@ use Rattle.progress.proofs.Calls.{in-phase, in-pattern}
 use Rattle.poseidon.specs.Permutation.{babyBear}
 use Rattle.sponge.specs.Sponge.{absorbElements, squeezeElements}
 use Rattle.sponge.proofs.Folds.{absorb-bound, squeeze-bound}
-use Rattle.session.specs.Record.{opened, wiped, phaseWord}
+use Rattle.session.specs.Record.{opened, wiped}
 use Rattle.session.specs.Soundness.{sound}
 use Rattle.session.specs.Calls.{giving, recordRows, callRows, absorbRows, finishRows, wipes, answerOf}
 use Rattle.session.specs.Steps.{refusedWith, Countable}
 use Rattle.session.specs.declared.Session.{Session}
 use Rattle.session.proofs.Folds.{InPhase, uncounted}
-use Rattle.session.proofs.SoundRecord.{parts, few-permutations}
+use Rattle.session.proofs.SoundRecord.{phaseWord, parts, few-permutations}
 
 -- an open sound record
 pub record OpenSound (r : Session) : Type 0 where

@@ -2,11 +2,11 @@
 -- Assumes nothing.
 use mathlib.Core.Path.{_≡_, sym, _∙_}
 use mathlib.Core.Bool.{true}
-use Prim.Native.Nat.{_*_, _≤_, _<_}
+use Prim.Native.Nat.{ℕ, _*_, _≤_, _<_}
 use native.Mathlib.Omega.{arith}
 use borrow.Author.Tests.{ltb-true, ltb-false, leb-true, eqb-true, lt-ltb, le-ltb, le-leb, eq-eqb}
 use lib.Dec.{ltb, eqb}
-use lib.ListN.{length, take, drop}
+use lib.ListN.{length, getD, take, drop}
 use lib.Seq.{length-take-le}
 use Rattle.basics.specs.Logic.{if_then_else_, all}
 use Rattle.basics.proofs.Cases.{cases, if-true, if-false, and-left, and-right, and-both}
@@ -19,9 +19,12 @@ use Rattle.progress.specs.Permutations.{permutationsAt}
 use Rattle.progress.specs.Positions.{positionsAt}
 use Rattle.progress.specs.Place.{soundPlace}
 use Rattle.progress.proofs.Bounds.{count-bound}
-use Rattle.session.specs.Record.{phaseWord}
 use Rattle.session.specs.Soundness.{sound}
 use Rattle.session.specs.declared.Session.{Session}
+
+-- the word of the record's phase
+abbrev pub phaseWord : Session → ℕ
+phaseWord r = getD (r .words) (r .phase) 0
 
 pub record Sound (r : Session) : Type 0 where
   pub long : r .count ≤ length (r .words)

@@ -14,8 +14,7 @@ use Rattle.pattern.specs.Opening.{Opening, startNumber}
 use Rattle.progress.specs.Place.{inPattern}
 use Rattle.tag.specs.TagString.{tagString}
 use Rattle.tag.specs.Elements.{tagElements}
-use Rattle.sponge.specs.Sponge.{tagState}
-use Rattle.session.specs.Record.{opened, wiped, openRecord, absorbAll, squeezeAll, squeezedAll}
+use Rattle.session.specs.Record.{tagState, opened, wiped, openRecord, absorbAll, squeezeAll, squeezedAll}
 use Rattle.session.specs.Soundness.{sound}
 use Rattle.session.specs.declared.Session.{Session}
 use Rattle.session.specs.declared.Answer.{Answer}

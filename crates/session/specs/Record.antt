@@ -1,8 +1,8 @@
 -- The session's record, and what one element does to it. From document 01, "Session steps".
 use mathlib.Core.List.{List, [], _∷_, _++_}
 use Prim.Native.Nat.{ℕ, zero, suc, _-_}
-use lib.ListN.{length, getD, replicate}
-use Rattle.basics.specs.Figures.{width}
+use lib.ListN.{length, replicate}
+use Rattle.basics.specs.Figures.{rate, capacity, width}
 use Rattle.pattern.specs.Pattern.{maxWords}
 use Rattle.progress.specs.Place.{nextPlace}
 use Rattle.progress.specs.declared.place.Place.{Place}
@@ -29,6 +29,11 @@ wiped =
       «squeeze_position» = 0;
       permutations = 0;
     }
+
+-- "The state has eight outer elements and sixteen inner elements, numbered 0 to 23 with the outer ones first." "Word k is added to element
+-- 8 + k of the zero state.": the state that eight tag elements open, which are the first half of the inner elements
+unfoldable pub tagState : List ℕ → List ℕ
+tagState elements = replicate rate 0 ++ elements ++ replicate (capacity - 8) 0
 
 -- "START makes it open, with the merged words and their number; phase number, elements done, positions, permutations and unused words are
 -- 0.": the record of a state and merged words
@@ -65,21 +70,17 @@ moved r s place =
       permutations = s .permutations;
     }
 
--- the word of the record's phase
-abbrev pub phaseWord : Session → ℕ
-phaseWord r = getD (r .words) (r .phase) 0
-
 -- the record's place after one element more
-abbrev pub placeNext : Session → Place
-placeNext r = nextPlace (r .words) (r .phase) (r .done)
+abbrev pub nextPlaceOf : Session → Place
+nextPlaceOf r = nextPlace (r .words) (r .phase) (r .done)
 
 -- the record after one element is absorbed
 unfoldable pub absorbOne : Session → ℕ → Session
-absorbOne r x = moved r (absorbElement babyBear (spongeOf r) x) (placeNext r)
+absorbOne r x = moved r (absorbElement babyBear (spongeOf r) x) (nextPlaceOf r)
 
 -- the record after one element is squeezed
 unfoldable pub squeezeOne : Session → Session
-squeezeOne r = moved r (squeezeElement babyBear (spongeOf r)) (placeNext r)
+squeezeOne r = moved r (squeezeElement babyBear (spongeOf r)) (nextPlaceOf r)
 
 -- the element that comes out then
 unfoldable pub squeezedOne : Session → ℕ

@@ -4,7 +4,7 @@ ghost use mathlib.Core.Path.{_≡_};
 ghost use lib.ListN.{length};
 ghost use Rattle.basics.specs.Refusals.{firstNumber};
 ghost use Rattle.pattern.specs.Opening.{opening};
-ghost use Rattle.session.specs.Record.{wiped};
+ghost use Rattle.session.specs.Record.{wiped, tagState};
 ghost use Rattle.session.specs.Soundness.{sound};
 ghost use Rattle.session.specs.Calls.{giving, recordRows, callRows, start, absorb, squeeze, squeezeBuffer, finish};
 ghost use Rattle.session.specs.Steps.{refusedWith, movedOn, Countable};
@@ -36,6 +36,17 @@ pub struct Answer {
 
 // The status of an open record.
 const OPEN: u32 = 1;
+
+// The state that the eight elements of a tag open: they stand behind the outer elements.
+fn tag_state(elements: [u32; 8]) -> [u32; Session::WIDTH]
+    ensures { λ r. ⌜ r ≡ tagState elements ⌝ }
+{
+    let mut state = [0u32; Session::WIDTH];
+    for k in 0..8 {
+        state[Session::RATE + k] = elements[k];
+    }
+    state
+}
 
 // A number, and a record of zeros.
 fn wipe(number: u32) -> Answer
@@ -94,7 +105,7 @@ impl Session {
         let written = tag::write_string(&merged_words[..count], separator, &mut string);
         let length = written.length;
         let digest = sha3::sha3_256(&string[..length]);
-        let state = sponge::tag_state(tag::elements(digest));
+        let state = tag_state(tag::elements(digest));
         Answer {
             number: basics::ACCEPTED,
             session: Session {

@@ -1,18 +1,13 @@
 -- The sponge of SAFE (source 001, Algorithm 2), element by element, as document 01 fixes it under "Session steps" and "Tags". F are the
 -- parameters of the permutation.
-use mathlib.Core.List.{List, [], _∷_, _++_}
-use Prim.Native.Nat.{ℕ, zero, suc, _+_, _-_, _%_}
+use mathlib.Core.List.{List, [], _∷_}
+use Prim.Native.Nat.{ℕ, zero, suc, _+_, _%_}
 use lib.Dec.{eqb}
-use lib.ListN.{getD, set, replicate}
+use lib.ListN.{getD, set}
 use Rattle.basics.specs.Logic.{if_then_else_}
-use Rattle.basics.specs.Figures.{rate, capacity}
+use Rattle.basics.specs.Figures.{rate}
 use Rattle.poseidon.specs.Permutation.{Parameters, permutation}
 use Rattle.sponge.specs.declared.Sponge.{Sponge}
-
--- "The state has eight outer elements and sixteen inner elements, numbered 0 to 23 with the outer ones first." "Word k is added to element
--- 8 + k of the zero state.": the state that eight tag elements open, which are the first half of the inner elements
-unfoldable pub tagState : List ℕ → List ℕ
-tagState elements = replicate rate 0 ++ elements ++ replicate (capacity - 8) 0
 
 -- a sponge of its parts: the state, the absorb and the squeeze position, and how many permutations are counted
 abbrev pub sponge : List ℕ → ℕ → ℕ → ℕ → Sponge

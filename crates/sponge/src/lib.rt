@@ -3,29 +3,18 @@ ghost use mathlib.Core.Path.{_≡_};
 ghost use Prim.Native.Nat.{_+_};
 ghost use lib.ListN.{length, getD};
 ghost use Rattle.poseidon.specs.Permutation.{babyBear};
-ghost use Rattle.sponge.specs.Sponge.{tagState, sponge, outer, absorbElements, squeezeElements, squeezedElements};
+ghost use Rattle.sponge.specs.Sponge.{sponge, outer, absorbElements, squeezeElements, squeezedElements};
 ghost use Rattle.sponge.specs.Steps.{stateFor, permutationsFor, stateWith, absorbFor};
 
 // How many outer elements the state has. Positions are 32-bit numbers, as in a session's record.
 const RATE: u32 = 8;
 
-// What a call leaves: the state, both positions, and how many permutations the call took.
+// What SAFE keeps: the state, both positions, and a count of permutations. `absorb` and `squeeze` count those of one call.
 pub struct Sponge {
     pub state: [u32; 24],
     pub absorb_position: u32,
     pub squeeze_position: u32,
     pub permutations: u64,
-}
-
-// The state that the eight elements of a tag open: they stand behind the outer elements.
-pub fn tag_state(elements: [u32; 8]) -> [u32; 24]
-    ensures { λ r. ⌜ r ≡ tagState elements ⌝ }
-{
-    let mut state = [0u32; 24];
-    for k in 0..8 {
-        state[8 + k] = elements[k];
-    }
-    state
 }
 
 // Permutes the state where a position is RATE. Answers how many permutations that is.

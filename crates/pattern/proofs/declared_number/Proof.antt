@@ -8,7 +8,7 @@ use Rattle.basics.specs.Refusals.{firstNumber}
 use Rattle.basics.proofs.Cases.{if-true, if-false}
 use Rattle.pattern.specs.Opening.{wordRows}
 use Rattle.pattern.specs.Steps.{declaredRows}
-use Rattle.pattern.proofs.StartCheck.{row1, row2, row3, row4, no-words, over-64-words, some-words}
+use Rattle.pattern.proofs.StartCheck.{row1, row2, row3, no-words, over-64-words, some-words}
 use borrow.Author.Needs.{needs}
 use Rattle.pattern.proofs.declared_number.Statement.{statement}
 use Rattle.pattern.proofs.declared_number.Tie as tie

@@ -1,9 +1,8 @@
 -- `poseidon::permutation` meets its contract.
 -- Assumes nothing.
-use mathlib.Core.Path.{_∙_, ap, subst}
+use mathlib.Core.Path.{_∙_, ap}
 use lib.Dec.{lit<}
 use Rattle.field.specs.Field.{p}
-use Rattle.field.specs.Reduced.{Reduced}
 use Rattle.poseidon.specs.Permutation.{permutation, babyBear}
 use Rattle.poseidon.proofs.Bounds.{remainders-reduced}
 use Rattle.poseidon.proofs.Remainders.{permutation-of-remainders}

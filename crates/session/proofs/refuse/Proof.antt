@@ -1,7 +1,6 @@
 -- `session::refuse` meets its contract.
 -- Assumes nothing.
-use mathlib.Core.Path.{_≡_, sym, ap, _∙_}
-use mathlib.Core.Bool.{true, false}
+use mathlib.Core.Path.{sym, ap, _∙_}
 use borrow.Author.Tests.{eq-eqb, ne-eqb}
 use Rattle.basics.specs.Logic.{_or_}
 use Rattle.basics.proofs.Cases.{if-true, if-false}

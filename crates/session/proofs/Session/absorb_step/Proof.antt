@@ -13,7 +13,6 @@ use Rattle.sponge.specs.declared.Sponge.{Sponge}
 use Rattle.session.specs.Record.{absorbAll}
 use Rattle.session.specs.Calls.{giving, callRows, absorbRows, absorb}
 use Rattle.session.specs.Steps.{refusedWith, movedOn}
-use Rattle.session.specs.declared.Session.{Session}
 use Rattle.session.proofs.Folds.{absorb-all}
 use Rattle.session.proofs.Numbers.{Takes, answer-accepted, answer-refused, call-takes, absorb-countable, absorb-refused, absorb-unreduced, absorb-passes}
 use borrow.Author.Needs.{needs}

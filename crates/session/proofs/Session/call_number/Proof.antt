@@ -1,6 +1,6 @@
 -- `session::Session::call_number` meets its contract.
 -- Assumes nothing.
-use mathlib.Core.Path.{_≡_, sym, _∙_}
+use mathlib.Core.Path.{sym, _∙_}
 use Rattle.session.proofs.Numbers.{OpenSound, record-passes, call-refused, call-empty, call-fits, call-outside}
 use borrow.Author.Needs.{needs}
 use Rattle.session.proofs.Session.call_number.Statement.{statement}

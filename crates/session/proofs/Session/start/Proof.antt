@@ -11,8 +11,7 @@ use Rattle.pattern.proofs.Checked.{number-checked, started, answer-checked, cou
 use Rattle.tag.specs.TagString.{tagString}
 use Rattle.tag.specs.Elements.{tagElements}
 use Rattle.tag.proofs.CheckedString.{string-inside, string-written}
-use Rattle.sponge.specs.Sponge.{tagState}
-use Rattle.session.specs.Record.{opened, wiped, openRecord}
+use Rattle.session.specs.Record.{tagState, opened, wiped, openRecord}
 use Rattle.session.specs.Calls.{giving, startRecord}
 use Rattle.session.proofs.Opening.{start-refused, start-opens}
 use borrow.Author.Needs.{needs}

@@ -1,4 +1,4 @@
--- `sponge::tag_state` meets its contract.
+-- `session::tag_state` meets its contract.
 -- Assumes nothing.
 use mathlib.Core.Path.{_≡_, refl, ap, _∙_}
 use mathlib.Core.List.{List, _++_}
@@ -7,10 +7,10 @@ use native.Mathlib.Numerals.{add-one}
 use native.Mathlib.Omega.{arith}
 use lib.ListN.{length, getD, set, replicate}
 use lib.Seq.{paste, paste-suc, take-all}
-use Rattle.sponge.specs.Sponge.{tagState}
+use Rattle.session.specs.Record.{tagState}
 use borrow.Author.Needs.{needs}
-use Rattle.sponge.proofs.tag_state.Statement.{statement}
-use Rattle.sponge.proofs.tag_state.Tie as tie
+use Rattle.session.proofs.tag_state.Statement.{statement}
+use Rattle.session.proofs.tag_state.Tie as tie
 
 abbrev Inv-loop : tie.InvT-loop
 Inv-loop elements state₀ k₀ state k = (k ≤ 8) × (state ≡ paste (replicate 24 0) 8 elements k)
