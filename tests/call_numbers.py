@@ -56,8 +56,8 @@ def exported(row):
     return not row.calls or any(exports().get(call) for call in row.calls)
 
 
-def condition(number):
-    return table()[number].condition
+def message(number):
+    return table()[number].message
 
 
 def snake(name):

@@ -15,7 +15,7 @@ import re
 import subprocess
 import sys
 
-from call_numbers import condition
+from call_numbers import message
 from second_implementation import oracle
 
 ROOT = os.path.dirname(os.path.dirname(os.path.abspath(__file__)))
@@ -94,7 +94,7 @@ class Session:
 
 class Refused(Exception):
     def __str__(self):
-        return f"refused with {self.args[0]}: {condition(self.args[0])}"
+        return f"refused with {self.args[0]}: {message(self.args[0])}"
 
 
 def refuse(number):
