@@ -7,7 +7,7 @@
   tests/claims.py papers FOLDER
 
 `write` writes what documents have from the tree itself: into docs/CLAIMS.md the table of what each contract rules out, by the line `of:` of every
-must-fail edit, and how many lines there are to read; into README.md the closing line of the gate. `test` fails where a document has not what
+must-fail edit, and how many lines there are to read; into README.md the closing lines of the gate and of `rt check cards`. `test` fails where a document has not what
 `write` would write, where an edit names no contract, or one that is not in the tree, where a public function has fewer than two edits, where
 docs/ARCHITECTURE.md lacks a crate or has it below one that it depends on, and where a name that a document cites is not in the tree. `selftest`
 puts such mistakes into the tree, in memory, and fails where `test` would not notice one. `papers` prints the sentences of documents 00 and 01, in
@@ -37,8 +37,21 @@ Edit = namedtuple("Edit", "name contracts changes")
 
 # ---- what is in the tree, in the order of crates.txt
 
+def depends():
+    """The crates, each with those that it depends on."""
+    return {crate: libraries.split() for crate, libraries in re.findall(r"^(\w+):(.*)$", read("crates.txt"), re.MULTILINE)}
+
+
 def crates():
-    return re.findall(r"^(\w+):", read("crates.txt"), re.MULTILINE)
+    return list(depends())
+
+
+def with_those_below(crate):
+    """A crate and all of the tree that it rests on."""
+    libraries, found = depends(), [crate]
+    for each in found:
+        found += [library for library in libraries[each] if library in libraries and library not in found]
+    return found
 
 
 def edits():
@@ -115,6 +128,11 @@ def closing():
     return f"{len(crates()) + len(list(edits()))} passed, 0 failed"
 
 
+def checked():
+    """The last line of `rt check cards`."""
+    return f"rt: ok, {len(with_those_below('cards'))} crates proved"
+
+
 def with_table(text):
     before, after = text.split(RULED_OUT)
     return before + RULED_OUT + re.sub(r"(^\|.*\n)+", lambda _: ruled_out(), after, count=1, flags=re.MULTILINE)
@@ -126,8 +144,9 @@ def with_lines(text):
 
 def written():
     """Path and text of the documents as they have to be."""
+    readme = re.sub(r"^\d+ passed, \d+ failed$", closing(), read(README), flags=re.MULTILINE)
     return {CLAIMS: with_lines(with_table(read(CLAIMS))),
-            README: re.sub(r"^\d+ passed, \d+ failed$", closing(), read(README), flags=re.MULTILINE)}
+            README: re.sub(r"^rt: ok, \d+ crates proved$", checked(), readme, flags=re.MULTILINE)}
 
 
 # ---- what the documents cite
@@ -186,12 +205,12 @@ def misplaced():
     lines = {crate for line in text.splitlines() if line.startswith("| `") for crate in re.findall(r"`(\w+)`", line.split(" | ")[0])}
     picture = text.split("```\n")[1].splitlines()
     place = {crate: (layer, column) for layer, line in enumerate(picture) for column, crate in enumerate(line.split()[1:])}
-    for crate, libraries in re.findall(r"^(\w+):(.*)$", read("crates.txt"), re.MULTILINE):
+    for crate, libraries in depends().items():
         if crate not in lines or crate not in place:
             yield f"{ARCHITECTURE}: no line or no place for {crate}"
             continue
         yield from (f"{ARCHITECTURE}: {crate} depends on {library}, which is not below it or to its right"
-                    for library in libraries.split() if library in place and place[library] < place[crate])
+                    for library in libraries if library in place and place[library] < place[crate])
 
 
 def findings():
@@ -201,6 +220,7 @@ def findings():
 def mistakes():
     return [
         (README, closing(), "1 passed, 0 failed", closing()),
+        (README, checked(), "rt: ok, 1 crates proved", checked()),
         (CLAIMS, row("field::reduce", [edit for edit in edits() if "field::reduce" in edit.contracts]), "", "`field::reduce`"),
         (CLAIMS, "`field/sum_of_first`", "`field/sum_of_second`", "`field::add`"),
         (CLAIMS, "| `claims/ThirdDemand.third-demand` | `claims/", "| these theorems | `claims/", "these theorems"),
