@@ -15,14 +15,15 @@ const MAX_LENGTH: u32 = 2147483647;
 
 const NUMBERS: &str = include_str!("../../../docs/NUMBERS.md");
 
-/// Number, name and condition of each refusal in the table of numbers that an exported function gives, or none.
+/// Number, name and message of each refusal in the table of numbers that an exported function gives, or none.
 fn table() -> Vec<(u32, &'static str, &'static str)> {
     let exported = |call: &str| NUMBERS.contains(&format!("| {call} | `tuilarder_"));
     let rows = NUMBERS.lines().filter_map(|line| {
         let cells: Vec<&str> = line.split('|').map(str::trim).collect();
         let number = cells.get(1)?.parse().ok()?;
-        let given = cells[6].is_empty() || cells[6].split(", ").any(exported);
-        (number != 0 && given).then_some((number, cells[2], cells[3]))
+        let given = cells[7].is_empty() || cells[7].split(", ").any(exported);
+        let message = if cells[4].is_empty() { cells[3] } else { cells[4] };
+        (number != 0 && given).then_some((number, cells[2], message))
     });
     rows.collect()
 }
@@ -115,13 +116,13 @@ fn on_each_call(record: Record) -> Vec<Result<(), Refusal>> {
 
 #[test]
 fn each_refusal_is_given_with_its_number_and_words() {
-    for (number, name, condition) in table() {
+    for (number, name, message) in table() {
         let refusal = Refusal::from_number(number).unwrap();
         assert_eq!(refusal.number(), number);
         assert_eq!(format!("{refusal:?}").to_lowercase(), name.replace(' ', ""));
-        assert_eq!(refusal.to_string(), condition);
+        assert_eq!(refusal.to_string(), message);
         let error: &dyn std::error::Error = &refusal;
-        assert_eq!(error.to_string(), condition);
+        assert_eq!(error.to_string(), message);
         for (place, answer) in refused_with(number).into_iter().enumerate() {
             assert_eq!(answer, Err(refusal), "number {number}, call {place}");
         }
