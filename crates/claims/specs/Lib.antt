@@ -2,5 +2,4 @@ pub mod TagStrings
 pub mod Sessions
 pub mod ThirdDemand
 pub mod EqualLengths
-pub mod Samples
 pub mod Cards

@@ -1,0 +1,1 @@
+// No function: the samples B1 to B10, as one computed test.
