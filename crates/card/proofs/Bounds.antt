@@ -17,8 +17,8 @@ use Rattle.pattern.specs.Opening.{Opening, opening, wordRows, startRows, startN
 use Rattle.pattern.proofs.StartCheck.{few-words}
 use Rattle.tag.specs.TagString.{tagString}
 use Rattle.tag.proofs.Writing.{tag-string-short}
-use Rattle.progress.specs.Permutations.{permutationsAt, fullPermutations}
-use Rattle.progress.proofs.PermutationCounts.{phase-bound, sum-bound}
+use Rattle.counters.specs.Permutations.{permutationsAt, fullPermutations}
+use Rattle.counters.proofs.PermutationCounts.{phase-bound, sum-bound}
 use Rattle.card_grammar.specs.Text.{hex, decimal}
 use Rattle.card_grammar.specs.Grammar.{Reading, card, none}
 use Rattle.card_grammar.specs.Card.{cardOf}

@@ -12,7 +12,7 @@ use Rattle.pattern.specs.Opening.{Opening, startNumber, checked}
 use Rattle.pattern.specs.declared.Merged.{Merged}
 use Rattle.pattern.proofs.Checked.{number-checked, started, count-checked, words-checked}
 use Rattle.tag.specs.TagString.{tagString}
-use Rattle.progress.specs.Permutations.{permutationsAt, fullPermutations}
+use Rattle.counters.specs.Permutations.{permutationsAt, fullPermutations}
 use Rattle.card.specs.Answer.{okText, noText, cardAnswer}
 
 module _ (o : Opening) where

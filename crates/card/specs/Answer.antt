@@ -8,7 +8,7 @@ use Rattle.basics.specs.Logic.{if_then_else_}
 use Rattle.basics.specs.Numbers.{accepted, notCard}
 use Rattle.pattern.specs.Opening.{Opening, opening, startNumber}
 use Rattle.tag.specs.TagString.{tagString}
-use Rattle.progress.specs.Permutations.{fullPermutations}
+use Rattle.counters.specs.Permutations.{fullPermutations}
 use Rattle.card_grammar.specs.Text.{ascii, hex, decimal}
 use Rattle.card_grammar.specs.Grammar.{Reading, card, none}
 use Rattle.card_grammar.specs.Card.{cardOf}

@@ -52,7 +52,7 @@ fn answer_card(words: &[u32], separator: &[u8], buffer: &mut [u8]) -> usize
     let mut string = [0u8; tag::MAX_STRING];
     let written = tag::write_string(&list[..count], separator, &mut string);
     let length = written.length;
-    let permutations = progress::permutations::permutations_at(&list[..count], count as u32, 0);
+    let permutations = counters::permutations::permutations_at(&list[..count], count as u32, 0);
     put_ok(buffer, &string[..length], permutations)
 }
 

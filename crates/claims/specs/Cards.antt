@@ -16,7 +16,7 @@ use Rattle.words.specs.Words.{isAbsorb, lengthOf, phaseOf, wordOf}
 use Rattle.pattern.specs.Pattern.{join, merge, phases, mergedWords}
 use Rattle.pattern.specs.Opening.{opening, tooLong, wordRows, startRows, startNumber}
 use Rattle.tag.specs.TagString.{wordBytes, stringOf, tagString}
-use Rattle.progress.specs.Permutations.{blockCount, phasePermutations, permutationsAt, fullPermutations}
+use Rattle.counters.specs.Permutations.{blockCount, phasePermutations, permutationsAt, fullPermutations}
 use Rattle.runs.specs.Runs.{Run, tagOf, permutationsOf}
 use Rattle.runs.proofs.Opened.{start-accepted}
 use Rattle.card_grammar.specs.Text.{ascii, hexDigit, hex, separatorText, decimalUpTo, decimal, callText, callsText, cardText}

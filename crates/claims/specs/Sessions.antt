@@ -14,14 +14,14 @@ use Rattle.basics.proofs.Cases.{if-true}
 use Rattle.field.specs.Field.{isElement}
 use Rattle.words.specs.Words.{lengthOf}
 use Rattle.pattern.specs.Pattern.{phases, mergedWords}
-use Rattle.progress.specs.Permutations.{permutationsAt}
+use Rattle.counters.specs.Permutations.{permutationsAt}
 use Rattle.pattern.specs.Opening.{Opening, opening}
 use Rattle.session.specs.Record.{opened, squeezedAll}
 use Rattle.session.specs.Soundness.{sound}
 use Rattle.session.specs.Calls.{start, absorb, squeeze, squeezeBuffer}
 use Rattle.session.specs.declared.Session.{Session}
 use Rattle.session.proofs.SoundRecord.{parts}
-use Rattle.progress.proofs.Bounds.{positions-bound}
+use Rattle.counters.proofs.Bounds.{positions-bound}
 use Rattle.runs.specs.Calls.{Call, SQUEEZE, answered, accepts, left, leftBy, OpenAt, OpenLike, absorbed, squeezedIn, squeezed}
 use Rattle.runs.specs.Lengths.{absorbLength}
 use Rattle.runs.specs.Runs.{Run, patternOf, absorbedOf, permutationsOf}

@@ -1,3 +1,1 @@
-pub mod Permutations
-pub mod Positions
 pub mod Place

@@ -9,7 +9,7 @@ use lib.ListN.{length, take, drop, replicate, length-drop, length-take, take-app
 use lib.Seq.{take-all, take-append-seam, drop-append-seam, take-at, drop-at}
 use Rattle.basics.proofs.Cases.{cases, if-true, if-false}
 use Rattle.words.specs.Words.{Phase}
-use Rattle.progress.specs.Permutations.{blockCount}
+use Rattle.counters.specs.Permutations.{blockCount}
 use Rattle.runs.specs.Blocks.{eights, blocks}
 use Rattle.runs.specs.Lengths.{absorbLength}
 

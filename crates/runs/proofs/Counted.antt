@@ -12,7 +12,7 @@ use Rattle.basics.proofs.Zeros.{zeros-behind}
 use Rattle.words.specs.Words.{lengthOf}
 use Rattle.pattern.specs.Pattern.{mergedWords}
 use Rattle.pattern.specs.Opening.{Opening}
-use Rattle.progress.specs.Permutations.{phasePermutations, permutationsAt}
+use Rattle.counters.specs.Permutations.{phasePermutations, permutationsAt}
 use Rattle.session.specs.Record.{opened, openRecord}
 use Rattle.session.specs.Calls.{startRecord, start}
 use Rattle.session.specs.declared.Session.{Session}

@@ -12,15 +12,15 @@ use Rattle.basics.specs.Lists.{sum}
 use Rattle.basics.proofs.Cases.{by, if-true}
 use Rattle.field.specs.Field.{isElement}
 use Rattle.words.specs.Words.{isAbsorb, lengthOf}
-use Rattle.progress.specs.Permutations.{phasePermutations, permutationsAt}
-use Rattle.progress.proofs.PermutationCounts.{wholePhase}
+use Rattle.counters.specs.Permutations.{phasePermutations, permutationsAt}
+use Rattle.counters.proofs.PermutationCounts.{wholePhase}
 use Rattle.basics.specs.Figures.{rate}
 use Rattle.poseidon.specs.Permutation.{babyBear}
 use Rattle.sponge.specs.Sponge.{readyToAbsorb, absorbElement, readyToSqueeze, squeezeElement}
 use Rattle.sponge.specs.declared.Sponge.{Sponge}
 use Rattle.progress.specs.declared.place.Place.{Place}
 use Rattle.session.specs.Record.{spongeOf, moved, nextPlaceOf, absorbOne, squeezeOne}
-use Rattle.progress.specs.Positions.{positionsAfter, positionsAt}
+use Rattle.counters.specs.Positions.{positionsAfter, positionsAt}
 use Rattle.session.specs.declared.Session.{Session}
 use Rattle.sponge.proofs.Elements.{sum-reduced}
 use Rattle.session.proofs.SoundRecord.{phaseWord, Sound, element-left}

@@ -17,10 +17,10 @@ use Rattle.field.specs.Field.{p, isElement}
 use Rattle.pattern.specs.Pattern.{mergedWords, soundWords}
 use Rattle.pattern.specs.Opening.{Opening, startNumber}
 use Rattle.tag.specs.Elements.{tagElements}
-use Rattle.progress.specs.Permutations.{permutationsAt}
+use Rattle.counters.specs.Permutations.{permutationsAt}
 use Rattle.pattern.proofs.MergedWords.{merged-sound}
 use Rattle.session.specs.Record.{tagState, opened, openRecord}
-use Rattle.progress.specs.Positions.{positionsAt}
+use Rattle.counters.specs.Positions.{positionsAt}
 use Rattle.session.specs.Soundness.{sound}
 use Rattle.session.specs.Calls.{giving, startRecord, start}
 use Rattle.session.specs.declared.Session.{Session}

@@ -10,9 +10,9 @@ use borrow.Author.Tests.{eqb-true, eqb-false}
 use lib.ListN.{getD}
 use Rattle.basics.proofs.Cases.{by, if-true, if-false}
 use Rattle.words.specs.Words.{isAbsorb, lengthOf}
-use Rattle.progress.specs.Permutations.{blockCount, phasePermutations}
+use Rattle.counters.specs.Permutations.{blockCount, phasePermutations}
 use Rattle.basics.specs.Figures.{rate}
-use Rattle.progress.specs.Positions.{inLastBlock, positionsAfter, positionsAt}
+use Rattle.counters.specs.Positions.{inLastBlock, positionsAfter, positionsAt}
 
 -- the position that a phase moves, with d of its elements done: 0 where an ABSORB phase begins, 8 where a SQUEEZE phase does
 unfoldable pub position : ℕ → ℕ → ℕ

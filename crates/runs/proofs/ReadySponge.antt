@@ -10,12 +10,12 @@ use lib.Dec.{ltb}
 use Rattle.basics.specs.Logic.{all}
 use Rattle.basics.proofs.Cases.{by}
 use Rattle.words.specs.Words.{isAbsorb}
-use Rattle.progress.specs.Permutations.{phasePermutations}
+use Rattle.counters.specs.Permutations.{phasePermutations}
 use Rattle.basics.specs.Figures.{rate}
 use Rattle.poseidon.specs.Permutation.{Parameters}
 use Rattle.sponge.specs.Sponge.{outer, readyToAbsorb, readyToSqueeze}
 use Rattle.sponge.specs.declared.Sponge.{Sponge}
-use Rattle.progress.specs.Positions.{inLastBlock}
+use Rattle.counters.specs.Positions.{inLastBlock}
 use Rattle.sponge.proofs.Elements.{permuted-reduced}
 use Rattle.runs.proofs.Positions.{position, absorb-full, absorb-room, squeeze-full, squeeze-room}
 

@@ -15,9 +15,9 @@ use Rattle.basics.proofs.Cases.{cases, and-left, and-right}
 use Rattle.basics.proofs.Zeros.{zeros-behind}
 use Rattle.words.specs.Words.{lengthOf}
 use Rattle.pattern.specs.Pattern.{mergedWords}
-use Rattle.progress.specs.Permutations.{permutationsAt}
+use Rattle.counters.specs.Permutations.{permutationsAt}
 use Rattle.pattern.proofs.MergedWords.{sound-merged, sound-accepted}
-use Rattle.progress.specs.Positions.{positionsAfter, positionsAt}
+use Rattle.counters.specs.Positions.{positionsAfter, positionsAt}
 use Rattle.pattern.specs.Opening.{opening}
 use Rattle.session.specs.Calls.{start}
 use Rattle.session.specs.declared.Session.{Session}

@@ -5,7 +5,7 @@ use Prim.Native.Nat.{ℕ, zero, suc}
 use lib.ListN.{take, drop, replicate}
 use Rattle.basics.specs.Logic.{if_then_else_}
 use Rattle.words.specs.Words.{Phase}
-use Rattle.progress.specs.Permutations.{blockCount}
+use Rattle.counters.specs.Permutations.{blockCount}
 
 -- n blocks: "into eights from its start, its last filled up with zeros"
 unfoldable pub eights : ℕ → List ℕ → List (List ℕ)

@@ -16,13 +16,13 @@ use Rattle.pattern.specs.Pattern.{join, merge, phases, mergedWords, alternate, 
 use Rattle.pattern.specs.Opening.{opening, tooLong, wordRows, startRows, startNumber}
 use Rattle.tag.specs.TagString.{wordBytes, stringOf, tagString, wordAt}
 use Rattle.tag.specs.Elements.{tagElements}
-use Rattle.progress.specs.Permutations.{blockCount, phasePermutations, permutationsAt, fullPermutations}
+use Rattle.counters.specs.Permutations.{blockCount, phasePermutations, permutationsAt, fullPermutations}
 use Rattle.poseidon_tables.specs.Tables.{constants, inverses}
 use Rattle.poseidon.specs.Permutation.{addConstants, raiseAll, raiseFirst, raise, matrix, multiply, rounds, permutation, babyBear}
 use Rattle.sponge.specs.Sponge.{readyToAbsorb, absorbElement, readyToSqueeze, squeezedElement, squeezeElement}
 use Rattle.session.specs.Record.{tagState, wiped, openRecord, spongeOf, moved}
 use Rattle.session.specs.Record.{absorbOne, squeezeOne, squeezedOne, absorbAll, squeezeAll}
-use Rattle.progress.specs.Positions.{inLastBlock, positionsAfter, positionsAt}
+use Rattle.counters.specs.Positions.{inLastBlock, positionsAfter, positionsAt}
 use Rattle.progress.specs.Place.{soundPlace, inPattern, nextPlace}
 use Rattle.session.specs.Soundness.{sound}
 use Rattle.session.specs.Calls.{giving, recordRows, callRows, absorbRows, finishRows, wipes, answerOf, absorb, squeeze, finish}

@@ -15,10 +15,10 @@ use Rattle.words.specs.Words.{lengthOf}
 use Rattle.words.proofs.WordKinds.{length-below}
 use Rattle.pattern.specs.Pattern.{maxWords, soundWords, soundPlaces}
 use Rattle.pattern.proofs.Soundness as words
-use Rattle.progress.specs.Permutations.{permutationsAt}
-use Rattle.progress.specs.Positions.{positionsAt}
+use Rattle.counters.specs.Permutations.{permutationsAt}
+use Rattle.counters.specs.Positions.{positionsAt}
 use Rattle.progress.specs.Place.{soundPlace}
-use Rattle.progress.proofs.Bounds.{count-bound}
+use Rattle.counters.proofs.Bounds.{count-bound}
 use Rattle.session.specs.Soundness.{sound}
 use Rattle.session.specs.declared.Session.{Session}
 

@@ -4,8 +4,8 @@ use lib.Dec.{eqb}
 use Rattle.basics.specs.Logic.{_and_, all}
 use Rattle.field.specs.Field.{isElement}
 use Rattle.pattern.specs.Pattern.{soundPlaces}
-use Rattle.progress.specs.Permutations.{permutationsAt}
-use Rattle.progress.specs.Positions.{positionsAt}
+use Rattle.counters.specs.Permutations.{permutationsAt}
+use Rattle.counters.specs.Positions.{positionsAt}
 use Rattle.progress.specs.Place.{soundPlace}
 use Rattle.session.specs.declared.Session.{Session}
 

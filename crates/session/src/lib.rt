@@ -188,11 +188,11 @@ impl Session {
             return false;
         }
         if self.permutations
-            != progress::permutations::permutations_at(&words, self.phase, self.done)
+            != counters::permutations::permutations_at(&words, self.phase, self.done)
         {
             return false;
         }
-        let positions = progress::positions::positions_at(&words, self.phase, self.done);
+        let positions = counters::positions::positions_at(&words, self.phase, self.done);
         if self.absorb_position != positions.absorb {
             return false;
         }

@@ -8,10 +8,10 @@ use Rattle.basics.specs.Logic.{all}
 use Rattle.basics.proofs.Cases.{and-step, and-stop}
 use Rattle.field.specs.Field.{isElement}
 use Rattle.pattern.specs.Pattern.{soundPlaces}
-use Rattle.progress.specs.Permutations.{permutationsAt}
-use Rattle.progress.specs.Positions.{positionsAt}
+use Rattle.counters.specs.Permutations.{permutationsAt}
+use Rattle.counters.specs.Positions.{positionsAt}
 use Rattle.progress.specs.Place.{soundPlace}
-use Rattle.progress.specs.declared.positions.Positions.{Positions}
+use Rattle.counters.specs.declared.positions.Positions.{Positions}
 use Rattle.session.specs.Soundness.{sound}
 use Rattle.session.specs.declared.Session.{Session}
 use borrow.Author.Needs.{needs}

@@ -11,7 +11,7 @@ use Rattle.basics.specs.Logic.{if_then_else_}
 use Rattle.basics.specs.Lists.{sum}
 use Rattle.basics.proofs.Cases.{by, cases}
 use Rattle.words.specs.Words.{isAbsorb, lengthOf}
-use Rattle.progress.specs.Permutations.{blockCount, phasePermutations}
+use Rattle.counters.specs.Permutations.{blockCount, phasePermutations}
 use Rattle.words.proofs.WordKinds.{length-below}
 
 -- the permutations of a whole phase

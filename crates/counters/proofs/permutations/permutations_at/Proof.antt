@@ -1,4 +1,4 @@
--- `progress::permutations::permutations_at` meets its contract.
+-- `counters::permutations::permutations_at` meets its contract.
 -- Assumes nothing.
 use mathlib.Core.Path.{_≡_, refl, ap, ap₂, _∙_}
 use Prim.Native.Nat.{ℕ, _+_, _-_, _≤_, min}
@@ -7,11 +7,11 @@ use native.Mathlib.Omega.{arith}
 use lib.ListN.{length}
 use Rattle.basics.specs.Lists.{sum}
 use Rattle.words.specs.Words.{lengthOf}
-use Rattle.progress.specs.Permutations.{phasePermutations, permutationsAt}
-use Rattle.progress.proofs.PermutationCounts.{wholePhase, phase-bound, sum-bound, sum-stops}
+use Rattle.counters.specs.Permutations.{phasePermutations, permutationsAt}
+use Rattle.counters.proofs.PermutationCounts.{wholePhase, phase-bound, sum-bound, sum-stops}
 use borrow.Author.Needs.{needs}
-use Rattle.progress.proofs.permutations.permutations_at.Statement.{statement}
-use Rattle.progress.proofs.permutations.permutations_at.Tie as tie
+use Rattle.counters.proofs.permutations.permutations_at.Statement.{statement}
+use Rattle.counters.proofs.permutations.permutations_at.Tie as tie
 
 abbrev Inv-loop : tie.InvT-loop
 Inv-loop words phase done permutations₀ k₀ k-end permutations k = (k ≤ k-end) × (permutations ≡ sum k (wholePhase words))

@@ -1,13 +1,13 @@
--- `progress::positions::positions_at` meets its contract.
+-- `counters::positions::positions_at` meets its contract.
 -- Assumes nothing.
 use mathlib.Core.Path.{sym, ap, _∙_}
 use Prim.Native.Nat.{ℕ}
 use Rattle.words.specs.Words.{lengthOf}
-use Rattle.progress.specs.Positions.{positionsAfter}
-use Rattle.progress.proofs.Bounds.{inside-phase, at-start, between-phases}
+use Rattle.counters.specs.Positions.{positionsAfter}
+use Rattle.counters.proofs.Bounds.{inside-phase, at-start, between-phases}
 use borrow.Author.Needs.{needs}
-use Rattle.progress.proofs.positions.positions_at.Statement.{statement}
-use Rattle.progress.proofs.positions.positions_at.Tie as tie
+use Rattle.counters.proofs.positions.positions_at.Statement.{statement}
+use Rattle.counters.proofs.positions.positions_at.Tie as tie
 
 returns : tie.Need-returns
 returns c =

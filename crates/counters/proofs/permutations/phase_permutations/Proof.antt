@@ -1,12 +1,12 @@
--- `progress::permutations::phase_permutations` meets its contract.
+-- `counters::permutations::phase_permutations` meets its contract.
 -- Assumes nothing.
 use mathlib.Core.Path.{sym, _∙_}
 use borrow.Author.Tests.{eq-eqb, ne-eqb, not-true, not-false}
 use Rattle.basics.proofs.Cases.{if-true, if-false}
-use Rattle.progress.specs.Permutations.{blockCount, phasePermutations}
+use Rattle.counters.specs.Permutations.{blockCount, phasePermutations}
 use borrow.Author.Needs.{needs}
-use Rattle.progress.proofs.permutations.phase_permutations.Statement.{statement}
-use Rattle.progress.proofs.permutations.phase_permutations.Tie as tie
+use Rattle.counters.proofs.permutations.phase_permutations.Statement.{statement}
+use Rattle.counters.proofs.permutations.phase_permutations.Tie as tie
 
 returns : tie.Need-returns
 unfolding phasePermutations blockCount

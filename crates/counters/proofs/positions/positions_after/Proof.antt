@@ -1,12 +1,12 @@
--- `progress::positions::positions_after` meets its contract.
+-- `counters::positions::positions_after` meets its contract.
 -- Assumes nothing.
 use mathlib.Core.Path.{sym, _∙_}
 use Rattle.basics.proofs.Cases.{if-true, if-false}
 use Rattle.basics.specs.Figures.{rate}
-use Rattle.progress.specs.Positions.{positionsAfter}
+use Rattle.counters.specs.Positions.{positionsAfter}
 use borrow.Author.Needs.{needs}
-use Rattle.progress.proofs.positions.positions_after.Statement.{statement}
-use Rattle.progress.proofs.positions.positions_after.Tie as tie
+use Rattle.counters.proofs.positions.positions_after.Statement.{statement}
+use Rattle.counters.proofs.positions.positions_after.Tie as tie
 
 returns : tie.Need-returns
 unfolding positionsAfter

@@ -2,7 +2,7 @@
 ghost use mathlib.Core.Path.{_≡_};
 ghost use Prim.Native.Nat.{min};
 ghost use lib.ListN.{length};
-ghost use Rattle.progress.specs.Permutations.{phasePermutations, permutationsAt};
+ghost use Rattle.counters.specs.Permutations.{phasePermutations, permutationsAt};
 
 // The permutations for so many elements of a phase.
 pub fn phase_permutations(word: u32, done: u32) -> u64

@@ -9,10 +9,10 @@ use lib.ListN.{getD}
 use Rattle.basics.specs.Figures.{rate}
 use Rattle.basics.proofs.Cases.{by}
 use Rattle.words.specs.Words.{lengthOf}
-use Rattle.progress.specs.Permutations.{permutationsAt}
-use Rattle.progress.specs.Positions.{inLastBlock, positionsAfter, positionsAt}
-use Rattle.progress.specs.declared.positions.Positions.{Positions}
-use Rattle.progress.proofs.PermutationCounts.{phase-bound, sum-bound}
+use Rattle.counters.specs.Permutations.{permutationsAt}
+use Rattle.counters.specs.Positions.{inLastBlock, positionsAfter, positionsAt}
+use Rattle.counters.specs.declared.positions.Positions.{Positions}
+use Rattle.counters.proofs.PermutationCounts.{phase-bound, sum-bound}
 
 pub count-bound : (ws : List ℕ) (phase done : ℕ) → phase ≤ 64 → done < 2147483648 → permutationsAt ws phase done ≤ 268435456 * 65
 unfolding permutationsAt

@@ -1,6 +1,6 @@
 // The positions that the steps give at a place.
 ghost use mathlib.Core.Path.{_≡_};
-ghost use Rattle.progress.specs.Positions.{inLastBlock, positionsAfter, positionsAt};
+ghost use Rattle.counters.specs.Positions.{inLastBlock, positionsAfter, positionsAt};
 
 // How many elements a block has.
 const RATE: u32 = 8;

@@ -5,7 +5,7 @@ use lib.ListN.{getD}
 use Rattle.basics.specs.Logic.{if_then_else_}
 use Rattle.basics.specs.Figures.{rate}
 use Rattle.words.specs.Words.{isAbsorb, lengthOf}
-use Rattle.progress.specs.declared.positions.Positions.{Positions}
+use Rattle.counters.specs.declared.positions.Positions.{Positions}
 
 -- how many elements the last of the blocks of n elements has, n at least 1: 1 to 8. Of 0 elements, which no sound
 -- pattern has, it gives 8.

@@ -1,10 +1,10 @@
--- `progress::positions::in_last_block` meets its contract.
+-- `counters::positions::in_last_block` meets its contract.
 -- Assumes nothing.
 use native.Mathlib.Omega.{arith}
-use Rattle.progress.specs.Positions.{inLastBlock}
+use Rattle.counters.specs.Positions.{inLastBlock}
 use borrow.Author.Needs.{needs}
-use Rattle.progress.proofs.positions.in_last_block.Statement.{statement}
-use Rattle.progress.proofs.positions.in_last_block.Tie as tie
+use Rattle.counters.proofs.positions.in_last_block.Statement.{statement}
+use Rattle.counters.proofs.positions.in_last_block.Tie as tie
 
 returns : tie.Need-returns
 unfolding inLastBlock

@@ -1,0 +1,2 @@
+pub mod PermutationCounts
+pub mod Bounds
