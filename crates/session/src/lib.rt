@@ -177,7 +177,7 @@ impl Session {
         ensures { λ r. ⌜ r ≡ sound self ⌝ }
     {
         let words = self.words;
-        if !pattern::places_sound(&words, self.count) {
+        if !sound_words::places_sound(&words, self.count) {
             return false;
         }
         if !progress::place::is_sound(&words, self.count, self.phase, self.done) {

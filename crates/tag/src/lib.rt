@@ -83,7 +83,7 @@ pub fn read(string: &[u8], separator_length: usize) -> Merged
         return pattern::refused(basics::NOT_TAG_STRING);
     }
     let list = bytes::words_of(&string[..length]);
-    if pattern::is_sound(&list[..count]) {
+    if sound_words::is_sound(&list[..count]) {
         return Merged {
             number: basics::ACCEPTED,
             words: list,

@@ -1,4 +1,4 @@
--- `pattern::alternate` meets its contract.
+-- `sound_words::alternate` meets its contract.
 -- Assumes nothing.
 use mathlib.Core.Path.{_≡_, refl, sym, ap, _∙_}
 use mathlib.Core.Bool.{Bool, true, not}
@@ -13,11 +13,11 @@ use lib.Seq.{drop-cons}
 use Rattle.basics.specs.Logic.{_and_, all}
 use Rattle.basics.proofs.Cases.{same-not, same-false}
 use Rattle.words.specs.Words.{isAbsorb, lengthOf}
 use Rattle.pattern.specs.Pattern.{alternate}
 use Rattle.pattern.proofs.Soundness.{tests, tests-pass, tests-kind, tests-length}
 use borrow.Author.Needs.{needs}
-use Rattle.pattern.proofs.alternate.Statement.{statement}
-use Rattle.pattern.proofs.alternate.Tie as tie
+use Rattle.sound_words.proofs.alternate.Statement.{statement}
+use Rattle.sound_words.proofs.alternate.Tie as tie
 
 abbrev Inv-loop : tie.InvT-loop
 Inv-loop words last₀ i₀ i-end last i = (i ≤ length words) × (tests true words ≡ tests (not (isAbsorb last)) (drop i words))

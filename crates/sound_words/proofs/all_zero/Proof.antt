@@ -1,4 +1,4 @@
--- `pattern::all_zero` meets its contract.
+-- `sound_words::all_zero` meets its contract.
 -- Assumes nothing.
 use mathlib.Core.Path.{_≡_, refl, sym, _∙_}
 use Prim.Native.Nat.{_-_, _≤_}
@@ -9,8 +9,8 @@ use lib.ListN.{length, getD, drop}
 use Rattle.basics.specs.Logic.{all}
 use Rattle.basics.proofs.Cases.{all-step, all-stop, all-end}
 use borrow.Author.Needs.{needs}
-use Rattle.pattern.proofs.all_zero.Statement.{statement}
-use Rattle.pattern.proofs.all_zero.Tie as tie
+use Rattle.sound_words.proofs.all_zero.Statement.{statement}
+use Rattle.sound_words.proofs.all_zero.Tie as tie
 
 abbrev Inv-loop : tie.InvT-loop
 Inv-loop words i₀ i-end i = (i ≤ length words) × (all (λ w. eqb w 0) words ≡ all (λ w. eqb w 0) (drop i words))

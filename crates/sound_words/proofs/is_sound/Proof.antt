@@ -1,10 +1,10 @@
--- `pattern::is_sound` meets its contract.
+-- `sound_words::is_sound` meets its contract.
 -- Assumes nothing.
 use mathlib.Core.Path.{sym, _∙_}
 use Rattle.pattern.proofs.Soundness.{too-few, too-many, odd-count, right-count}
 use borrow.Author.Needs.{needs}
-use Rattle.pattern.proofs.is_sound.Statement.{statement}
-use Rattle.pattern.proofs.is_sound.Tie as tie
+use Rattle.sound_words.proofs.is_sound.Statement.{statement}
+use Rattle.sound_words.proofs.is_sound.Tie as tie
 
 returns : tie.Need-returns
 returns c = sym (too-few (c .before .before .args .words .now) (search needs))

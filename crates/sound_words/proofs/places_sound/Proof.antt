@@ -1,4 +1,4 @@
--- `pattern::places_sound` meets its contract.
+-- `sound_words::places_sound` meets its contract.
 -- Assumes nothing.
 use mathlib.Core.Path.{_≡_, sym, ap, _∙_}
 use mathlib.Core.Bool.{true}
@@ -10,10 +10,10 @@ use lib.ListN.{length, take, drop, length-drop}
 use lib.Seq.{length-take-le, take-all}
 use Rattle.basics.specs.Logic.{all}
 use Rattle.basics.proofs.Cases.{and-step, and-stop}
 use Rattle.pattern.specs.Pattern.{soundWords, soundPlaces}
 use borrow.Author.Needs.{needs}
-use Rattle.pattern.proofs.places_sound.Statement.{statement}
-use Rattle.pattern.proofs.places_sound.Tie as tie
+use Rattle.sound_words.proofs.places_sound.Statement.{statement}
+use Rattle.sound_words.proofs.places_sound.Tie as tie
 
 few : (c : tie.Else1) → leb (c .before .before .args .count) (length (c .before .before .args .places .now)) ≡ true
 few c = le-leb _ _ (c .if1 .left)
