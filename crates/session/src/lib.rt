@@ -105,7 +105,7 @@ impl Session {
         let written = tag::write_string(&merged_words[..count], separator, &mut string);
         let length = written.length;
         let digest = sha3::sha3_256(&string[..length]);
-        let state = tag_state(tag::elements(digest));
+        let state = tag_state(tag_reader::elements(digest));
         Answer {
             number: basics::ACCEPTED,
             session: Session {

@@ -180,8 +180,8 @@ fn print_write(words: &[u32], separator: &[u8], size: usize)
 }
 
 fn print_read(string: &[u8], length: usize) {
-    print_merged(tag::read(string, length));
-    print_bytes(tag::read_separator(string, length));
+    print_merged(tag_reader::read(string, length));
+    print_bytes(tag_reader::read_separator(string, length));
 }
 
 // The place behind the line.
@@ -225,7 +225,7 @@ fn elements_line(text: &[u8], at: usize) -> usize
     for i in 0..32 {
         digest[i] = first.bytes[i];
     }
-    let elements = tag::elements(digest);
+    let elements = tag_reader::elements(digest);
     print_elements(&elements);
     first.next
 }

@@ -92,7 +92,7 @@ pub extern "C" fn tuilarder_read_tag(
         (now (words .exit) ≡ readWords (now (string .entry)) «separator_length» .words) ×
         (now (count .exit) ≡ readWords (now (string .entry)) «separator_length» .count) ⌝ }
 {
-    let merged = tag::read(string, separator_length);
+    let merged = tag_reader::read(string, separator_length);
     let merged_words = merged.words;
     *words = merged_words;
     *count = merged.count;

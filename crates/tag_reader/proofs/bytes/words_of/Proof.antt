@@ -1,4 +1,4 @@
--- `tag::bytes::words_of` meets its contract.
+-- `tag_reader::bytes::words_of` meets its contract.
 -- Assumes nothing.
 use mathlib.Core.Path.{_≡_, refl, sym, ap, ap₂, _∙_}
 use mathlib.Core.List.{List, _++_}
@@ -8,11 +8,11 @@ use native.Mathlib.Omega.{arith}
 use lib.ListN.{length, set, replicate}
 use Rattle.basics.specs.Lists.{tabulate}
 use Rattle.basics.proofs.Fill.{length-tabulate}
 use Rattle.tag.specs.TagString.{wordAt, wordsOf}
 use Rattle.basics.proofs.Zeros.{push-number}
 use borrow.Author.Needs.{needs}
-use Rattle.tag.proofs.bytes.words_of.Statement.{statement}
-use Rattle.tag.proofs.bytes.words_of.Tie as tie
+use Rattle.tag_reader.proofs.bytes.words_of.Statement.{statement}
+use Rattle.tag_reader.proofs.bytes.words_of.Tie as tie
 
 -- the first k words
 abbrev front : List ℕ → ℕ → List ℕ

@@ -1,4 +1,4 @@
--- `tag::elements` meets its contract.
+-- `tag_reader::elements` meets its contract.
 -- Assumes nothing.
 use mathlib.Core.Path.{_≡_, refl, ap, _∙_}
 use mathlib.Core.List.{List}
@@ -7,11 +7,11 @@ use native.Mathlib.Omega.{arith}
 use lib.Bits.{and-mask}
 use lib.ListN.{length}
 use Rattle.basics.proofs.Fill.{Filled, start, step, end}
 use Rattle.tag.specs.TagString.{wordAt}
 use Rattle.tag.specs.Elements.{tagElements}
 use borrow.Author.Needs.{needs}
-use Rattle.tag.proofs.elements.Statement.{statement}
-use Rattle.tag.proofs.elements.Tie as tie
+use Rattle.tag_reader.proofs.elements.Statement.{statement}
+use Rattle.tag_reader.proofs.elements.Tie as tie
 
 abbrev element : List ℕ → ℕ → ℕ
 element digest k = wordAt digest k % 2 ^ 30

@@ -1,13 +1,13 @@
--- `tag::bytes::word_at` meets its contract.
+-- `tag_reader::bytes::word_at` meets its contract.
 -- Assumes nothing.
 use mathlib.Core.Path.{_∙_, sym, ap}
 use Prim.Native.Nat.{_*_}
 use Rattle.basics.specs.Digits.{number}
 use Rattle.tag.specs.TagString.{wordAt}
 use Rattle.tag.proofs.WordBytes.{four-bytes}
 use borrow.Author.Needs.{needs}
-use Rattle.tag.proofs.bytes.word_at.Statement.{statement}
-use Rattle.tag.proofs.bytes.word_at.Tie as tie
+use Rattle.tag_reader.proofs.bytes.word_at.Statement.{statement}
+use Rattle.tag_reader.proofs.bytes.word_at.Tie as tie
 
 returns : tie.Need-returns
 unfolding wordAt

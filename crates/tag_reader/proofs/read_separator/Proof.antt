@@ -1,11 +1,11 @@
--- `tag::read_separator` meets its contract.
+-- `tag_reader::read_separator` meets its contract.
 -- Assumes nothing.
 use mathlib.Core.Path.{sym, ap, _∙_}
 use Prim.Native.Nat.{ℕ, _+_}
 use Rattle.tag.proofs.Reading.{number-read, passed, separator-refused, separator-accepted, last-part, last-start, empty-part, empty-start}
 use borrow.Author.Needs.{needs}
-use Rattle.tag.proofs.read_separator.Statement.{statement}
-use Rattle.tag.proofs.read_separator.Tie as tie
+use Rattle.tag_reader.proofs.read_separator.Statement.{statement}
+use Rattle.tag_reader.proofs.read_separator.Tie as tie
 
 returns : tie.Need-returns
 returns c =

@@ -1,4 +1,4 @@
--- `tag::read` meets its contract.
+-- `tag_reader::read` meets its contract.
 -- Assumes nothing.
 use mathlib.Core.Path.{_≡_, refl, sym, _∙_}
 use mathlib.Core.List.{List}
@@ -6,11 +6,11 @@ use Prim.Native.Nat.{ℕ, _≤_}
 use lib.ListN.{length}
 use lib.Seq.{length-take-le}
 use Rattle.pattern.specs.Opening.{maxSeparator}
 use Rattle.tag.specs.TagString.{wordsPart, soundBytes}
 use Rattle.tag.proofs.Reading.{read-refused, read-accepted, number-6, number-13-short, number-13, number-0, length-part, cut-word, too-long, sound-test, answer}
 use borrow.Author.Needs.{needs}
-use Rattle.tag.proofs.read.Statement.{statement}
-use Rattle.tag.proofs.read.Tie as tie
+use Rattle.tag_reader.proofs.read.Statement.{statement}
+use Rattle.tag_reader.proofs.read.Tie as tie
 
 -- the string and the length given, where both bounds on that hold
 abbrev string : tie.Else2 → List ℕ
