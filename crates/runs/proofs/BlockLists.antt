@@ -1,76 +1,137 @@
--- The list of blocks tells the absorbed elements apart, where the pattern is known.
+-- Blocks have eight elements each, are as many as document 01 says, and hold what was absorbed; so, where the pattern is known, they tell the
+-- absorbed elements apart.
 -- Assumes nothing.
-use mathlib.Core.Path.{_≡_, refl, sym, ap, _∙_}
-use mathlib.Core.List.{List, [], _∷_, _++_}
-use Prim.Native.Nat.{ℕ, zero, suc, _+_, _*_, _≤_}
-use native.Mathlib.Nat.{suc-inj}
+use mathlib.Core.Path.{_≡_, refl, sym, ap, ap₂, _∙_}
+use mathlib.Core.Bool.{true}
+use mathlib.Core.List.{List, [], _∷_, _++_, append-assoc}
+use Prim.Native.Nat.{ℕ, zero, suc, _+_, _-_, _*_, _≤_, _<_}
 use native.Mathlib.Omega.{arith}
-use lib.ListN.{length, take, drop, replicate, length-drop, length-take, take-append-drop}
-use lib.Seq.{take-all, take-append-seam, drop-append-seam, take-at, drop-at}
-use Rattle.basics.proofs.Cases.{cases, if-true, if-false}
+use borrow.Author.Tests.{eq-eqb, ltb-true, ltb-false}
+use lib.Dec.{eqb, ltb}
+use lib.ListN.{length, take, drop, replicate, length-append, length-drop, length-take, length-replicate, take-append-drop}
+use lib.Seq.{take-all, take-at, drop-at, take-append-add, length-take-le}
+use Rattle.basics.specs.Logic.{if_then_else_, all}
+use Rattle.basics.specs.Lists.{padded, joined}
+use Rattle.basics.proofs.Cases.{cases, by, and-both, all-both, if-true, if-false}
 use Rattle.words.specs.Words.{Phase}
 use Rattle.counters.specs.Permutations.{blockCount}
-use Rattle.runs.specs.Blocks.{eights, blocks}
+use Rattle.runs.specs.Blocks.{eights, blocks, blockTotal, heldBy}
 use Rattle.runs.specs.Lengths.{absorbLength}
 
--- two lists joined are cut apart again where the first parts are equally long
-cut : (bs cs ds es : List (List ℕ)) → length bs ≡ length cs → bs ++ ds ≡ cs ++ es → (bs ≡ cs) × (ds ≡ es)
-cut bs cs ds es h e = (
-  sym (take-append-seam bs ds) ∙ ap (take (length bs)) e ∙ take-at cs es (length bs) (sym h),
-  sym (drop-append-seam bs ds) ∙ ap (drop (length bs)) e ∙ drop-at cs es (length bs) (sym h),
-)
-
--- a list from its first n elements and the others
-rejoin : (n : ℕ) (xs ys : List ℕ) → take n xs ≡ take n ys → drop n xs ≡ drop n ys → xs ≡ ys
-rejoin n xs ys p q = cc (take-append-drop n xs, take-append-drop n ys)
-
--- two lists of one length have the same first n elements if they have them when both are filled up with the same list
-unfilled : (n : ℕ) (xs ys zs : List ℕ) → length xs ≡ length ys → take n (xs ++ zs) ≡ take n (ys ++ zs) → take n xs ≡ take n ys
-unfilled zero xs ys zs h e = refl
-unfilled (suc n) [] [] zs h e = refl
-unfilled (suc n) [] (y ∷ ys) zs h e = absurd (omega arith)
-unfilled (suc n) (x ∷ xs) [] zs h e = absurd (omega arith)
-unfilled (suc n) (x ∷ xs) (y ∷ ys) zs h e =
-    let p : x ≡ y = cc in
-    let q : take n (xs ++ zs) ≡ take n (ys ++ zs) = cc in
-    cc (unfilled n xs ys zs (suc-inj h) q)
+-- ---- the blocks of one phase
 
 length-eights : (n : ℕ) (xs : List ℕ) → length (eights n xs) ≡ n
 unfolding eights
 length-eights zero xs = refl
 length-eights (suc n) xs = ap suc (length-eights n _)
 
-eights-tell : (n : ℕ) (xs ys : List ℕ) → length xs ≡ length ys → length xs ≤ 8 * n → eights n xs ≡ eights n ys → xs ≡ ys
-unfolding eights
-eights-tell zero xs ys h l e = sym (take-all 0 xs (omega arith)) ∙ take-all 0 ys (omega arith)
-eights-tell (suc n) xs ys h l e =
-    let p : take 8 (xs ++ replicate 8 0) ≡ take 8 (ys ++ replicate 8 0) = cc in
-    let q : eights n (drop 8 xs) ≡ eights n (drop 8 ys) = cc in
-    rejoin 8 xs ys (unfilled 8 xs ys (replicate 8 0) h p)
-    (eights-tell n (drop 8 xs) (drop 8 ys) (simp length-drop (omega arith)) (simp length-drop (omega arith)) q)
+-- eight places are filled
+padded-long : (xs : List ℕ) → length (padded 8 (take 8 xs)) ≡ 8
+padded-long xs =
+    let front = take 8 xs in
+    let short = length-take 8 xs in
+    length-append front (replicate (8 - length front) 0) ∙ rw (length-replicate {A = ℕ} (8 - length front) 0) (omega arith)
 
--- the blocks of n elements of an ABSORB phase
-phase-tells : (n : ℕ) (xs ys : List ℕ) → n ≤ length xs → n ≤ length ys → eights (blockCount n) (take n xs) ≡ eights (blockCount n) (take n ys)
-    → take n xs ≡ take n ys
+eights-long : (n : ℕ) (xs : List ℕ) → all (λ b. eqb (length b) 8) (eights n xs) ≡ true
+unfolding all eights
+eights-long zero xs = refl
+eights-long (suc n) xs = and-both _ _ (eq-eqb _ 8 (padded-long xs)) (eights-long n (drop 8 xs))
+
+-- the last block of a phase, and one that others follow
+last-held : (xs rest : List ℕ) → length xs ≤ 8 → take (length xs) (padded 8 (take 8 xs) ++ rest) ≡ xs
+last-held xs rest h =
+    let all-taken = take-all 8 xs h in
+    let zeros : List ℕ = replicate (8 - length xs) 0 in
+    ap (λ (l : List ℕ). take (length xs) ((l ++ replicate (8 - length l) 0) ++ rest)) all-taken
+    ∙ ap (take (length xs)) (append-assoc xs zeros rest)
+    ∙ take-at xs (zeros ++ rest) (length xs) refl
+
+more-held : (xs rest : List ℕ) → 8 < length xs → take (length (drop 8 xs)) rest ≡ drop 8 xs
+    → take (length xs) (padded 8 (take 8 xs) ++ rest) ≡ xs
+more-held xs rest h e =
+    let front = take 8 xs in
+    let long = length-take-le 8 xs (omega arith) in
+    let full : 8 - length front ≡ 0 = omega arith in
+    let place : length xs ≡ length front + length (drop 8 xs) = omega (arith, length-drop 8 xs) in
+    ap₂ (λ (k z : ℕ). take k ((front ++ replicate z 0) ++ rest)) place full
+    ∙ ap (λ (l : List ℕ). take (length front + length (drop 8 xs)) l) (append-assoc front [] rest)
+    ∙ take-append-add front rest (length (drop 8 xs))
+    ∙ ap (λ (l : List ℕ). front ++ l) e
+    ∙ take-append-drop 8 xs
+
+eights-held : (n : ℕ) (xs : List ℕ) → length xs ≤ 8 * n → take (length xs) (joined (eights n xs)) ≡ xs
+unfolding eights joined
+eights-held zero xs h =
+    let none : length xs ≡ 0 = omega arith in
+    ap (λ (k : ℕ). take {A = ℕ} k []) none ∙ take-all 0 xs (omega arith)
+eights-held (suc n) xs h =
+    let rest = joined (eights n (drop 8 xs)) in
+    cases (ltb 8 (length xs))
+    (λ l.
+    let shorter = length-drop 8 xs in
+    more-held xs rest (ltb-true 8 (length xs) l) (eights-held n (drop 8 xs) (omega arith)))
+    λ l. last-held xs rest (ltb-false 8 (length xs) l)
+
+phase-held : (n : ℕ) (xs : List ℕ) → n ≤ length xs → take n (joined (eights (blockCount n) (take n xs))) ≡ take n xs
 unfolding blockCount
-phase-tells n xs ys h l e =
-    eights-tell (blockCount n) (take n xs) (take n ys) (simp length-take (omega arith)) (simp length-take (omega arith)) e
+phase-held n xs h =
+    let long = length-take-le n xs h in
+    ap (λ (k : ℕ). take k (joined (eights (blockCount n) (take n xs)))) (sym long)
+    ∙ eights-held (blockCount n) (take n xs) (omega arith)
+
+-- ---- the blocks of a pattern
+
+pub blocks-long : (ps : List Phase) (xs : List ℕ) → all (λ b. eqb (length b) 8) (blocks ps xs) ≡ true
+unfolding all blocks
+blocks-long [] xs = refl
+blocks-long (a ∷ ps) xs =
+    by (λ (bs : List (List ℕ)). all (λ b. eqb (length b) 8) bs ≡ true) (a .absorbs) _ _
+    (λ _. all-both (λ b. eqb (length b) 8) (eights (blockCount (a .elements)) (take (a .elements) xs)) _ (eights-long _ _) (blocks-long ps _))
+    λ _. blocks-long ps xs
+
+pub blocks-total : (ps : List Phase) (xs : List ℕ) → length (blocks ps xs) ≡ blockTotal ps
+unfolding blocks blockTotal
+blocks-total [] xs = refl
+blocks-total (a ∷ ps) xs =
+    let n = blockCount (a .elements) in
+    let first = eights n (take (a .elements) xs) in
+    let later = blocks ps (drop (a .elements) xs) in
+    cases (a .absorbs)
+    (λ k.
+    ap length (if-true _ _ _ k)
+    ∙ length-append first later
+    ∙ ap₂ (λ (i j : ℕ). i + j) (length-eights n (take (a .elements) xs) ∙ sym (if-true _ _ _ k)) (blocks-total ps _))
+    λ k.
+    ap length (if-false _ _ _ k)
+    ∙ blocks-total ps xs
+    ∙ omega (arith, if-false (a .absorbs) n 0 k)
+
+pub blocks-held : (ps : List Phase) (xs : List ℕ) → length xs ≡ absorbLength ps → heldBy ps (blocks ps xs) ≡ xs
+unfolding blocks absorbLength heldBy
+blocks-held [] xs h = take-all 0 xs (omega arith)
+blocks-held (a ∷ ps) xs h =
+    let n = a .elements in
+    let count = blockCount n in
+    let first = eights count (take n xs) in
+    let later = blocks ps (drop n xs) in
+    let size : length xs ≡ (if a .absorbs then n else 0) + absorbLength ps = h in
+    cases (a .absorbs)
+    (λ k.
+    let some : (if a .absorbs then n else 0) ≡ n = if-true _ _ _ k in
+    let shorter = length-drop n xs in
+    if-true _ _ _ k
+    ∙ ap (λ (bs : List (List ℕ)). take n (joined (take count bs)) ++ heldBy ps (drop count bs)) (if-true _ _ _ k)
+    ∙ ap₂ (λ (front back : List (List ℕ)). take n (joined front) ++ heldBy ps back)
+    (take-at first later count (length-eights count (take n xs)))
+    (drop-at first later count (length-eights count (take n xs)))
+    ∙ ap₂ (λ (front back : List ℕ). front ++ back) (phase-held n xs (omega arith)) (blocks-held ps (drop n xs) (omega arith))
+    ∙ take-append-drop n xs)
+    λ k.
+    let none : (if a .absorbs then n else 0) ≡ 0 = if-false _ _ _ k in
+    if-false _ _ _ k
+    ∙ ap (heldBy ps) (if-false _ _ _ k)
+    ∙ blocks-held ps xs (omega arith)
 
 pub blocks-tell : (ps : List Phase) (xs ys : List ℕ) → length xs ≡ absorbLength ps → length ys ≡ absorbLength ps
     → blocks ps xs ≡ blocks ps ys → xs ≡ ys
-unfolding blocks absorbLength
-blocks-tell [] xs ys h l e = sym (take-all 0 xs (omega arith)) ∙ take-all 0 ys (omega arith)
-blocks-tell (a ∷ ps) xs ys h l e =
-    let n = a .elements in
-    let rest = blocks-tell ps in
-    cases (a .absorbs)
-    (λ k.
-    let size : absorbLength (a ∷ ps) ≡ n + absorbLength ps = ap (λ (m : ℕ). m + absorbLength ps) (if-true _ _ _ k) in
-    let c =
-    cut (eights (blockCount n) (take n xs)) (eights (blockCount n) (take n ys)) (blocks ps (drop n xs)) (blocks ps (drop n ys))
-    (length-eights _ _ ∙ sym (length-eights _ _)) (sym (if-true _ _ _ k) ∙ e ∙ if-true _ _ _ k) in
-    rejoin n xs ys (phase-tells n xs ys (omega arith) (omega arith) (c .0))
-    (rest (drop n xs) (drop n ys) (simp length-drop (omega arith)) (simp length-drop (omega arith)) (c .1)))
-    λ k.
-    let size : absorbLength (a ∷ ps) ≡ 0 + absorbLength ps = ap (λ (m : ℕ). m + absorbLength ps) (if-false _ _ _ k) in
-    rest xs ys (omega arith) (omega arith) (sym (if-false _ _ _ k) ∙ e ∙ if-false _ _ _ k)
+blocks-tell ps xs ys h l e = sym (blocks-held ps xs h) ∙ ap (heldBy ps) e ∙ blocks-held ps ys l

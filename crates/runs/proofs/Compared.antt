@@ -4,6 +4,7 @@ use mathlib.Core.Path.{_≡_, sym, ap, ap₂, _∙_}
 use mathlib.Core.Logic.{_↔_}
 use mathlib.Core.List.{List, map}
 use Prim.Native.Nat.{ℕ}
+use native.Mathlib.Omega.{arith}
 use lib.ListN.{length}
 use Rattle.sha3.specs.Sponge.{sha3}
 use Rattle.words.specs.Words.{Phase, wordOf}
@@ -14,12 +15,12 @@ use Rattle.session.specs.Record.{tagState, openRecord}
 use Rattle.session.specs.Calls.{startRecord}
 use Rattle.session.specs.declared.Session.{Session}
 use Rattle.runs.specs.Blocks.{blocks}
-use Rattle.runs.specs.Lengths.{absorbLength}
+use Rattle.runs.specs.Lengths.{absorbLength, squeezeLength}
 use Rattle.runs.specs.Runs.{Run, startedOf, tagOf, patternOf, absorbedOf, squeezedOf, blocksOf, permutationsOf}
 use Rattle.runs.proofs.Opened.{start-accepted, start-record}
-use Rattle.runs.proofs.ElementKinds.{toDo, toAbsorb, absorb-length}
+use Rattle.runs.proofs.ElementKinds.{toDo, toAbsorb, absorb-length, kinds-length}
 use Rattle.runs.proofs.WholePattern.{whole-pattern}
-use Rattle.runs.proofs.Trace.{Trace, traced, decided, absorbed-length}
+use Rattle.runs.proofs.Trace.{Trace, traced, decided, absorbed-length, trace-length}
 use Rattle.runs.proofs.BlockLists.{blocks-tell}
 
 -- a finished session has absorbed all that its pattern declares
@@ -28,6 +29,13 @@ all-absorbed a =
     absorbed-length (traced (startedOf a) (a .before) (a .ends))
     ∙ ap toAbsorb (whole-pattern (a .opening) (a .opens))
     ∙ absorb-length (patternOf a)
+
+-- and squeezed all
+pub all-squeezed : (a : Run) → length (squeezedOf a) ≡ squeezeLength (patternOf a)
+all-squeezed a =
+    let both = trace-length (traced (startedOf a) (a .before) (a .ends)) in
+    let whole = ap length (whole-pattern (a .opening) (a .opens)) ∙ kinds-length (patternOf a) in
+    omega (arith, all-absorbed a)
 
 decided-by : {r s t u : Session} {xs vs ys zs : List ℕ} → r ≡ s → xs ≡ vs → Trace (toDo r) r xs ys t → Trace (toDo s) s vs zs u → (ys ≡ zs) × (t ≡ u)
 decided-by e x p q = decided (rw (e, x) at p) q

@@ -8,7 +8,7 @@ use native.Mathlib.Nat.{le-of-suc-le-suc, not-suc-le-zero}
 use native.Mathlib.Omega.{arith}
 use borrow.Author.Tests.{eqb-true}
 use lib.Dec.{eqb}
-use lib.ListN.{getD, drop, replicate, length-replicate}
+use lib.ListN.{length, getD, drop, replicate, length-append, length-replicate}
 use lib.Seq.{drop-at, drop-nil}
 use Rattle.basics.specs.Logic.{if_then_else_, all}
 use Rattle.basics.proofs.Cases.{and-left, and-right}
@@ -18,7 +18,7 @@ use Rattle.progress.specs.declared.place.Place.{Place}
 use Rattle.session.specs.Record.{moved, nextPlaceOf}
 use Rattle.session.specs.declared.Session.{Session}
 use Rattle.session.proofs.SoundRecord.{phaseWord, Sound}
-use Rattle.runs.specs.Lengths.{absorbLength}
+use Rattle.runs.specs.Lengths.{absorbLength, squeezeLength}
 use Rattle.runs.proofs.Places.{next-place}
 
 -- true for each element of an ABSORB phase, false for each of a SQUEEZE phase
@@ -48,6 +48,22 @@ unfolding kinds toAbsorb absorbLength
 absorb-length [] = refl
 absorb-length (a ∷ ps) =
     absorb-phase (a .elements) (a .absorbs) (kinds ps) ∙ ap (λ (n : ℕ). (if a .absorbs then a .elements else 0) + n) (absorb-length ps)
+
+-- the others are squeezed
+either-kind : (k : Bool) (n : ℕ) → (if k then n else 0) + (if k then 0 else n) ≡ n
+unfolding if_then_else_
+either-kind true n = omega arith
+either-kind false n = omega arith
+
+pub kinds-length : (ps : List Phase) → length (kinds ps) ≡ absorbLength ps + squeezeLength ps
+unfolding kinds absorbLength squeezeLength
+kinds-length [] = refl
+kinds-length (a ∷ ps) =
+    let phase = length-replicate (a .elements) (a .absorbs) in
+    let later = kinds-length ps in
+    let whole = length-append (replicate (a .elements) (a .absorbs)) (kinds ps) in
+    let each = either-kind (a .absorbs) (a .elements) in
+    omega arith
 
 -- ---- one element of those still to do
 

@@ -14,6 +14,7 @@ pub mod WholePattern
 pub mod BlockLists
 pub mod Compared
 pub mod Finishing
+pub mod RefusedCalls
 pub mod Reached
 pub mod SoundPlaces
 pub mod Cuts

@@ -3,7 +3,7 @@
 use mathlib.Core.Path.{_≡_, refl, sym, ap, _∙_}
 use mathlib.Core.Bool.{Bool, true, false}
 use mathlib.Core.List.{List, [], _∷_, _++_}
-use Prim.Native.Nat.{ℕ, zero, suc, _<_}
+use Prim.Native.Nat.{ℕ, zero, suc, _+_, _<_}
 use native.Mathlib.Omega.{arith}
 use lib.Dec.{eqb}
 use lib.ListN.{length}
@@ -44,6 +44,12 @@ absorbed-length end = refl
 absorbed-length (absorbs p) = ap suc (absorbed-length p)
 absorbed-length (squeezes p) = absorbed-length p
 
+-- each element is absorbed or squeezed
+pub trace-length : {ks : List Bool} {r : Session} {xs ys : List ℕ} {t : Session} → Trace ks r xs ys t → length xs + length ys ≡ length ks
+trace-length end = refl
+trace-length (absorbs p) = omega (arith, trace-length p)
+trace-length (squeezes p) = omega (arith, trace-length p)
+
 -- ---- accepted calls
 
 absorb-all : (xs : List ℕ) (r : Session) {zs ys : List ℕ} {t : Session} → (0 < length xs → InPhase r true (length xs))
@@ -74,7 +80,7 @@ wiped-stays (ABSORB xs ∷ cs) = wiped-stays cs
 wiped-stays (SQUEEZE n ∷ cs) = wiped-stays cs
 wiped-stays (FINISH ∷ cs) = wiped-stays cs
 
-wiped-not-finished : (cs : List Call) → finish (leftBy wiped cs) .number ≡ accepted → ⊥
+pub wiped-not-finished : (cs : List Call) → finish (leftBy wiped cs) .number ≡ accepted → ⊥
 wiped-not-finished cs e = wiped-not-open (finish-ended wiped (sym (ap (λ (r : Session). finish r .number) (wiped-stays cs)) ∙ e) .opens)
 
 -- what is counted of a call with an answer: a list if it is accepted, and nothing if it is refused
