@@ -1,5 +1,6 @@
 pub mod TagStrings
 pub mod Sessions
+pub mod Compared
 pub mod ThirdDemand
 pub mod EqualLengths
 pub mod Cards

@@ -1,5 +1,5 @@
--- Sessions: records stay sound, counts and positions are those of document 01 at every place of a pattern, every session can be finished and
--- then has absorbed its whole pattern, copies are forks, calls may be cut, and what is squeezed is what the buffer holds, elements below p.
+-- Sessions: records stay sound, counts and positions are those of document 01 at every place of a pattern, every session can be finished,
+-- copies are forks, calls may be cut, and what is squeezed is what the buffer holds, elements below p.
 -- `start`, `absorb`, `squeeze` and `finish` are those that the contracts of `session` cite.
 use mathlib.Core.Path.{_≡_, sym, _∙_}
 use mathlib.Core.Bool.{true}
@@ -22,16 +22,15 @@ use Rattle.session.specs.Calls.{start, absorb, squeeze, squeezeBuffer}
 use Rattle.session.specs.declared.Session.{Session}
 use Rattle.session.proofs.SoundRecord.{parts}
 use Rattle.counters.proofs.Bounds.{positions-bound}
-use Rattle.runs.specs.Calls.{Call, SQUEEZE, answered, accepts, left, leftBy, OpenAt, OpenLike, absorbed, squeezedIn, squeezed}
+use Rattle.runs.specs.Calls.{Call, SQUEEZE, answered, accepts, left, leftBy, absorbed, squeezedIn, squeezed, withState}
 use Rattle.runs.specs.Lengths.{absorbLength}
-use Rattle.runs.specs.Runs.{Run, patternOf, absorbedOf, permutationsOf}
+use Rattle.runs.specs.Runs.{Run, absorbedOf, permutationsOf}
 use Rattle.runs.proofs.SoundCalls.{sound-left}
 use Rattle.runs.proofs.Opened.{start-open, start-sound, sound-run}
 use Rattle.runs.proofs.Counted.{count-run, count-whole}
-use Rattle.runs.proofs.Compared.{all-absorbed}
 use Rattle.runs.proofs.Finishing.{finishable}
 use Rattle.runs.proofs.Reached.{place-reached, end-reached}
-use Rattle.runs.proofs.SoundPlaces.{pattern-opens, like-reached}
+use Rattle.runs.proofs.SoundPlaces.{pattern-opens, record-reached}
 use Rattle.runs.proofs.Forks.{left-by-append, absorbed-append, squeezed-append}
 use Rattle.runs.proofs.SqueezedElements.{squeezed-reduced}
 use Rattle.runs.proofs.Cuts.{absorb-part, absorb-cut, squeeze-part, squeeze-cut, squeezed-cut}
@@ -63,20 +62,29 @@ pub count-of-session : (a : Run) → permutationsOf a ≡ permutationsAt (merged
 count-of-session = count-whole
 
 -- Every place of an accepted pattern is reached: some calls lead START's record to an open record in any phase, with any number of elements
--- below that phase's length done, and some to one after the last phase.
-pub every-place-is-reached : (o : Opening) → start o .number ≡ accepted
-    → ((phase done : ℕ) → phase < length (mergedWords (o .words)) → done < lengthOf (getD (mergedWords (o .words)) phase 0)
-    → (cs : List Call) × OpenAt (leftBy (start o .session) cs) phase done)
-    × ((cs : List Call) × OpenAt (leftBy (start o .session) cs) (length (mergedWords (o .words))) 0)
-every-place-is-reached o e =
-    (λ phase done h l. place-reached o e phase done h l, end-reached o e)
+-- below that phase's length done,
+pub every-place-is-reached : (o : Opening) → start o .number ≡ accepted → (phase done : ℕ)
+    → phase < length (mergedWords (o .words)) → done < lengthOf (getD (mergedWords (o .words)) phase 0)
+    → (cs : List Call) × (let r = leftBy (start o .session) cs in (r .status ≡ opened) × (r .phase ≡ phase) × (r .done ≡ done))
+every-place-is-reached o e phase done h l =
+    let reached = place-reached o e phase done h l in
+    (reached .0, (reached .1 .opens, reached .1 .phase, reached .1 .done))
 
--- "count and positions are those the steps give at that place": START takes the words of a sound record, and some calls then lead to an open
--- record that is like it in all but the state. (Words are of 32 bits in every record that a caller can hand over.)
-pub sound-records-are-reached : (r : Session) → ((k : ℕ) → getD (r .words) k 0 < 4294967296) → sound r ≡ true
+-- and some to one after the last phase.
+pub every-end-is-reached : (o : Opening) → start o .number ≡ accepted
+    → (cs : List Call)
+    × (let r = leftBy (start o .session) cs in (r .status ≡ opened) × (r .phase ≡ length (mergedWords (o .words))) × (r .done ≡ 0))
+every-end-is-reached o e =
+    let reached = end-reached o e in
+    (reached .0, (reached .1 .opens, reached .1 .phase, reached .1 .done))
+
+-- "count and positions are those the steps give at that place": START takes the words of an open sound record, and some calls then lead to a
+-- record that is this one in all but the state. (Words are of 32 bits, and 64, in every record that a caller can hand over.)
+pub sound-records-are-reached : (r : Session) → ((k : ℕ) → getD (r .words) k 0 < 4294967296) → length (r .words) ≡ 64
+    → r .status ≡ opened → sound r ≡ true
     → let o = opening (take (r .count) (r .words)) [] in
-    (start o .number ≡ accepted) × ((cs : List Call) × OpenLike (leftBy (start o .session) cs) r)
-sound-records-are-reached r fits e = (pattern-opens r fits (parts r e), like-reached r fits (parts r e))
+    (start o .number ≡ accepted) × ((cs : List Call) × (withState (r .state) (leftBy (start o .session) cs) ≡ r))
+sound-records-are-reached r fits long opens e = (pattern-opens r fits (parts r e), record-reached r fits (parts r e) opens long)
 
 -- "an absorb and a squeeze position (0 to 8)": neither position of a sound record is above 8.
 pub positions-are-0-to-8 : (r : Session) → sound r ≡ true → (r .«absorb_position» ≤ 8) × (r .«squeeze_position» ≤ 8)
@@ -85,10 +93,6 @@ positions-are-0-to-8 r e =
     let bound = positions-bound (r .words) (r .phase) (r .done) in
     (omega (arith, s .absorbs-at, bound .absorbs), omega (arith, s .squeezes-at, bound .squeezes))
 
--- A finished session has absorbed exactly as many elements as its ABSORB phases have, so its blocks hold all of them.
-pub all-is-absorbed : (a : Run) → length (absorbedOf a) ≡ absorbLength (patternOf a)
-all-is-absorbed = all-absorbed
-
 -- Every opened session can be finished by some list of calls, whatever elements below p it is to absorb.
 pub every-session-finishes : (o : Opening) (xs : List ℕ) → start o .number ≡ accepted
     → length xs ≡ absorbLength (phases (o .words)) → all isElement xs ≡ true
@@ -96,7 +100,8 @@ pub every-session-finishes : (o : Opening) (xs : List ℕ) → start o .number �
 every-session-finishes = finishable
 
 -- "A copied record is a fork. Each copy goes on by itself." "A fork's list is that of its original up to the copying, then its own calls.":
--- what the later calls ds do, absorb and squeeze depends on the copied record alone.
+-- what the later calls ds do, absorb and squeeze is what they do to the copied record. (It holds of whatever is folded over calls: a call gets
+-- the record, and nothing else.)
 pub copies-are-forks : (r : Session) (cs ds : List Call)
     → (leftBy r (cs ++ ds) ≡ leftBy (leftBy r cs) ds)
     × (absorbed r (cs ++ ds) ≡ absorbed r cs ++ absorbed (leftBy r cs) ds)

@@ -25,7 +25,7 @@ use Rattle.session.specs.Calls.{giving, startRecord, start}
 use Rattle.session.specs.declared.Session.{Session}
 use Rattle.session.specs.declared.Answer.{Answer}
 use Rattle.session.proofs.SoundRecord.{phaseWord, Sound, parts, whole, element-left}
-use Rattle.runs.specs.Calls.{Call, ABSORB, SQUEEZE, answered, left, leftBy, OpenAt}
+use Rattle.runs.specs.Calls.{Call, ABSORB, SQUEEZE, answered, left, leftBy}
 use Rattle.runs.proofs.Places.{next-place}
 use Rattle.session.proofs.Numbers.{Takes}
 use Rattle.runs.proofs.Outcomes.{absorb-accepted, squeeze-accepted}
@@ -33,6 +33,12 @@ use Rattle.runs.proofs.Opened.{start-open, start-record, sound-run}
 use Rattle.runs.proofs.SamePattern.{same-left-by}
 use Rattle.runs.proofs.Counted.{start-words, start-count}
 use Rattle.runs.proofs.Forks.{left-by-append}
+
+-- an open record that is at a place of its pattern: in a phase, with so many elements of it done
+pub record OpenAt (r : Session) (phaseNumber elementsDone : ℕ) : Type 0 where
+  pub opens : r .status ≡ opened
+  pub phase : r .phase ≡ phaseNumber
+  pub done : r .done ≡ elementsDone
 
 -- a call of one element, of the kind of the phase
 module _ (r : Session) (o : eqb (r .status) opened ≡ true) (s : Sound r) (h : r .phase < r .count) where

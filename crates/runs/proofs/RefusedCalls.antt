@@ -1,4 +1,4 @@
--- Refused calls in a list that ends in an accepted FINISH: number 10 may be among them, and no other.
+-- The lists of calls that end in an accepted FINISH: of refused calls those with number 10 may be among them, and no other.
 -- Assumes nothing.
 use mathlib.Core.Path.{_≡_, refl, sym, ap, subst, _∙_}
 use mathlib.Core.Bool.{Bool, true, false}
@@ -33,6 +33,11 @@ use Rattle.runs.specs.Runs.{Run, startedOf}
 use Rattle.runs.proofs.Opened.{start-open, start-record, start-sound}
 use Rattle.runs.proofs.Forks.{left-by-append}
 use Rattle.runs.proofs.Trace.{wiped-not-finished}
+
+-- a list of calls that START and an accepted FINISH enclose, whichever it is
+pub enclosed : (o : Opening) (cs : List Call) → start o .number ≡ accepted → finish (leftBy (start o .session) cs) .number ≡ accepted
+    → (a : Run) × (a .opening ≡ o) × (a .before ≡ cs)
+enclosed o cs e f = (record { opening = o; before = cs; opens = e; ends = f }, refl, refl)
 
 -- ---- a record that is not open, or open and not sound, is refused every call and left as it is
 

@@ -7,8 +7,8 @@ use Prim.Native.Nat.{ℕ, zero, suc, _-_, _<_}
 use native.Mathlib.Omega.{arith}
 use borrow.Author.Tests.{ltb-true, ltb-false, eqb-true, eq-eqb}
 use lib.Dec.{ltb, eqb}
-use lib.ListN.{length, getD, take, drop}
-use lib.Seq.{length-take-le}
+use lib.ListN.{length, getD, take, drop, replicate, length-append, length-replicate}
+use lib.Seq.{length-take-le, ext-getD}
 use Rattle.basics.specs.Logic.{all}
 use Rattle.basics.specs.Numbers.{accepted}
 use Rattle.basics.proofs.Cases.{cases, and-left, and-right}
@@ -17,16 +17,17 @@ use Rattle.words.specs.Words.{lengthOf}
 use Rattle.pattern.specs.Pattern.{mergedWords}
 use Rattle.counters.specs.Permutations.{permutationsAt}
 use Rattle.pattern.proofs.MergedWords.{sound-merged, sound-accepted}
-use Rattle.counters.specs.Positions.{positionsAfter, positionsAt}
+use Rattle.counters.specs.Positions.{positionsAt}
 use Rattle.pattern.specs.Opening.{opening}
+use Rattle.session.specs.Record.{opened}
 use Rattle.session.specs.Calls.{start}
 use Rattle.session.specs.declared.Session.{Session}
 use Rattle.session.proofs.SoundRecord.{Sound, parts, element-left, none-done}
-use Rattle.runs.specs.Calls.{Call, leftBy, OpenAt, OpenLike}
+use Rattle.runs.specs.Calls.{Call, leftBy, withState}
 use Rattle.runs.proofs.Opened.{accepted-start, sound-run}
 use Rattle.runs.proofs.SamePattern.{same-left-by}
-use Rattle.runs.proofs.Counted.{permutations-same, start-words, start-count}
-use Rattle.runs.proofs.Reached.{place-reached, end-reached}
+use Rattle.runs.proofs.Counted.{start-words, start-count}
+use Rattle.runs.proofs.Reached.{OpenAt, place-reached, end-reached}
 
 -- words behind which all are 0 read as the whole list does
 used-words : (n : ℕ) (ws : List ℕ) → all (λ w. eqb w 0) (drop n ws) ≡ true → (k : ℕ) → getD ws k 0 ≡ getD (take n ws) k 0
@@ -37,13 +38,6 @@ used-words zero (w ∷ ws) e (suc k) = used-words zero ws (and-right _ _ e) k
 used-words (suc n) [] e k = refl
 used-words (suc n) (w ∷ ws) e zero = refl
 used-words (suc n) (w ∷ ws) e (suc k) = used-words n ws e k
-
--- positions depend on the words at each place alone
-positions-same : (vs ws : List ℕ) → ((k : ℕ) → getD vs k 0 ≡ getD ws k 0) → (phase done : ℕ) → positionsAt vs phase done ≡ positionsAt ws phase done
-unfolding positionsAt
-positions-same vs ws h phase (suc d) = ap (λ (w : ℕ). positionsAfter w (suc d)) (h phase)
-positions-same vs ws h (suc k) zero = ap (λ (w : ℕ). positionsAfter w (lengthOf w)) (h k)
-positions-same vs ws h zero zero = refl
 
 module _ (r : Session) (fits : (k : ℕ) → getD (r .words) k 0 < 4294967296) (s : Sound r) where
   abbrev pattern : List ℕ
@@ -77,30 +71,43 @@ module _ (r : Session) (fits : (k : ℕ) → getD (r .words) k 0 < 4294967296) (
       let ended : r .phase ≡ r .count = omega arith in
       rw (ended ∙ sym words-merged, none-done r s ended) (end-reached (opening pattern []) pattern-opens)
 
-  pub like-reached : (cs : List Call) × OpenLike (leftBy (start (opening pattern []) .session) cs) r
-  like-reached =
-      let cs = reached .0 in
-      let at = reached .1 in
-      let t = leftBy (start (opening pattern []) .session) cs in
-      let o = eq-eqb _ _ (at .opens) in
-      let sounds = parts t (sound-run (opening pattern []) pattern-opens cs o) in
-      let same = same-left-by (start (opening pattern []) .session) cs o in
-      let words : (k : ℕ) → getD (t .words) k 0 ≡ getD (r .words) k 0 = λ k.
-      ap (λ (ws : List ℕ). getD ws k 0) (same .words ∙ start-words (opening pattern []) pattern-opens)
-      ∙ zeros-behind (mergedWords pattern) (64 - length (mergedWords pattern)) k
-      ∙ word-merged k in
-      let positions : positionsAt (t .words) (t .phase) (t .done) ≡ positionsAt (r .words) (r .phase) (r .done) =
-      positions-same _ _ words (t .phase) (t .done) ∙ (λ i. positionsAt (r .words) (at .phase i) (at .done i)) in (
-        cs,
-        record {
-          place = at;
-          count = same .count ∙ start-count (opening pattern []) pattern-opens ∙ words-merged;
-          words = words;
-          absorbs-at = sounds .absorbs-at ∙ (λ i. positions i .absorb) ∙ sym (s .absorbs-at);
-          squeezes-at = sounds .squeezes-at ∙ (λ i. positions i .squeeze) ∙ sym (s .squeezes-at);
-          permutations = sounds .counted
-              ∙ permutations-same _ _ words (t .phase) (t .done)
-              ∙ (λ i. permutationsAt (r .words) (at .phase i) (at .done i))
-              ∙ sym (s .counted);
-        },
-      )
+  module _ (opens : r .status ≡ opened) (places : length (r .words) ≡ 64) where
+    -- the record that calls lead to, with the state of this one, is this one
+    pub record-reached : (cs : List Call) × (withState (r .state) (leftBy (start (opening pattern []) .session) cs) ≡ r)
+    unfolding withState
+    record-reached =
+        let cs = reached .0 in
+        let at = reached .1 in
+        let t = leftBy (start (opening pattern []) .session) cs in
+        let o = eq-eqb _ _ (at .opens) in
+        let sounds = parts t (sound-run (opening pattern []) pattern-opens cs o) in
+        let same = same-left-by (start (opening pattern []) .session) cs o in
+        let all-words = same .words ∙ start-words (opening pattern []) pattern-opens in
+        let unused = 64 - length (mergedWords pattern) in
+        let word : (k : ℕ) → getD (t .words) k 0 ≡ getD (r .words) k 0 = λ k.
+        ap (λ (ws : List ℕ). getD ws k 0) all-words ∙ zeros-behind (mergedWords pattern) unused k ∙ word-merged k in
+        let long : length (t .words) ≡ length (r .words) =
+        ap length all-words
+        ∙ length-append (mergedWords pattern) (replicate unused 0)
+        ∙ omega (arith, length-replicate {A = ℕ} unused 0, words-merged, s .long) in
+        let words = ext-getD 0 (t .words) (r .words) long (λ k _. word k) in
+        let positions : positionsAt (t .words) (t .phase) (t .done) ≡ positionsAt (r .words) (r .phase) (r .done) =
+        λ i. positionsAt (words i) (at .phase i) (at .done i) in
+        let absorbs-at = sounds .absorbs-at ∙ (λ i. positions i .absorb) ∙ sym (s .absorbs-at) in
+        let squeezes-at = sounds .squeezes-at ∙ (λ i. positions i .squeeze) ∙ sym (s .squeezes-at) in
+        let counted = sounds .counted ∙ (λ i. permutationsAt (words i) (at .phase i) (at .done i)) ∙ sym (s .counted) in
+        let count = same .count ∙ start-count (opening pattern []) pattern-opens ∙ words-merged in
+        let status = at .opens ∙ sym opens in (
+          cs,
+          λ i. record {
+            status = status i;
+            state = r .state;
+            words = words i;
+            count = count i;
+            phase = at .phase i;
+            done = at .done i;
+            «absorb_position» = absorbs-at i;
+            «squeeze_position» = squeezes-at i;
+            permutations = counted i;
+          },
+        )

@@ -1,14 +1,12 @@
 -- Lists of calls on one record. From document 01, "What the third demand compares": "Among the calls an ABSORB stands with its lent list, a
 -- SQUEEZE with its buffer's length."
-use mathlib.Core.Path.{_≡_}
 use mathlib.Core.Bool.{Bool}
 use mathlib.Core.List.{List, [], _∷_, _++_}
 use Prim.Native.Nat.{ℕ}
 use lib.Dec.{eqb}
-use lib.ListN.{getD}
 use Rattle.basics.specs.Logic.{if_then_else_}
 use Rattle.basics.specs.Numbers.{accepted}
-use Rattle.session.specs.Record.{opened, squeezedAll}
+use Rattle.session.specs.Record.{squeezedAll}
 use Rattle.session.specs.Calls.{absorb, squeeze, finish}
 use Rattle.session.specs.declared.Session.{Session}
 use Rattle.session.specs.declared.Answer.{Answer}
@@ -38,21 +36,6 @@ unfoldable pub leftBy : Session → List Call → Session
 leftBy r [] = r
 leftBy r (c ∷ cs) = leftBy (left r c) cs
 
--- an open record that is at a place of its pattern: in a phase, with so many elements of it done
-pub record OpenAt (r : Session) (phaseNumber elementsDone : ℕ) : Type 0 where
-  pub opens : r .status ≡ opened
-  pub phase : r .phase ≡ phaseNumber
-  pub done : r .done ≡ elementsDone
-
--- an open record that is like another in all but the state: in its words, its place, its positions and its count of permutations
-pub record OpenLike (t r : Session) : Type 0 where
-  pub place : OpenAt t (r .phase) (r .done)
-  pub count : t .count ≡ r .count
-  pub words : (k : ℕ) → getD (t .words) k 0 ≡ getD (r .words) k 0
-  pub absorbs-at : t .«absorb_position» ≡ r .«absorb_position»
-  pub squeezes-at : t .«squeeze_position» ≡ r .«squeeze_position»
-  pub permutations : t .permutations ≡ r .permutations
-
 -- "Absorbed are the elements of the accepted ABSORB calls, in list order; a refused call adds none."
 unfoldable pub absorbedIn : Session → Call → List ℕ
 absorbedIn r (ABSORB xs) = if accepts r (ABSORB xs) then xs else []
@@ -74,3 +57,18 @@ squeezedIn r FINISH = []
 unfoldable pub squeezed : Session → List Call → List ℕ
 squeezed r [] = []
 squeezed r (c ∷ cs) = squeezedIn r c ++ squeezed (left r c) cs
+
+-- a record with another state, and all else as it was
+unfoldable pub withState : List ℕ → Session → Session
+withState state r =
+    record {
+      status = r .status;
+      state = state;
+      words = r .words;
+      count = r .count;
+      phase = r .phase;
+      done = r .done;
+      «absorb_position» = r .«absorb_position»;
+      «squeeze_position» = r .«squeeze_position»;
+      permutations = r .permutations;
+    }

@@ -1,0 +1,79 @@
+-- What the third demand compares, so that it says something: which lists of calls there are, that all of a pattern is absorbed and squeezed, and
+-- what blocks are.
+use mathlib.Core.Path.{_≡_, refl}
+use mathlib.Core.Bool.{true, false}
+use mathlib.Core.List.{List, [], _∷_, _++_}
+use mathlib.Core.Logic.{_⊎_}
+use Prim.Native.Nat.{ℕ}
+use lib.Dec.{eqb}
+use lib.ListN.{length, take, drop, replicate}
+use Rattle.basics.specs.Logic.{if_then_else_, same, all}
+use Rattle.basics.specs.Numbers.{accepted, elementNotReduced}
+use Rattle.field.specs.Field.{isElement}
+use Rattle.words.specs.Words.{isAbsorb, lengthOf, phaseOf}
+use Rattle.pattern.specs.Pattern.{join, merge, phases}
+use Rattle.pattern.specs.Opening.{Opening}
+use Rattle.counters.specs.Permutations.{blockCount}
+use Rattle.session.specs.Calls.{start, finish}
+use Rattle.runs.specs.Calls.{Call, ABSORB, answered, leftBy}
+use Rattle.runs.specs.Blocks.{eights, blocks, blockTotal, heldBy}
+use Rattle.runs.specs.Lengths.{absorbLength, squeezeLength}
+use Rattle.runs.specs.Runs.{Run, startedOf, patternOf, absorbedOf, squeezedOf, blocksOf}
+use Rattle.runs.proofs.Compared.{all-absorbed, all-squeezed}
+use Rattle.runs.proofs.BlockLists.{blocks-long, blocks-total, blocks-held}
+use Rattle.runs.proofs.RefusedCalls.{enclosed, calls-inside, refused-first}
+
+-- ---- lists of calls
+
+-- "a list of ABSORB, SQUEEZE and FINISH calls, refused ones included, that ends in an accepted FINISH": every list of calls that START and an
+-- accepted FINISH enclose is that of a run.
+pub every-list-is-a-run : (o : Opening) (cs : List Call) → start o .number ≡ accepted → finish (leftBy (start o .session) cs) .number ≡ accepted
+    → (a : Run) × (a .opening ≡ o) × (a .before ≡ cs)
+every-list-is-a-run = enclosed
+
+-- "refused ones included": whatever run there is, there is one more that begins with an ABSORB which is refused.
+pub refused-calls-are-included : (a : Run) (x : ℕ) → isElement x ≡ false
+    → (b : Run) × (b .opening ≡ a .opening) × (b .before ≡ ABSORB (x ∷ []) ∷ a .before)
+    × (answered (startedOf b) (ABSORB (x ∷ [])) .number ≡ elementNotReduced)
+refused-calls-are-included = refused-first
+
+-- It has to be number 10: a call of a run, whichever it is, is accepted or gets 10. (The others leave no record that FINISH accepts later.)
+pub refused-with-10-alone : (a : Run) (cs : List Call) (c : Call) (ds : List Call) → a .before ≡ cs ++ (c ∷ ds)
+    → let r = leftBy (startedOf a) cs in
+    (answered r c .number ≡ accepted) ⊎ (answered r c .number ≡ elementNotReduced)
+refused-with-10-alone = calls-inside
+
+-- ---- what is absorbed and squeezed
+
+-- A finished session has absorbed exactly as many elements as its ABSORB phases have,
+pub all-is-absorbed : (a : Run) → length (absorbedOf a) ≡ absorbLength (patternOf a)
+all-is-absorbed = all-absorbed
+
+-- and squeezed exactly as many as its SQUEEZE phases have.
+pub all-is-squeezed : (a : Run) → length (squeezedOf a) ≡ squeezeLength (patternOf a)
+all-is-squeezed = all-squeezed
+
+-- These lengths for the pattern ABSORB 8, SQUEEZE 8, ABSORB 1, SQUEEZE 2: 9 and 10.
+pub lengths-of-a-pattern : let ps = phases (0x80000008 ∷ 8 ∷ 0x80000001 ∷ 2 ∷ []) in (absorbLength ps ≡ 9) × (squeezeLength ps ≡ 10)
+unfolding phases merge join phaseOf isAbsorb lengthOf absorbLength squeezeLength if_then_else_ same
+lengths-of-a-pattern = (refl, refl)
+
+-- ---- blocks
+
+-- "A block is eight neighbouring absorbed elements": each has eight,
+pub blocks-have-eight : (a : Run) → all (λ block. eqb (length block) 8) (blocksOf a) ≡ true
+blocks-have-eight a = blocks-long (patternOf a) (absorbedOf a)
+
+-- there are ceil(n/8) of them for each ABSORB phase of n elements,
+pub blocks-are-counted : (a : Run) → length (blocksOf a) ≡ blockTotal (patternOf a)
+blocks-are-counted a = blocks-total (patternOf a) (absorbedOf a)
+
+-- and those of each phase, laid side by side and cut to the phase's length, are what it absorbed.
+pub blocks-hold-the-absorbed : (a : Run) → heldBy (patternOf a) (blocksOf a) ≡ absorbedOf a
+blocks-hold-the-absorbed a = blocks-held (patternOf a) (absorbedOf a) (all-absorbed a)
+
+-- Nine elements are two blocks; and those of another phase begin a block of their own.
+pub nine-are-two-blocks : blocks (phases (0x80000009 ∷ 1 ∷ 0x80000001 ∷ 1 ∷ [])) (1 ∷ 2 ∷ 3 ∷ 4 ∷ 5 ∷ 6 ∷ 7 ∷ 8 ∷ 9 ∷ 10 ∷ [])
+    ≡ (1 ∷ 2 ∷ 3 ∷ 4 ∷ 5 ∷ 6 ∷ 7 ∷ 8 ∷ []) ∷ (9 ∷ 0 ∷ 0 ∷ 0 ∷ 0 ∷ 0 ∷ 0 ∷ 0 ∷ []) ∷ (10 ∷ 0 ∷ 0 ∷ 0 ∷ 0 ∷ 0 ∷ 0 ∷ 0 ∷ []) ∷ []
+unfolding phases merge join phaseOf isAbsorb lengthOf blocks eights blockCount if_then_else_ same
+nine-are-two-blocks = refl
