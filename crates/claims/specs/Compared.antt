@@ -21,7 +21,7 @@ use Rattle.runs.specs.Lengths.{absorbLength, squeezeLength}
 use Rattle.runs.specs.Runs.{Run, startedOf, patternOf, absorbedOf, squeezedOf, blocksOf}
 use Rattle.runs.proofs.Compared.{all-absorbed, all-squeezed}
 use Rattle.runs.proofs.BlockLists.{blocks-long, blocks-total, blocks-held}
-use Rattle.runs.proofs.RefusedCalls.{enclosed, calls-inside, refused-first}
+use Rattle.runs.proofs.EnclosedCalls.{enclosed, calls-inside, refused-first}
 
 -- ---- lists of calls
 

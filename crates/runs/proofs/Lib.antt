@@ -13,8 +13,8 @@ pub mod Trace
 pub mod WholePattern
 pub mod BlockLists
 pub mod Compared
+pub mod EnclosedCalls
 pub mod Finishing
-pub mod RefusedCalls
 pub mod Reached
 pub mod SoundPlaces
 pub mod Cuts
