@@ -1,5 +1,6 @@
--- The records that START gives to the patterns of document 01's samples B4 to B7, with their digests computed. SHA3-256 of one tag string
--- takes the checker about ten seconds, so these stand in a crate of their own, which is not checked again when the samples change.
+-- The records that START gives to the words of document 01's samples B4 to B7, with their digests computed: a part of the proof of the samples,
+-- which state these words themselves. SHA3-256 of one tag string takes the checker about ten seconds, so that the computations stand in a crate of
+-- their own, which is not checked again when the samples change.
 use mathlib.Core.Path.{_≡_, refl}
 use mathlib.Core.List.{List, [], _∷_}
 use Prim.Native.Nat.{ℕ}
@@ -20,7 +21,7 @@ use Rattle.session.specs.Calls.{giving, startRecord, start}
 use Rattle.session.specs.declared.Session.{Session}
 
 -- the record that START gives to words and the empty separator; to unfold it is to unfold all that its computation goes through
-unfoldable pub startedRecord : List ℕ → Session
+unfoldable startedRecord : List ℕ → Session
 unfolding start giving startRecord openRecord tagState
     all any _and_ _or_ if_then_else_ same tabulate sum digits number numberAfter
     isAbsorb lengthOf phaseOf wordOf join merge phases mergedWords tooLong startNumber startRows wordRows firstNumber wordBytes stringOf tagString wordAt tagElements
@@ -29,54 +30,34 @@ unfolding start giving startRecord openRecord tagState
     keccak.round keccak.rounds keccak.permutation offsets roundConstants
 startedRecord ws = start (opening ws []) .session
 
--- the words of B4: "ABSORB 8, SQUEEZE 1"
-unfoldable pub words4 : List ℕ
-words4 = 0x80000008 ∷ 1 ∷ []
-
--- the record of B4, with its tag elements computed
+-- the record of the words of B4, with the elements of their tag
 unfoldable pub record4 : Session
-record4 = openRecord (tagState (428149845 ∷ 12180626 ∷ 512510949 ∷ 364062899 ∷ 130316680 ∷ 543458101 ∷ 1034516603 ∷ 309143001 ∷ [])) words4
+record4 = openRecord (tagState (428149845 ∷ 12180626 ∷ 512510949 ∷ 364062899 ∷ 130316680 ∷ 543458101 ∷ 1034516603 ∷ 309143001 ∷ [])) (0x80000008 ∷ 1 ∷ [])
 
--- START gives that record to B4's words.
-pub opening4 : startedRecord words4 ≡ record4
-unfolding startedRecord words4 record4
-opening4 = refl
+pub started4 : start (opening (0x80000008 ∷ 1 ∷ []) []) .session ≡ record4
+unfolding startedRecord record4
+started4 = refl
 
--- the words of B5: "9 and 1"
-unfoldable pub words5 : List ℕ
-words5 = 0x80000009 ∷ 1 ∷ []
-
--- the record of B5, with its tag elements computed
+-- the record of the words of B5, with the elements of their tag
 unfoldable pub record5 : Session
-record5 = openRecord (tagState (85647870 ∷ 98761955 ∷ 15749974 ∷ 142315807 ∷ 696686023 ∷ 357790836 ∷ 298503356 ∷ 48769929 ∷ [])) words5
+record5 = openRecord (tagState (85647870 ∷ 98761955 ∷ 15749974 ∷ 142315807 ∷ 696686023 ∷ 357790836 ∷ 298503356 ∷ 48769929 ∷ [])) (0x80000009 ∷ 1 ∷ [])
 
--- START gives that record to B5's words.
-pub opening5 : startedRecord words5 ≡ record5
-unfolding startedRecord words5 record5
-opening5 = refl
+pub started5 : start (opening (0x80000009 ∷ 1 ∷ []) []) .session ≡ record5
+unfolding startedRecord record5
+started5 = refl
 
--- the words of B6: "1 and 9"
-unfoldable pub words6 : List ℕ
-words6 = 0x80000001 ∷ 9 ∷ []
-
--- the record of B6, with its tag elements computed
+-- the record of the words of B6, with the elements of their tag
 unfoldable pub record6 : Session
-record6 = openRecord (tagState (792278498 ∷ 865313857 ∷ 977898485 ∷ 843031537 ∷ 703915831 ∷ 827443881 ∷ 800229420 ∷ 1054256756 ∷ [])) words6
+record6 = openRecord (tagState (792278498 ∷ 865313857 ∷ 977898485 ∷ 843031537 ∷ 703915831 ∷ 827443881 ∷ 800229420 ∷ 1054256756 ∷ [])) (0x80000001 ∷ 9 ∷ [])
 
--- START gives that record to B6's words.
-pub opening6 : startedRecord words6 ≡ record6
-unfolding startedRecord words6 record6
-opening6 = refl
+pub started6 : start (opening (0x80000001 ∷ 9 ∷ []) []) .session ≡ record6
+unfolding startedRecord record6
+started6 = refl
 
--- the words of B7: "8, 8, 1, 1, kinds alternating"
-unfoldable pub words7 : List ℕ
-words7 = 0x80000008 ∷ 8 ∷ 0x80000001 ∷ 1 ∷ []
-
--- the record of B7, with its tag elements computed
+-- the record of the words of B7, with the elements of their tag
 unfoldable pub record7 : Session
-record7 = openRecord (tagState (474420294 ∷ 269102976 ∷ 1041140285 ∷ 746591247 ∷ 352671062 ∷ 218677777 ∷ 826832901 ∷ 480975037 ∷ [])) words7
+record7 = openRecord (tagState (474420294 ∷ 269102976 ∷ 1041140285 ∷ 746591247 ∷ 352671062 ∷ 218677777 ∷ 826832901 ∷ 480975037 ∷ [])) (0x80000008 ∷ 8 ∷ 0x80000001 ∷ 1 ∷ [])
 
--- START gives that record to B7's words.
-pub opening7 : startedRecord words7 ≡ record7
-unfolding startedRecord words7 record7
-opening7 = refl
+pub started7 : start (opening (0x80000008 ∷ 8 ∷ 0x80000001 ∷ 1 ∷ []) []) .session ≡ record7
+unfolding startedRecord record7
+started7 = refl

@@ -1,4 +1,4 @@
--- Document 01's proved samples, as a single list that one computed test covers.
+-- Document 01's proved samples, as a single list that one test covers; the digests of B4 to B7 are computed beside it (`sample_records`).
 use mathlib.Core.Path.{_≡_, refl, _∙_}
 use mathlib.Core.Bool.{Bool, true, false}
 use mathlib.Core.List.{List, [], _∷_, _++_}
@@ -25,11 +25,10 @@ use Rattle.session.specs.Record.{absorbOne, squeezeOne, squeezedOne, absorbAll,
 use Rattle.counters.specs.Positions.{inLastBlock, positionsAfter, positionsAt}
 use Rattle.progress.specs.Place.{soundPlace, inPattern, nextPlace}
 use Rattle.session.specs.Soundness.{sound}
-use Rattle.session.specs.Calls.{giving, recordRows, callRows, absorbRows, finishRows, wipes, answerOf, absorb, squeeze, finish}
+use Rattle.session.specs.Calls.{giving, recordRows, callRows, absorbRows, finishRows, wipes, answerOf, start, absorb, squeeze, finish}
 use Rattle.session.specs.declared.Session.{Session}
 use Rattle.runs.specs.Calls.{Call, ABSORB, SQUEEZE, answered, left, leftBy}
-use Rattle.sample_records.specs.SampleRecords.{words4, words5, words6, words7, startedRecord, record4, record5, record6, record7}
-use Rattle.sample_records.specs.SampleRecords.{opening4, opening5, opening6, opening7}
+use Rattle.sample_records.specs.SampleRecords.{record4, record5, record6, record7, started4, started5, started6, started7}
 
 -- two lists are equal
 sameList : List ℕ → List ℕ → Bool
@@ -67,18 +66,30 @@ byCalls : Session → List Call → List ℕ
 byCalls r cs = let t = leftBy r cs in t .permutations ∷ finish t .number ∷ []
 
 -- "B4 ABSORB 8, SQUEEZE 1: 1 permutation.", by the formula, and by running the calls on the record that START gives
+words4 : List ℕ
+words4 = 0x80000008 ∷ 1 ∷ []
+
 b4 : Session → List Bool
 b4 r = eqb (fullPermutations words4) 1 ∷ sameList (byCalls r (ABSORB (replicate 8 5) ∷ SQUEEZE 1 ∷ [])) (1 ∷ accepted ∷ []) ∷ []
 
 -- "B5 9 and 1: 2."
+words5 : List ℕ
+words5 = 0x80000009 ∷ 1 ∷ []
+
 b5 : Session → List Bool
 b5 r = eqb (fullPermutations words5) 2 ∷ sameList (byCalls r (ABSORB (replicate 9 5) ∷ SQUEEZE 1 ∷ [])) (2 ∷ accepted ∷ []) ∷ []
 
 -- "B6 1 and 9: 2."
+words6 : List ℕ
+words6 = 0x80000001 ∷ 9 ∷ []
+
 b6 : Session → List Bool
 b6 r = eqb (fullPermutations words6) 2 ∷ sameList (byCalls r (ABSORB (5 ∷ []) ∷ SQUEEZE 9 ∷ [])) (2 ∷ accepted ∷ []) ∷ []
 
 -- "B7 8, 8, 1, 1, kinds alternating: 2."
+words7 : List ℕ
+words7 = 0x80000008 ∷ 8 ∷ 0x80000001 ∷ 1 ∷ []
+
 b7 : Session → List Bool
 b7 r =
     eqb (fullPermutations words7) 2
@@ -110,9 +121,13 @@ b10 = sameList (tagElements (replicate 32 0xff)) (replicate 8 1073741823) ∷ []
 samplesWith : Session → Session → Session → Session → List Bool
 samplesWith r4 r5 r6 r7 = b1 ++ b2 ++ b3 ++ b4 r4 ++ b5 r5 ++ b6 r6 ++ b7 r7 ++ b8 ++ b9 ++ b10
 
--- the tests of B1 to B10, where B4 to B7 run on the records that START gives to their patterns
+-- the record that START gives to words and the empty separator
+started : List ℕ → Session
+started ws = start (opening ws []) .session
+
+-- the tests of B1 to B10, where B4 to B7 run on the records that START gives to their words
 pub samples : List Bool
-samples = samplesWith (startedRecord words4) (startedRecord words5) (startedRecord words6) (startedRecord words7)
+samples = samplesWith (started words4) (started words5) (started words6) (started words7)
 
 -- The tests pass on the records with computed digests.
 computed : all (λ sample. sample) (samplesWith record4 record5 record6 record7) ≡ true
@@ -129,5 +144,5 @@ computed = refl
 
 -- Every test of every sample passes.
 pub samples-hold : all (λ sample. sample) samples ≡ true
-unfolding samples
-samples-hold = (λ i. all (λ sample. sample) (samplesWith (opening4 i) (opening5 i) (opening6 i) (opening7 i))) ∙ computed
+unfolding samples started words4 words5 words6 words7
+samples-hold = (λ i. all (λ sample. sample) (samplesWith (started4 i) (started5 i) (started6 i) (started7 i))) ∙ computed
