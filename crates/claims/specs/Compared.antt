@@ -1,21 +1,23 @@
--- What the third demand compares, so that it says something: which lists of calls there are, that all of a pattern is absorbed and squeezed, and
--- what blocks are.
-use mathlib.Core.Path.{_≡_, refl}
+-- What the third demand compares, so that it says something: which lists of calls there are, what they absorb and squeeze, and what blocks are.
+use mathlib.Core.Path.{_≡_, refl, sym, _∙_}
 use mathlib.Core.Bool.{true, false}
 use mathlib.Core.List.{List, [], _∷_, _++_}
-use mathlib.Core.Logic.{_⊎_}
+use mathlib.Core.Logic.{_≢_, _⊎_}
 use Prim.Native.Nat.{ℕ}
+use borrow.Author.Tests.{eq-eqb, ne-eqb}
 use lib.Dec.{eqb}
-use lib.ListN.{length, take, drop, replicate}
+use lib.ListN.{length}
 use Rattle.basics.specs.Logic.{if_then_else_, same, all}
 use Rattle.basics.specs.Numbers.{accepted, elementNotReduced}
+use Rattle.basics.proofs.Cases.{if-true, if-false}
 use Rattle.field.specs.Field.{isElement}
 use Rattle.words.specs.Words.{isAbsorb, lengthOf, phaseOf}
 use Rattle.pattern.specs.Pattern.{join, merge, phases}
 use Rattle.pattern.specs.Opening.{Opening}
 use Rattle.counters.specs.Permutations.{blockCount}
-use Rattle.session.specs.Calls.{start, finish}
-use Rattle.runs.specs.Calls.{Call, ABSORB, answered, leftBy}
+use Rattle.session.specs.Calls.{start, absorb, squeeze, squeezeBuffer, finish}
+use Rattle.session.specs.declared.Session.{Session}
+use Rattle.runs.specs.Calls.{Call, ABSORB, SQUEEZE, FINISH, answered, accepts, left, leftBy, absorbedIn, absorbed, squeezedIn, squeezed}
 use Rattle.runs.specs.Blocks.{eights, blocks, blockTotal, heldBy}
 use Rattle.runs.specs.Lengths.{absorbLength, squeezeLength}
 use Rattle.runs.specs.Runs.{Run, startedOf, patternOf, absorbedOf, squeezedOf, blocksOf}
@@ -42,6 +44,39 @@ pub refused-with-10-alone : (a : Run) (cs : List Call) (c : Call) (ds : List Cal
     → let r = leftBy (startedOf a) cs in
     (answered r c .number ≡ accepted) ⊎ (answered r c .number ≡ elementNotReduced)
 refused-with-10-alone = calls-inside
+
+-- ---- what a call and a list of calls does
+
+-- A call answers what the contracts of `session` and `tuilarder` say of it.
+pub calls-answer : (r : Session) (xs : List ℕ) (n : ℕ)
+    → (answered r (ABSORB xs) ≡ absorb r xs) × (answered r (SQUEEZE n) ≡ squeeze r n) × (answered r FINISH ≡ finish r)
+unfolding answered
+calls-answer r xs n = (refl, refl, refl)
+
+-- "Absorbed are the elements of the accepted ABSORB calls, in list order; a refused call adds none."
+pub accepted-is-absorbed : (r : Session) (xs : List ℕ)
+    → (absorb r xs .number ≡ accepted → absorbedIn r (ABSORB xs) ≡ xs) × (absorb r xs .number ≢ accepted → absorbedIn r (ABSORB xs) ≡ [])
+unfolding absorbedIn accepts answered
+accepted-is-absorbed r xs = (λ e. if-true _ _ _ (eq-eqb _ _ e), λ n. if-false _ _ _ (ne-eqb _ _ n))
+
+-- "Squeezed are the elements that the accepted SQUEEZE calls wrote, in list order.": they are what the buffer then holds; and a refused one
+-- adds none.
+pub accepted-is-squeezed : (r : Session) (buffer : List ℕ)
+    → let n = length buffer in
+    (squeeze r n .number ≡ accepted → squeezedIn r (SQUEEZE n) ≡ squeezeBuffer r buffer)
+    × (squeeze r n .number ≢ accepted → squeezedIn r (SQUEEZE n) ≡ [])
+unfolding squeezeBuffer squeezedIn accepts answered
+accepted-is-squeezed r buffer =
+    (λ e. if-true _ _ _ (eq-eqb _ _ e) ∙ sym (if-true _ _ _ (eq-eqb _ _ e)), λ n. if-false _ _ _ (ne-eqb _ _ n))
+
+-- The first call of a list, and the others on the record that it leaves. An ABSORB squeezes nothing, a SQUEEZE absorbs nothing, and FINISH
+-- does neither.
+pub call-by-call : (r : Session) (c : Call) (cs : List Call)
+    → (leftBy r (c ∷ cs) ≡ leftBy (answered r c .session) cs)
+    × (absorbed r (c ∷ cs) ≡ absorbedIn r c ++ absorbed (answered r c .session) cs)
+    × (squeezed r (c ∷ cs) ≡ squeezedIn r c ++ squeezed (answered r c .session) cs)
+unfolding leftBy absorbed squeezed left
+call-by-call r c cs = (refl, refl, refl)
 
 -- ---- what is absorbed and squeezed
 

@@ -1,7 +1,7 @@
 -- Sessions: records stay sound, counts and positions are those of document 01 at every place of a pattern, every session can be finished,
--- copies are forks, calls may be cut, and what is squeezed is what the buffer holds, elements below p.
+-- copies are forks, calls may be cut, and what is squeezed are elements below p.
 -- `start`, `absorb`, `squeeze` and `finish` are those that the contracts of `session` cite.
-use mathlib.Core.Path.{_≡_, sym, _∙_}
+use mathlib.Core.Path.{_≡_}
 use mathlib.Core.Bool.{true}
 use mathlib.Core.List.{List, [], _++_}
 use Prim.Native.Nat.{ℕ, _+_, _≤_, _<_}
@@ -10,7 +10,6 @@ use borrow.Author.Tests.{eqb-true, eq-eqb}
 use lib.ListN.{length, getD, take}
 use Rattle.basics.specs.Logic.{all}
 use Rattle.basics.specs.Numbers.{accepted}
-use Rattle.basics.proofs.Cases.{if-true}
 use Rattle.field.specs.Field.{isElement}
 use Rattle.words.specs.Words.{lengthOf}
 use Rattle.pattern.specs.Pattern.{phases, mergedWords}
@@ -18,11 +17,11 @@ use Rattle.counters.specs.Permutations.{permutationsAt}
 use Rattle.pattern.specs.Opening.{Opening, opening}
 use Rattle.session.specs.Record.{opened, squeezedAll}
 use Rattle.session.specs.Soundness.{sound}
-use Rattle.session.specs.Calls.{start, absorb, squeeze, squeezeBuffer}
+use Rattle.session.specs.Calls.{start, absorb, squeeze}
 use Rattle.session.specs.declared.Session.{Session}
 use Rattle.session.proofs.SoundRecord.{parts}
 use Rattle.counters.proofs.Bounds.{positions-bound}
-use Rattle.runs.specs.Calls.{Call, SQUEEZE, answered, accepts, left, leftBy, absorbed, squeezedIn, squeezed, withState}
+use Rattle.runs.specs.Calls.{Call, left, leftBy, absorbed, squeezed, withState}
 use Rattle.runs.specs.Lengths.{absorbLength}
 use Rattle.runs.specs.Runs.{Run, absorbedOf, permutationsOf}
 use Rattle.runs.proofs.SoundCalls.{sound-left}
@@ -119,12 +118,6 @@ pub squeeze-cut-freely : (r : Session) (n m : ℕ) → squeeze r (n + m) .number
     → (squeeze r n .number ≡ accepted) × (squeeze (squeeze r n .session) m ≡ squeeze r (n + m))
     × (squeezedAll r (n + m) ≡ squeezedAll r n ++ squeezedAll (squeeze r n .session) m)
 squeeze-cut-freely r n m e = (squeeze-part r n m e, squeeze-cut r n m e, squeezed-cut r n m e)
-
--- "Squeezed are the elements that the accepted SQUEEZE calls wrote": they are what the buffer then holds.
-pub squeezed-are-written : (r : Session) (buffer : List ℕ) → squeeze r (length buffer) .number ≡ accepted
-    → squeezeBuffer r buffer ≡ squeezedIn r (SQUEEZE (length buffer))
-unfolding squeezeBuffer squeezedIn accepts answered
-squeezed-are-written r buffer e = if-true _ _ _ (eq-eqb _ _ e) ∙ sym (if-true _ _ _ (eq-eqb _ _ e))
 
 -- What is squeezed from a sound record are elements: numbers below p.
 pub squeezed-are-elements : (r : Session) (n : ℕ) → sound r ≡ true → all isElement (squeezedAll r n) ≡ true

@@ -6,12 +6,12 @@ use mathlib.Core.List.{List, [], _∷_, _++_}
 use mathlib.Core.Logic.{_≢_, _⊎_, ⊎-elim, inl, inr}
 use Prim.Native.Nat.{ℕ, _<_}
 use native.Mathlib.Omega.{arith}
-use borrow.Author.Tests.{eqb-true, eqb-false, eq-eqb, not-false}
+use borrow.Author.Tests.{eqb-true, eqb-false, eq-eqb}
 use lib.Dec.{eqb}
 use lib.ListN.{length, take}
 use lib.Seq.{length-take-le}
 use Rattle.basics.specs.Logic.{if_then_else_, _and_, _or_, all}
-use Rattle.basics.specs.Numbers.{accepted, callNotInPattern, elementNotReduced, patternNotDone}
+use Rattle.basics.specs.Numbers.{accepted, callNotInPattern, elementNotReduced}
 use Rattle.basics.specs.Refusals.{firstNumber}
 use Rattle.basics.proofs.Cases.{by, cases, if-false}
 use Rattle.field.specs.Field.{isElement}
@@ -20,12 +20,12 @@ use Rattle.pattern.proofs.Soundness as words
 use Rattle.pattern.proofs.SoundPattern.{begins-absorbing}
 use Rattle.progress.specs.Place.{inPattern}
 use Rattle.session.specs.Record.{wiped, openRecord, absorbAll, squeezeAll}
-use Rattle.session.specs.Calls.{giving, startRecord, start, recordRows, callRows, absorbRows, finishRows, wipes, answerOf, absorb, squeeze, finish}
+use Rattle.session.specs.Calls.{giving, startRecord, start, recordRows, callRows, wipes, answerOf, absorb, squeeze, finish}
 use Rattle.session.specs.Steps.{refusedWith}
 use Rattle.session.specs.declared.Session.{Session}
 use Rattle.session.specs.declared.Answer.{Answer}
-use Rattle.session.proofs.SoundRecord.{phaseWord, Sound, parts, element-left}
-use Rattle.session.proofs.Numbers.{OpenSound, Takes, answer-accepted, answer-refused, record-passes}
+use Rattle.session.proofs.SoundRecord.{parts, element-left}
+use Rattle.session.proofs.Numbers.{OpenSound, Takes, answer-refused, record-passes}
 use Rattle.session.proofs.Numbers.{call-refused, call-empty, call-fits, call-outside, call-takes, takes-call}
 use Rattle.session.proofs.Numbers.{absorb-refused, absorb-unreduced, absorb-passes, finish-refused, finish-early, finish-passes}
 use Rattle.runs.specs.Calls.{Call, ABSORB, SQUEEZE, FINISH, answered, left, leftBy}
