@@ -8,10 +8,12 @@
 
 `write` writes what documents have from the tree itself: into docs/CLAIMS.md the table of what each contract rules out, by the line `of:` of every
 must-fail edit, and how many lines there are to read; into README.md the closing lines of the gate and of `rt check cards`. `test` fails where a document has not what
-`write` would write, where an edit names no contract, or one that is not in the tree, where a public function has fewer than two edits, where
-docs/ARCHITECTURE.md lacks a crate or has it below one that it depends on, and where a name that a document cites is not in the tree. `selftest`
-puts such mistakes into the tree, in memory, and fails where `test` would not notice one. `papers` prints the sentences of documents 00 and 01, in
-FOLDER, that docs/CLAIMS.md does not quote.
+`write` would write, where an edit names no contract, or one that is not in the tree, where a public function has no `ensures`, has a `requires` or a
+`ghost`, under which it might say nothing, or has fewer than two edits, where a public constant is not the figure of its row in docs/CLAIMS.md, or
+that row not what the papers and the definition say, where docs/ARCHITECTURE.md lacks a crate or has it below one that it depends on, and where a
+name that a document cites is not in the tree. tests/public.py says what is public, and fails on source that it does not read; tests/figures.py is
+about the constants. `selftest` puts such mistakes into the tree, in memory, and fails where `test` would not notice one. `papers` prints the
+sentences of documents 00 and 01, in FOLDER, that docs/CLAIMS.md does not quote.
 """
 import difflib
 import os
@@ -19,9 +21,12 @@ import re
 import sys
 from collections import namedtuple
 
-from tree import files, read, report, trials, write
+import figures
+from figures import CLAIMS, letters
+from public import Unreadable, items
+from tree import crates, depends, files, read, report, trials, write
 
-CLAIMS, README, ARCHITECTURE = "docs/CLAIMS.md", "README.md", "docs/ARCHITECTURE.md"
+README, ARCHITECTURE = "README.md", "docs/ARCHITECTURE.md"
 DOCUMENTS = [README] + files("docs/*.md")
 RULED_OUT = "## What each public contract rules out"
 # words in docs/CLAIMS.md that name nothing in the tree
@@ -36,15 +41,6 @@ Edit = namedtuple("Edit", "name contracts changes")
 
 
 # ---- what is in the tree, in the order of crates.txt
-
-def depends():
-    """The crates, each with those that it depends on."""
-    return {crate: libraries.split() for crate, libraries in re.findall(r"^(\w+):(.*)$", read("crates.txt"), re.MULTILINE)}
-
-
-def crates():
-    return list(depends())
-
 
 def with_those_below(crate):
     """A crate and all of the tree that it rests on."""
@@ -70,34 +66,18 @@ def statements(crate):
             yield f"{crate}/{os.path.basename(path)[:-5]}.{name}"
 
 
-def items(crate, public):
-    """crate::path of the items; or of the functions that another crate can call."""
-    sources = {os.path.basename(path)[:-3]: read(path) for path in files(f"crates/{crate}/src/*.rt")}
-    opened = re.findall(r"^pub mod (\w+);", sources.get("lib", ""), re.MULTILINE)
-    for module in dict.fromkeys(["lib", *opened] + ([] if public else [*sources])):
-        prefix = crate + "::" + ("" if module in ("lib", "main") else module + "::")
-        yield from (prefix + name for name in items_of(sources.get(module, ""), public))
-
-
-def items_of(text, public):
-    owner = ""
-    for line in text.splitlines():
-        block = re.match(r"impl (\w+) \{|(\})", line)
-        if block:
-            owner = block[1] + "::" if block[1] else ""
-        kinds = "fn" if public else "fn|struct|const"
-        item = re.match(rf"\s*(pub(?:\(crate\))? )?(?:extern \"C\" )?(?:{kinds}) (\w+)", line)
-        if item and (item[1] == "pub " or not public):
-            yield owner + item[2]
+def functions(crate):
+    """The public functions of a crate."""
+    return [item for item in items(crate) if item.kind == "fn" and item.public]
 
 
 def public_functions():
-    return [name for crate in crates() for name in items(crate, True)]
+    return [function for crate in crates() for function in functions(crate)]
 
 
 def contracts():
     """Public functions and statements, crate by crate."""
-    return list(dict.fromkeys(name for crate in crates() for name in [*items(crate, True), *statements(crate)]))
+    return list(dict.fromkeys(name for crate in crates() for name in [*(function.name for function in functions(crate)), *statements(crate)]))
 
 
 # ---- what the documents have from the tree
@@ -171,7 +151,8 @@ def exists(path):
 
 
 def not_found():
-    known = {edit.name for edit in edits()} | set(crates()) | set(contracts()) | {name for crate in crates() for name in items(crate, False)}
+    known = {edit.name for edit in edits()} | set(crates()) | set(contracts())
+    known |= {item.name for crate in crates() for item in items(crate) if item.kind != "use"}
     for document in DOCUMENTS:
         for name in cited(document):
             if looked_for(name, document) and name not in known and not exists(name):
@@ -187,8 +168,11 @@ def untried():
         if edit.changes not in CHANGES:
             yield f"{edit.name}: changes neither program nor definition"
     for function in public_functions():
-        if sum(function in edit.contracts for edit in tried) < 2:
-            yield f"fewer than two edits of {function}"
+        yield from (f"{function.name} is public and has a `{word}`" for word in function.words if word != "ensures")
+        if "ensures" not in function.words:
+            yield f"{function.name} is public and has no `ensures`"
+        if sum(function.name in edit.contracts for edit in tried) < 2:
+            yield f"fewer than two edits of {function.name}"
 
 
 def not_written():
@@ -214,7 +198,10 @@ def misplaced():
 
 
 def findings():
-    return [*untried()] or [*not_written(), *misplaced(), *not_found()]
+    try:
+        return [*untried()] or [*not_written(), *misplaced(), *not_found(), *figures.findings()]
+    except Unreadable as error:
+        return [str(error)]
 
 
 def mistakes():
@@ -232,6 +219,8 @@ def mistakes():
         ("crates/field/must-fail/sum_of_first.edit", "of: field::add\n", "of: field::mul\n", "fewer than two edits of field::add"),
         ("crates/field/must-fail/sum_of_first.edit", "file: src/", "file: proofs/", "changes neither"),
         ("crates/field/src/lib.rt", "\npub fn ", "\npub fn untold() {}\n\npub fn ", "fewer than two edits of field::untold"),
+        *public_mistakes(),
+        *figures.MISTAKES,
         ("crates.txt", "field: basics\n", "", "passed, 0 failed"),
         ("crates.txt", "\nwords: basics\n", "\nwords: basics tag\n", "words depends on tag"),
         (ARCHITECTURE, "| `words` |", "| one word |", "no line or no place for words"),
@@ -239,11 +228,34 @@ def mistakes():
     ]
 
 
+def public_mistakes():
+    """Functions and forms that are put before the first public function of a crate."""
+    path, asks, says = "crates/field/src/lib.rt", "    requires { ⌜ ⊥ ⌝ }\n", "    ensures { λ _. ⌜ ⊤ ⌝ }\n"
+
+    def put(text, wanted):
+        return path, "\npub fn ", f"\n{text}\n\npub fn ", wanted
+    export, method = '#[no_mangle]\npub extern "C" fn untold(\n    a: u32, // )\n)\n', "pub struct Other;\nimpl Other {\n    pub fn untold()\n"
+    return [
+        put(f"{export}{asks}{says}{{}}", "field::untold is public and has a `requires`"),
+        put(f"mod inner {{\n{export}{asks}{says}{{}}\n}}", "field::inner::untold is public and has a `requires`"),
+        put(f"mod inner {{\npub fn untold()\n{asks}{says}{{}}\n}}\npub use inner::untold;", "field::inner::untold is public and has a `requires`"),
+        put(f"pub fn untold()\n    ghost {{ ℕ }}\n{says}{{}}", "field::untold is public and has a `ghost`"),
+        put("mod inner {\npub fn untold() {}\n}\npub use inner::{untold as told};", "field::inner::untold is public and has no `ensures`"),
+        put(f"mod inner {{\npub fn untold()\n{says}{{}}\n}}\npub use inner::untold;", "fewer than two edits of field::inner::untold"),
+        put(f"{method}{asks}{says}{{}}\n}}", "field::Other::untold is public and has a `requires`"),
+        put("pub use std::num::wrapping_add_u32;", "a `pub use` of something outside of the tree"),
+        put("pub mod inner {\npub struct Other;\n}\nimpl inner::Other {\npub fn untold() {}\n}", "an `impl` of a type of another module"),
+        put("functions! { untold }", "does not read this: functions"),
+        put("fn told() {\n    pub fn untold() {}\n}", "does not read this: { pub fn untold"),
+        put("/* /* */ pub fn untold() {} */", "does not read this: /* /* */"),
+        put("#[cfg(other)]\npub fn untold() {}", "does not read this: #[cfg ( other )]"),
+        put("pub fn untold()\n    ensures { -- }\n    ⌜ ⊤ ⌝ }\n{}", "does not read this: a clause with a comment"),
+        put("pub const UNTOLD: u32 = 3;", "field::UNTOLD: 3 in the code, nothing in the table"),
+        put("pub const UNTOLD: u32 = told(3);", "the constant told"),
+    ]
+
+
 # ---- what the papers say
-
-def letters(text):
-    return re.sub(r"[^a-z0-9]+", " ", text.lower()).strip()
-
 
 def sentences(text):
     for line in re.sub(r"```.*?```", "", text, flags=re.DOTALL).splitlines():
@@ -260,8 +272,7 @@ def papers(folder):
                     print(f"{name}: {sentence}")
 
 
-if __name__ == "__main__":
-    job = sys.argv[1:]
+def main(job):
     if job == ["test"]:
         names = sum(len(cited(document)) for document in DOCUMENTS)
         report(findings(), f"claims: {names} names, {len(public_functions())} public functions, {len(list(edits()))} edits")
@@ -275,3 +286,10 @@ if __name__ == "__main__":
         papers(job[1])
     else:
         sys.exit(__doc__)
+
+
+if __name__ == "__main__":
+    try:
+        main(sys.argv[1:])
+    except Unreadable as error:
+        sys.exit(str(error))

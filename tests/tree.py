@@ -1,6 +1,7 @@
 """The files of this checkout, as the tests of documents read them; and trials of those tests on a tree with something wrong in it."""
 import glob
 import os
+import re
 import sys
 
 ROOT = os.path.dirname(os.path.dirname(os.path.abspath(__file__)))
@@ -22,6 +23,15 @@ def write(path, text):
 
 def files(pattern):
     return sorted(os.path.relpath(path, ROOT) for path in glob.glob(os.path.join(ROOT, pattern), recursive=True))
+
+
+def depends():
+    """The crates, each with those that it depends on."""
+    return {crate: libraries.split() for crate, libraries in re.findall(r"^(\w+):(.*)$", read("crates.txt"), re.MULTILINE)}
+
+
+def crates():
+    return list(depends())
 
 
 def replaced(path, old, new):
