@@ -34,8 +34,8 @@ WORDS = {"requires", "ensures", "bool", "u32", "permutations", "axioms=", "nativ
          "libraries-built=trusted", "rattle-kit-5b-plain", "rt ci", "rt version", "tests/claims.py test", "tests/claims.py papers FOLDER",
          "tests/claims.py write", "of:", "libc::read", "libc::write", "memcpy", "memset", "target=x86_64-unknown-linux-gnu", "merge",
          "Pattern.antt", "specs/", "proofs/", "src/", "must-fail/"}
-# what the table says before edits of a function, by the folders that they change
-CHANGES = {("src",): "", ("specs", "src"): "of program and definition: ", ("specs",): "of the definition: "}
+# what the table says before edits of a function, by the folders that they change; a proof may follow a definition, so that a theorem refuses it
+CHANGES = {("src",): "", ("specs", "src"): "of program and definition: ", ("specs",): "of the definition: ", ("proofs", "specs"): "of the definition: "}
 # of a must-fail edit: its name, the contracts and theorems that rule it out, and the folders that it changes
 Edit = namedtuple("Edit", "name contracts changes")
 
@@ -87,7 +87,7 @@ def row(contract, refused):
     own, names = re.match(r"\w+", contract)[0] + "/", {}
     for edit in sorted(refused, key=lambda edit: not edit.name.startswith(own)):
         names.setdefault(CHANGES[edit.changes] if "::" in contract else "", []).append(f"`{edit.name}`")
-    return f"| `{contract}` | {'; '.join(kind + ', '.join(names[kind]) for kind in CHANGES.values() if kind in names)} |\n"
+    return f"| `{contract}` | {'; '.join(kind + ', '.join(names[kind]) for kind in dict.fromkeys(CHANGES.values()) if kind in names)} |\n"
 
 
 def ruled_out():
