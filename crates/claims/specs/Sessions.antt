@@ -9,6 +9,7 @@ use native.Mathlib.Omega.{arith}
 use borrow.Author.Tests.{eqb-true, eq-eqb}
 use lib.ListN.{length, getD, take}
 use Rattle.basics.specs.Logic.{all}
+use Rattle.basics.specs.Lists.{Below}
 use Rattle.basics.specs.Numbers.{accepted}
 use Rattle.field.specs.Field.{isElement}
 use Rattle.words.specs.Words.{lengthOf}
@@ -79,7 +80,7 @@ every-end-is-reached o e =
 
 -- "count and positions are those the steps give at that place": START takes the words of an open sound record, and some calls then lead to a
 -- record that is this one in all but the state. (Words are of 32 bits, and 64, in every record that a caller can hand over.)
-pub sound-records-are-reached : (r : Session) → ((k : ℕ) → getD (r .words) k 0 < 4294967296) → length (r .words) ≡ 64
+pub sound-records-are-reached : (r : Session) → Below 4294967296 (r .words) → length (r .words) ≡ 64
     → r .status ≡ opened → sound r ≡ true
     → let o = opening (take (r .count) (r .words)) [] in
     (start o .number ≡ accepted) × ((cs : List Call) × (withState (r .state) (leftBy (start o .session) cs) ≡ r))

@@ -3,8 +3,9 @@
 use mathlib.Core.Path.{_≡_}
 use mathlib.Core.List.{List}
 use mathlib.Core.Logic.{_≢_, _↔_}
-use Prim.Native.Nat.{ℕ, _<_}
-use lib.ListN.{length, getD, take}
+use Prim.Native.Nat.{ℕ}
+use lib.ListN.{length, take}
+use Rattle.basics.specs.Lists.{Below}
 use Rattle.basics.specs.Numbers.{accepted, notTagString}
 use Rattle.pattern.specs.Pattern.{phases, mergedWords}
 use Rattle.pattern.specs.Opening.{Opening, opening, startNumber, withWords}
@@ -25,7 +26,7 @@ pub reading-back : (o : Opening) → startNumber o ≡ accepted
 reading-back o e = (reads-words o e, reads-separator o e)
 
 -- "and writing these gives it again": what reading accepts of a string of bytes is an accepted pattern, whose tag string it is.
-pub writing-again : (string : List ℕ) (n : ℕ) → ((k : ℕ) → getD string k 0 < 256) → readNumber string n ≡ accepted
+pub writing-again : (string : List ℕ) (n : ℕ) → Below 256 string → readNumber string n ≡ accepted
     → (startNumber (opening (wordsRead string n) (readSeparator string n)) ≡ accepted)
     × (tagString (opening (wordsRead string n) (readSeparator string n)) ≡ string)
 writing-again string n bytes e = (writes string n bytes e, writes-string string n bytes e)

@@ -1,4 +1,3 @@
 pub mod Congruence
 pub mod Modulus
 pub mod Product
-pub mod Reduced

@@ -2,14 +2,10 @@
 -- It is the field known as BabyBear.
 use mathlib.Core.Bool.{Bool}
 use Prim.Native.Nat.{ℕ}
-use lib.Dec.{ltb}
+use Rattle.basics.specs.Lists.{isBelow}
 
 abbrev pub p : ℕ
 p = 2013265921
-
--- a number below a modulus
-abbrev pub isBelow : ℕ → ℕ → Bool
-isBelow m x = ltb x m
 
 -- document 00: "An element is a whole number from 0 to 2013265920."
 abbrev pub isElement : ℕ → Bool

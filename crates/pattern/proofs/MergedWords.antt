@@ -9,7 +9,9 @@ use borrow.Author.Tests.{ltb-false, leb-true, le-leb, le-ltb, ne-eqb, eqb-false,
 use lib.Dec.{leb, eqb}
 use lib.ListN.{length, getD, length-map}
 use Rattle.basics.specs.Logic.{_or_, same, all, any}
+use Rattle.basics.specs.Lists.{Below}
 use Rattle.basics.specs.Numbers.{accepted}
+use Rattle.basics.proofs.Below.{below-head, below-tail}
 use Rattle.basics.proofs.Cases.{by, if-false, and-left, and-right, and-both, or-false, same-self, same-other, same-true, same-false}
 use Rattle.words.specs.Words.{isAbsorb, lengthOf, Phase, phaseOf, wordOf}
 use Rattle.pattern.specs.Pattern.{join, merge, phases, mergedWords, alternate, soundWords}
@@ -162,16 +164,17 @@ merge-alternate first (w ∷ v ∷ ws) e =
     ap (join (phaseOf w)) (merge-alternate (not first) (v ∷ ws) rest)
     ∙ if-false _ _ _ (sym (ap₂ same k l) ∙ same-other first)
 
-pub words-of-phases : (ws : List ℕ) → ((k : ℕ) → getD ws k 0 < 4294967296) → map wordOf (map phaseOf ws) ≡ ws
+pub words-of-phases : (ws : List ℕ) → Below 4294967296 ws → map wordOf (map phaseOf ws) ≡ ws
 words-of-phases [] h = refl
-words-of-phases (w ∷ ws) h = ap₂ (λ (x : ℕ) (l : List ℕ). x ∷ l) (word-of-phase w (h 0)) (words-of-phases ws (λ k. h (suc k)))
+words-of-phases (w ∷ ws) h =
+    ap₂ (λ (x : ℕ) (l : List ℕ). x ∷ l) (word-of-phase w (below-head _ w ws h)) (words-of-phases ws (below-tail _ w ws h))
 
 -- the merged pattern of sound words
 pub phases-of-sound : (ws : List ℕ) → soundWords ws ≡ true → phases ws ≡ map phaseOf ws
 unfolding phases
 phases-of-sound ws e = merge-alternate true ws (sound ws e .turns)
 
-pub sound-merged : (ws : List ℕ) → soundWords ws ≡ true → ((k : ℕ) → getD ws k 0 < 4294967296) → mergedWords ws ≡ ws
+pub sound-merged : (ws : List ℕ) → soundWords ws ≡ true → Below 4294967296 ws → mergedWords ws ≡ ws
 unfolding mergedWords
 sound-merged ws e h = ap (map wordOf) (phases-of-sound ws e) ∙ words-of-phases ws h
 

@@ -2,9 +2,8 @@
 ghost use mathlib.Core.Path.{_≡_};
 ghost use Prim.Native.Nat.{_+_, _*_, _%_, _≤_, _<_};
 ghost use lib.ListN.{length, getD};
-ghost use Rattle.basics.specs.Lists.{sum};
+ghost use Rattle.basics.specs.Lists.{sum, Below};
 ghost use Rattle.field.specs.Field.{p};
-ghost use Rattle.field.specs.Reduced.{Reduced};
 ghost use Rattle.poseidon_tables.specs.Tables.{constants, inverses};
 ghost use Rattle.poseidon.specs.Permutation.{babyBear, addConstants, raiseAll, raiseFirst, raise, multiply, permutation, permuted};
 ghost use Rattle.poseidon.specs.Steps.{remainders};
@@ -26,7 +25,7 @@ fn add_reduced(a: u32, b: u32) -> u32
 
 // Adds the 24 constants of a round, which the table has from 24 * round on.
 fn add_constants(state: &[u32; 24], table: &[u32; 696], round: usize) -> [u32; 24]
-    requires { ⌜ (round < 29) × (now table ≡ constants) × Reduced p (now state) ⌝ }
+    requires { ⌜ (round < 29) × (now table ≡ constants) × Below p (now state) ⌝ }
     ensures { λ r. ⌜ r ≡ addConstants babyBear round (now (state .entry)) ⌝ }
 {
     let mut out = [0u32; 24];
@@ -75,7 +74,7 @@ fn raise(state: &[u32; 24], round: usize) -> [u32; 24]
 
 // One product of a row of the matrix with the state: at most (p - 1)^2, so that four of them fit 64 bits.
 fn term(table: &[u32], place: usize, state: &[u32; 24], j: usize) -> u64
-    requires { ⌜ (place < length (now table)) × (j < 24) × Reduced p (now table) × Reduced p (now state) ⌝ }
+    requires { ⌜ (place < length (now table)) × (j < 24) × Below p (now table) × Below p (now state) ⌝ }
     ensures { λ r. ⌜ (r ≡ getD (now (table .entry)) place 0 * getD (now (state .entry)) j 0) × (r ≤ 4053239664633446400) ⌝ }
 {
     field::wide_mul(table[place], state[j])
@@ -84,7 +83,7 @@ fn term(table: &[u32], place: usize, state: &[u32; 24], j: usize) -> u64
 // A row of the matrix times the state, where the row is the 24 numbers of a table from start on.
 // Four products are summed at a time, and then their low and high 32 bits apart; 268435454 is 2^32 modulo p.
 fn row_product(table: &[u32], start: usize, state: &[u32; 24]) -> u32
-    requires { ⌜ (start + 24 ≤ length (now table)) × Reduced p (now table) × Reduced p (now state) ⌝ }
+    requires { ⌜ (start + 24 ≤ length (now table)) × Below p (now table) × Below p (now state) ⌝ }
     ensures { λ r. ⌜ r ≡ sum 24 (λ j. getD (now (table .entry)) (start + j) 0 * getD (now (state .entry)) j 0) % p ⌝ }
 {
     let mut low: u64 = 0;
@@ -105,7 +104,7 @@ fn row_product(table: &[u32], start: usize, state: &[u32; 24]) -> u32
 
 // The matrix times the state: the row i of the matrix is the 24 inverses from place i on.
 fn multiply(state: &[u32; 24], table: &[u32; 47]) -> [u32; 24]
-    requires { ⌜ (now table ≡ inverses) × Reduced p (now state) ⌝ }
+    requires { ⌜ (now table ≡ inverses) × Below p (now state) ⌝ }
     ensures { λ r. ⌜ r ≡ multiply babyBear (now (state .entry)) ⌝ }
 {
     let mut out = [0u32; 24];
@@ -119,7 +118,7 @@ fn multiply(state: &[u32; 24], table: &[u32; 47]) -> [u32; 24]
 
 // The 29 rounds. The tables are read once, since each use of one copies it.
 fn permute_reduced(state: [u32; 24]) -> [u32; 24]
-    requires { ⌜ Reduced p state ⌝ }
+    requires { ⌜ Below p state ⌝ }
     ensures { λ r. ⌜ r ≡ permutation babyBear state ⌝ }
 {
     let constants = poseidon_tables::round_constants();

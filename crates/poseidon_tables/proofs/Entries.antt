@@ -5,13 +5,12 @@ use mathlib.Core.Bool.{Bool, true}
 use mathlib.Core.List.{List}
 use Prim.Native.Nat.{ℕ, _+_, _*_, _%_, _<_}
 use borrow.Author.Tests.{eqb-true}
-use lib.Dec.{eqb, lit<}
+use lib.Dec.{eqb}
 use lib.ListN.{length, getD}
 use Rattle.basics.specs.Logic.{_and_, all}
+use Rattle.basics.specs.Lists.{Below}
 use Rattle.basics.proofs.Table.{passes, every-entry}
 use Rattle.field.specs.Field.{p}
-use Rattle.field.specs.Reduced.{Reduced}
-use Rattle.field.proofs.Reduced.{reduced-all}
 use Rattle.poseidon_tables.specs.Tables.{constants, inverses}
 
 -- whether x is the inverse of k + 24 modulo m
@@ -25,9 +24,9 @@ unfolding is-inverse
 inverses-by-test m table e k h = eqb-true _ 1 (every-entry (is-inverse m) table e k h)
 
 -- "The table in the code is proved to have every entry below p"
-pub constants-reduced : Reduced p constants
+pub constants-reduced : Below p constants
 unfolding constants all _and_
-constants-reduced = reduced-all p (lit< tt) constants refl
+constants-reduced = refl
 
 pub constants-length : length constants ≡ 696
 unfolding constants
@@ -37,9 +36,9 @@ pub inverses-length : length inverses ≡ 47
 unfolding inverses
 inverses-length = refl
 
-pub inverses-reduced : Reduced p inverses
+pub inverses-reduced : Below p inverses
 unfolding inverses all _and_
-inverses-reduced = reduced-all p (lit< tt) inverses refl
+inverses-reduced = refl
 
 -- "47 inverses suffice, each proved by its rule over the whole table"
 pub inverses-rule : (k : ℕ) → k < 47 → getD inverses k 0 * (k + 24) % p ≡ 1

@@ -2,10 +2,11 @@
 -- Assumes nothing.
 use mathlib.Core.Path.{_≡_, ap, ap₂, _∙_}
 use mathlib.Core.Bool.{true}
-use mathlib.Core.List.{List, _++_}
+use mathlib.Core.List.{List}
 use Prim.Native.Nat.{ℕ, _+_, _-_}
 use lib.Dec.{eqb}
-use lib.ListN.{length, getD, replicate}
+use lib.ListN.{length, getD}
+use Rattle.basics.specs.Lists.{padded}
 use Rattle.basics.specs.Numbers.{accepted}
 use Rattle.basics.proofs.Sums.{sum-same}
 use Rattle.basics.proofs.Zeros.{zeros-behind}
@@ -33,7 +34,7 @@ permutations-same vs ws h phase done =
     (ap (λ (w : ℕ). phasePermutations w done) (h phase))
 
 module _ (o : Opening) (e : start o .number ≡ accepted) where
-  pub start-words : start o .session .words ≡ mergedWords (o .words) ++ replicate (64 - length (mergedWords (o .words))) 0
+  pub start-words : start o .session .words ≡ padded 64 (mergedWords (o .words))
   unfolding startRecord openRecord
   start-words = ap (λ (r : Session). r .words) (start-record o e)
 

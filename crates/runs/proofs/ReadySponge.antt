@@ -6,17 +6,16 @@ use mathlib.Core.Bool.{true, false}
 use Prim.Native.Nat.{ℕ, suc, _+_, _<_}
 use native.Mathlib.Omega.{arith}
 use borrow.Author.Tests.{eqb-true, eqb-false}
-use lib.Dec.{ltb}
-use Rattle.basics.specs.Logic.{all}
+use Rattle.basics.specs.Lists.{Below}
 use Rattle.basics.proofs.Cases.{by}
 use Rattle.words.specs.Words.{isAbsorb}
 use Rattle.counters.specs.Permutations.{phasePermutations}
 use Rattle.basics.specs.Figures.{rate}
 use Rattle.poseidon.specs.Permutation.{Parameters}
+use Rattle.poseidon.proofs.Bounds.{permutation-reduced}
 use Rattle.sponge.specs.Sponge.{outer, readyToAbsorb, readyToSqueeze}
 use Rattle.sponge.specs.declared.Sponge.{Sponge}
 use Rattle.counters.specs.Positions.{inLastBlock}
-use Rattle.sponge.proofs.Elements.{permuted-reduced}
 use Rattle.runs.proofs.Positions.{position, absorb-full, absorb-room, squeeze-full, squeeze-room}
 
 -- a place below 8 names itself
@@ -26,7 +25,7 @@ outer-after at n e = omega arith
 
 -- d elements of the phase of a word are done, with so many permutations before that phase; the next element's place in the state is `at`
 pub record Ready (F : Parameters) (word d before at : ℕ) (t : Sponge) : Type 0 where
-  pub reduced : all (λ x. ltb x (F .modulus)) (t .state) ≡ true
+  pub reduced : Below (F .modulus) (t .state)
   pub after : outer at + 1 ≡ inLastBlock (suc d)
   pub counted : t .permutations ≡ before + phasePermutations word (suc d)
 
@@ -35,7 +34,7 @@ module _
     (pos : 0 < F .modulus)
     (word d before : ℕ)
     (s : Sponge)
-    (reduced : all (λ x. ltb x (F .modulus)) (s .state) ≡ true)
+    (reduced : Below (F .modulus) (s .state))
     (counted : s .permutations ≡ before + phasePermutations word d)
   where
     pub ready-to-absorb : isAbsorb word ≡ true → s .«absorb_position» ≡ position 0 d
@@ -45,7 +44,7 @@ module _
         by (λ (t : Sponge). Ready F word d before (t .«absorb_position») t) _ _ _
         (λ q.
         let n = absorb-full word e d (sym a ∙ eqb-true _ _ q) in
-        record { reduced = permuted-reduced F pos (s .state); after = outer-after 0 (suc d) (n .after); counted = omega (arith, n .counted) })
+        record { reduced = permutation-reduced F pos (s .state); after = outer-after 0 (suc d) (n .after); counted = omega (arith, n .counted) })
         λ q.
         let n = absorb-room word e d (λ z. eqb-false _ _ q (a ∙ z)) in
         record { reduced = reduced; after = outer-after (s .«absorb_position») (suc d) (omega (arith, n .after)); counted = omega (arith, n .counted) }
@@ -57,7 +56,7 @@ module _
         by (λ (t : Sponge). Ready F word d before (t .«squeeze_position») t) _ _ _
         (λ q.
         let n = squeeze-full word e d (sym a ∙ eqb-true _ _ q) in
-        record { reduced = permuted-reduced F pos (s .state); after = outer-after 0 (suc d) (n .after); counted = omega (arith, n .counted) })
+        record { reduced = permutation-reduced F pos (s .state); after = outer-after 0 (suc d) (n .after); counted = omega (arith, n .counted) })
         λ q.
         let n = squeeze-room word e d (λ z. eqb-false _ _ q (a ∙ z)) in
         record { reduced = reduced; after = outer-after (s .«squeeze_position») (suc d) (omega (arith, n .after)); counted = omega (arith, n .counted) }

@@ -3,14 +3,16 @@
 use mathlib.Core.Path.{_≡_, refl, sym, ap, _∙_}
 use mathlib.Core.Bool.{true}
 use mathlib.Core.List.{List, [], _∷_}
-use Prim.Native.Nat.{ℕ, zero, suc, _-_, _<_}
+use Prim.Native.Nat.{ℕ, zero, suc, _-_}
 use native.Mathlib.Omega.{arith}
 use borrow.Author.Tests.{ltb-true, ltb-false, eqb-true, eq-eqb}
 use lib.Dec.{ltb, eqb}
 use lib.ListN.{length, getD, take, drop, replicate, length-append, length-replicate}
 use lib.Seq.{length-take-le, ext-getD}
 use Rattle.basics.specs.Logic.{all}
+use Rattle.basics.specs.Lists.{Below}
 use Rattle.basics.specs.Numbers.{accepted}
+use Rattle.basics.proofs.Below.{below-take}
 use Rattle.basics.proofs.Cases.{cases, and-left, and-right}
 use Rattle.basics.proofs.Zeros.{zeros-behind}
 use Rattle.words.specs.Words.{lengthOf}
@@ -39,7 +41,7 @@ used-words (suc n) [] e k = refl
 used-words (suc n) (w ∷ ws) e zero = refl
 used-words (suc n) (w ∷ ws) e (suc k) = used-words n ws e k
 
-module _ (r : Session) (fits : (k : ℕ) → getD (r .words) k 0 < 4294967296) (s : Sound r) where
+module _ (r : Session) (fits : Below 4294967296 (r .words)) (s : Sound r) where
   abbrev pattern : List ℕ
   pattern = take (r .count) (r .words)
 
@@ -50,7 +52,7 @@ module _ (r : Session) (fits : (k : ℕ) → getD (r .words) k 0 < 4294967296) (
   pattern-opens = accepted-start (opening pattern []) (sound-accepted (opening pattern []) (s .pattern) (omega arith))
 
   merged : mergedWords pattern ≡ pattern
-  merged = sound-merged pattern (s .pattern) (λ k. rw (← word-used k) (fits k))
+  merged = sound-merged pattern (s .pattern) (below-take _ (r .count) (r .words) fits)
 
   words-merged : length (mergedWords pattern) ≡ r .count
   words-merged = ap length merged ∙ length-take-le (r .count) (r .words) (s .long)

@@ -1,19 +1,21 @@
 -- One element absorbed or squeezed, by the parts of the sponge, for any parameters of the permutation.
 -- Assumes nothing.
 use mathlib.Core.Path.{_≡_, refl, ap, _∙_}
-use mathlib.Core.Bool.{Bool, true}
+use mathlib.Core.Bool.{true}
 use mathlib.Core.List.{List}
 use Prim.Native.Nat.{ℕ, _+_, _%_, _≤_, _<_}
 use native.Mathlib.Nat.{mod-lt, add-zero}
 use native.Mathlib.Omega.{arith}
 use borrow.Author.Tests.{eqb-true, lt-ltb}
-use lib.Dec.{ltb, eqb}
+use lib.Dec.{eqb}
 use lib.ListN.{getD, set}
 use Rattle.basics.specs.Logic.{if_then_else_, all}
+use Rattle.basics.specs.Lists.{isBelow, Below}
 use Rattle.basics.specs.Figures.{rate}
+use Rattle.basics.proofs.Below.{below-at}
 use Rattle.basics.proofs.Cases.{by, cases, all-set}
 use Rattle.poseidon.specs.Permutation.{Parameters, permutation}
-use Rattle.poseidon.proofs.Bounds.{reduced-all, all-reduced, permutation-reduced}
+use Rattle.poseidon.proofs.Bounds.{permutation-reduced}
 use Rattle.sponge.specs.Sponge.{sponge, outer, readyToAbsorb, absorbElement, readyToSqueeze, squeezedElement, squeezeElement}
 use Rattle.sponge.specs.Steps.{stateFor, permutationsFor, stateWith, absorbFor}
 use Rattle.sponge.specs.declared.Sponge.{Sponge}
@@ -25,19 +27,12 @@ at-most-one n = by (λ (k : ℕ). k ≤ 1) _ _ _ (λ _. omega arith) λ _. omega
 -- ---- the state stays reduced
 
 module _ (F : Parameters) (pos : 0 < F .modulus) where
-  -- below the modulus
-  abbrev isReduced : ℕ → Bool
-  isReduced x = ltb x (F .modulus)
-
-  pub permuted-reduced : (s : List ℕ) → all (λ x. ltb x (F .modulus)) (permutation F s) ≡ true
-  permuted-reduced s = all-reduced (F .modulus) _ (permutation-reduced F pos s)
-
-  pub state-reduced : (n : ℕ) (s : List ℕ) → all (λ x. ltb x (F .modulus)) s ≡ true → all (λ x. ltb x (F .modulus)) (stateFor F n s) ≡ true
+  pub state-reduced : (n : ℕ) (s : List ℕ) → Below (F .modulus) s → Below (F .modulus) (stateFor F n s)
   unfolding stateFor
-  state-reduced n s e = by (λ (l : List ℕ). all isReduced l ≡ true) _ _ _ (λ _. permuted-reduced s) λ _. e
+  state-reduced n s e = by (Below (F .modulus)) _ _ _ (λ _. permutation-reduced F pos s) λ _. e
 
-  pub sum-reduced : (s : List ℕ) (i n : ℕ) → all (λ x. ltb x (F .modulus)) s ≡ true → all (λ x. ltb x (F .modulus)) (set s i (n % F .modulus)) ≡ true
-  sum-reduced s i n e = all-set isReduced s i (n % F .modulus) e (lt-ltb (n % F .modulus) (F .modulus) (mod-lt n pos))
+  pub sum-reduced : (s : List ℕ) (i n : ℕ) → Below (F .modulus) s → Below (F .modulus) (set s i (n % F .modulus))
+  sum-reduced s i n e = all-set (isBelow (F .modulus)) s i (n % F .modulus) e (lt-ltb (n % F .modulus) (F .modulus) (mod-lt n pos))
 
 -- ---- the definitions, by parts
 
@@ -65,17 +60,17 @@ module _ (F : Parameters) (s : List ℕ) (a q n : ℕ) where
 
 -- ---- what is squeezed is reduced
 
-module _ (F : Parameters) (pos : 0 < F .modulus) (s : Sponge) (e : all (λ x. ltb x (F .modulus)) (s .state) ≡ true) where
+module _ (F : Parameters) (pos : 0 < F .modulus) (s : Sponge) (e : Below (F .modulus) (s .state)) where
   abbrev position : ℕ
   position = s .«squeeze_position»
 
-  pub element-reduced : ltb (squeezedElement F s) (F .modulus) ≡ true
+  pub element-reduced : isBelow (F .modulus) (squeezedElement F s) ≡ true
   element-reduced =
-      let small = reduced-all (F .modulus) pos _ (state-reduced F pos position (s .state) e) .below (outer position) in
-      ap (λ (x : ℕ). ltb x (F .modulus)) (squeezed-parts F (s .state) (s .«absorb_position») position (s .permutations))
+      let small = below-at (F .modulus) pos _ (state-reduced F pos position (s .state) e) (outer position) in
+      ap (isBelow (F .modulus)) (squeezed-parts F (s .state) (s .«absorb_position») position (s .permutations))
       ∙ lt-ltb _ (F .modulus) small
 
-  pub left-reduced : all (λ x. ltb x (F .modulus)) (squeezeElement F s .state) ≡ true
+  pub left-reduced : Below (F .modulus) (squeezeElement F s .state)
   left-reduced =
-      ap (λ (t : Sponge). all (λ x. ltb x (F .modulus)) (t .state)) (squeeze-parts F (s .state) (s .«absorb_position») position (s .permutations))
+      ap (λ (t : Sponge). all (isBelow (F .modulus)) (t .state)) (squeeze-parts F (s .state) (s .«absorb_position») position (s .permutations))
       ∙ state-reduced F pos position (s .state) e

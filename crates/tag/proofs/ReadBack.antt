@@ -4,19 +4,20 @@ use mathlib.Core.Path.{_≡_, refl, sym, ap, ap₂, _∙_}
 use mathlib.Core.Bool.{true, false}
 use mathlib.Core.List.{List, [], _∷_, _++_, map}
 use mathlib.Core.Logic.{_≢_, _↔_}
-use Prim.Native.Nat.{ℕ, zero, suc, _-_, _*_, _/_, _%_, _<_}
+use Prim.Native.Nat.{ℕ, suc, _-_, _*_, _/_, _%_, _<_}
 use native.Mathlib.Omega.{arith}
 use borrow.Author.Tests.{ltb-false, eqb-true, eq-eqb}
 use lib.Dec.{lit<}
-use lib.ListN.{length, getD, take, drop, length-drop, take-append-drop}
+use lib.ListN.{length, take, drop, length-drop, take-append-drop}
 use lib.Seq.{take-at, drop-at}
 use Rattle.basics.specs.Logic.{any}
-use Rattle.basics.specs.Lists.{tabulate}
+use Rattle.basics.specs.Lists.{tabulate, Below}
 use Rattle.basics.specs.Digits.{digits, number, numberAfter}
 use Rattle.basics.specs.Numbers.{accepted, notTagString}
+use Rattle.basics.proofs.Below.{below-nil, below-cons, below-head, below-tail, below-take, below-at}
 use Rattle.basics.proofs.Cases.{and-left, and-right, and-both, or-false}
 use Rattle.basics.proofs.Fill.{tabulate-cons, tabulate-same}
-use Rattle.basics.proofs.Positional.{number-digits, digits-number, take-below}
+use Rattle.basics.proofs.Positional.{number-digits, digits-number}
 use Rattle.words.specs.Words.{Phase, phaseOf, wordOf}
 use Rattle.pattern.specs.Pattern.{phases, mergedWords, soundWords}
 use Rattle.pattern.specs.Opening.{Opening, opening, tooLong, startNumber, withWords}
@@ -48,23 +49,27 @@ unfolding wordsOf tabulate
 words-of-none = refl
 
 -- words of 32 bits, read from their bytes
-words-of-bytes : (ws : List ℕ) → ((k : ℕ) → getD ws k 0 < 4294967296) → wordsOf (wordBytes ws) ≡ ws
+words-of-bytes : (ws : List ℕ) → Below 4294967296 ws → wordsOf (wordBytes ws) ≡ ws
 unfolding wordBytes digits
 words-of-bytes [] h = words-of-none
 words-of-bytes (w ∷ ws) h =
     words-of-four _ _ _ _ (wordBytes ws)
-    ∙ ap₂ (λ (x : ℕ) (l : List ℕ). x ∷ l) (number-digits 256 4 w (lit< tt) (h 0)) (words-of-bytes ws (λ k. h (suc k)))
+    ∙ ap₂ (λ (x : ℕ) (l : List ℕ). x ∷ l) (number-digits 256 4 w (lit< tt) (below-head _ w ws h)) (words-of-bytes ws (below-tail _ w ws h))
+
+-- numbers below a bound, behind four of them
+behind-four : (m a b c d : ℕ) (s : List ℕ) → Below m (a ∷ b ∷ c ∷ d ∷ s) → Below m s
+behind-four m a b c d s h = below-tail m d s (below-tail m c _ (below-tail m b _ (below-tail m a _ h)))
 
 -- a string of whole words, written from its words
-bytes-of-words : (s : List ℕ) → length s % 4 ≡ 0 → ((k : ℕ) → getD s k 0 < 256) → wordBytes (wordsOf s) ≡ s
+bytes-of-words : (s : List ℕ) → length s % 4 ≡ 0 → Below 256 s → wordBytes (wordsOf s) ≡ s
 unfolding wordBytes
 bytes-of-words [] e h = ap wordBytes words-of-none
 bytes-of-words (a ∷ []) e h = absurd (omega arith)
 bytes-of-words (a ∷ b ∷ []) e h = absurd (omega arith)
 bytes-of-words (a ∷ b ∷ c ∷ []) e h = absurd (omega arith)
 bytes-of-words (a ∷ b ∷ c ∷ d ∷ s) e h =
-    let four = digits-number 256 4 (a ∷ b ∷ c ∷ d ∷ []) refl (take-below 256 4 (a ∷ b ∷ c ∷ d ∷ s) (lit< tt) h) in
-    let rest = bytes-of-words s (omega arith) (λ k. h (suc (suc (suc (suc k))))) in
+    let four = digits-number 256 4 (a ∷ b ∷ c ∷ d ∷ []) refl (below-take 256 4 (a ∷ b ∷ c ∷ d ∷ s) h) in
+    let rest = bytes-of-words s (omega arith) (behind-four 256 a b c d s h) in
     ap wordBytes (words-of-four a b c d s) ∙ ap₂ (λ (x y : List ℕ). x ++ y) four rest
 
 four-bytes-below : (a b c d : ℕ) → a < 256 → b < 256 → c < 256 → d < 256 → number 256 (a ∷ b ∷ c ∷ d ∷ []) < 4294967296
@@ -72,29 +77,26 @@ unfolding number numberAfter
 four-bytes-below a b c d ha hb hc hd = omega arith
 
 -- the words of a string of bytes have 32 bits
-words-below : (s : List ℕ) → length s % 4 ≡ 0 → ((k : ℕ) → getD s k 0 < 256) → (k : ℕ) → getD (wordsOf s) k 0 < 4294967296
-words-below [] e h k = rw words-of-none (lit< tt)
-words-below (a ∷ []) e h k = absurd (omega arith)
-words-below (a ∷ b ∷ []) e h k = absurd (omega arith)
-words-below (a ∷ b ∷ c ∷ []) e h k = absurd (omega arith)
-words-below (a ∷ b ∷ c ∷ d ∷ s) e h zero = rw (words-of-four a b c d s) (four-bytes-below a b c d (h 0) (h 1) (h 2) (h 3))
-words-below (a ∷ b ∷ c ∷ d ∷ s) e h (suc k) = rw (words-of-four a b c d s) (words-below s (omega arith) (λ j. h (suc (suc (suc (suc j))))) k)
+words-below : (s : List ℕ) → length s % 4 ≡ 0 → Below 256 s → Below 4294967296 (wordsOf s)
+words-below [] e h = rw words-of-none (below-nil 4294967296)
+words-below (a ∷ []) e h = absurd (omega arith)
+words-below (a ∷ b ∷ []) e h = absurd (omega arith)
+words-below (a ∷ b ∷ c ∷ []) e h = absurd (omega arith)
+words-below (a ∷ b ∷ c ∷ d ∷ s) e h =
+    let at = below-at 256 (lit< tt) (a ∷ b ∷ c ∷ d ∷ s) h in
+    rw (words-of-four a b c d s)
+    (below-cons _ _ (wordsOf s) (four-bytes-below a b c d (at 0) (at 1) (at 2) (at 3)) (words-below s (omega arith) (behind-four 256 a b c d s h)))
 
 -- ---- the merged pattern, as kinds and lengths, from its words
 
-phases-of-words : (ps : List Phase) → any tooLong ps ≡ false → (map phaseOf (map wordOf ps) ≡ ps) × ((k : ℕ) → getD (map wordOf ps) k 0 < 4294967296)
+phases-of-words : (ps : List Phase) → any tooLong ps ≡ false → (map phaseOf (map wordOf ps) ≡ ps) × Below 4294967296 (map wordOf ps)
 unfolding any tooLong
-phases-of-words [] e = (refl, λ k. lit< tt)
+phases-of-words [] e = (refl, below-nil _)
 phases-of-words (a ∷ ps) e =
     let o = or-false _ _ e in
     let l : a .elements < 2147483648 = omega (arith, ltb-false 2147483647 (a .elements) (o .0)) in
     let rest = phases-of-words ps (o .1) in
-    (ap₂ (λ (b : Phase) (bs : List Phase). b ∷ bs) (phase-of-word a l) (rest .0), below a l (map wordOf ps) (rest .1))
-  where
-    below : (a : Phase) → a .elements < 2147483648 → (ws : List ℕ) → ((k : ℕ) → getD ws k 0 < 4294967296)
-        → (k : ℕ) → getD (wordOf a ∷ ws) k 0 < 4294967296
-    below a l ws h zero = word-below a l
-    below a l ws h (suc k) = h k
+    (ap₂ (λ (b : Phase) (bs : List Phase). b ∷ bs) (phase-of-word a l) (rest .0), below-cons _ (wordOf a) (map wordOf ps) (word-below a l) (rest .1))
 
 -- ---- reading what was written
 
@@ -142,7 +144,7 @@ module _ (o : Opening) (e : startNumber o ≡ accepted) where
 
 -- ---- writing what was read
 
-module _ (s : List ℕ) (n : ℕ) (bytes : (k : ℕ) → getD s k 0 < 256) (e : readNumber s n ≡ accepted) where
+module _ (s : List ℕ) (n : ℕ) (bytes : Below 256 s) (e : readNumber s n ≡ accepted) where
   abbrev head : List ℕ
   head = wordsPart s n
 
@@ -157,9 +159,9 @@ module _ (s : List ℕ) (n : ℕ) (bytes : (k : ℕ) → getD s k 0 < 256) (e : 
   unfolding soundBytes
   sound-words = and-right _ _ (passed s n e .sound)
 
-  head-bytes : (k : ℕ) → getD head k 0 < 256
+  head-bytes : Below 256 head
   unfolding wordsPart
-  head-bytes = take-below 256 (length s - n) s (lit< tt) bytes
+  head-bytes = below-take 256 (length s - n) s bytes
 
   separator-length : length (separatorPart s n) ≡ n
   unfolding separatorPart

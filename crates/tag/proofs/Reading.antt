@@ -2,15 +2,16 @@
 -- Assumes nothing.
 use mathlib.Core.Path.{_≡_, sym, ap, _∙_}
 use mathlib.Core.Bool.{Bool, true, false, not}
-use mathlib.Core.List.{List, [], _++_}
+use mathlib.Core.List.{List, []}
 use mathlib.Core.Logic.{_≢_}
 use Prim.Native.Nat.{ℕ, _-_, _/_, _%_, _≤_, _<_}
 use native.Mathlib.Omega.{arith}
 use borrow.Author.Tests.{ltb-false, lt-ltb, le-ltb, eq-eqb, ne-eqb, not-false}
 use lib.Dec.{eqb}
-use lib.ListN.{length, take, drop, replicate, length-drop}
+use lib.ListN.{length, take, drop, length-drop}
 use lib.Seq.{length-take-le, take-at, take-all, take-nil, drop-length}
 use Rattle.basics.specs.Logic.{_and_}
+use Rattle.basics.specs.Lists.{padded}
 use Rattle.basics.specs.Numbers.{accepted, separatorTooLong, notTagString}
 use Rattle.basics.specs.Refusals.{firstNumber}
 use Rattle.basics.proofs.Cases.{by, if-true, if-false, and-false}
@@ -103,7 +104,7 @@ module _ (s : List ℕ) (n : ℕ) where
 
     -- the words in 64 places
     abbrev places : List ℕ
-    places = wordsOf (take size s) ++ replicate (64 - length (wordsOf (take size s))) 0
+    places = padded 64 (wordsOf (take size s))
 
     count : length (wordsOf (take size s)) ≡ size / 4
     count = length-words-of (take size s) ∙ ap (λ (k : ℕ). k / 4) length-part

@@ -1,13 +1,15 @@
 -- Words as bytes, in a string and in a buffer.
 -- Assumes nothing.
-use mathlib.Core.Path.{_≡_, refl, sym, ap, ap₂, _∙_}
+use mathlib.Core.Path.{_≡_, refl, sym, ap, subst, _∙_}
 use mathlib.Core.List.{List, [], _∷_, _++_, append-assoc, append-nil}
 use Prim.Native.Nat.{ℕ, suc, _+_, _*_, _/_, _%_, _≤_, _<_}
 use native.Mathlib.Numerals.{add-one}
 use native.Mathlib.Omega.{arith}
-use lib.ListN.{length, getD, take, drop, set, length-append, length-drop}
-use lib.Seq.{length-take-le, drop-cons, take-suc, take-at, drop-append-add, drop-drop, sets-eq}
+use lib.ListN.{length, getD, take, drop, set, length-append}
+use lib.Seq.{length-take-le, drop-cons, take-suc, sets-eq}
+use Rattle.basics.specs.Lists.{placed}
 use Rattle.basics.specs.Digits.{digits}
+use Rattle.basics.proofs.Placed.{Begins, begins-more}
 use Rattle.basics.proofs.Positional.{length-digits}
 use Rattle.tag.specs.TagString.{wordBytes}
 
@@ -27,8 +29,8 @@ four-bytes s at h =
 -- four stores of a word's bytes
 pub four-stores : (s : List ℕ) (at w : ℕ) → at + 4 ≤ length s
     → set (set (set (set s at (w / 16777216 % 256)) (at + 1) (w / 65536 % 256)) (at + 2) (w / 256 % 256)) (at + 3) (w % 256)
-    ≡ take at s ++ digits 256 4 w ++ drop (at + 4) s
-unfolding digits
+    ≡ placed s at (digits 256 4 w)
+unfolding digits placed
 four-stores s at w h =
     let e1 : at + 1 ≡ suc at = omega arith in
     let e2 : at + 2 ≡ suc (suc at) = omega arith in
@@ -52,35 +54,23 @@ word-bytes-append [] vs = refl
 word-bytes-append (w ∷ ws) vs =
     ap (λ (l : List ℕ). digits 256 4 w ++ l) (word-bytes-append ws vs) ∙ sym (append-assoc (digits 256 4 w) (wordBytes ws) (wordBytes vs))
 
-pub length-front-words : (buffer ws : List ℕ) (i : ℕ) → i ≤ length ws → 4 * length ws ≤ length buffer
-    → length (wordBytes (take i ws) ++ drop (4 * i) buffer) ≡ length buffer
-length-front-words buffer ws i h k =
-    let a = length-append (wordBytes (take i ws)) (drop (4 * i) buffer) in
-    let b = length-word-bytes (take i ws) in
-    let d = length-take-le i ws h in
-    let e = length-drop (4 * i) buffer in
-    omega arith
-
 -- one word more at the front of a buffer
-pub next-word : (buffer ws : List ℕ) (i : ℕ) → i < length ws
-    → take (4 * i) (wordBytes (take i ws) ++ drop (4 * i) buffer)
-    ++ digits 256 4 (getD ws i 0)
-    ++ drop (4 * i + 4) (wordBytes (take i ws) ++ drop (4 * i) buffer)
-    ≡ wordBytes (take (i + 1) ws) ++ drop (4 * (i + 1)) buffer
+next-word : (ws : List ℕ) (i : ℕ) → i < length ws → wordBytes (take i ws) ++ digits 256 4 (getD ws i 0) ≡ wordBytes (take (i + 1) ws)
 unfolding wordBytes
-next-word buffer ws i h =
+next-word ws i h =
     let front = wordBytes (take i ws) in
-    let word = digits 256 4 (getD ws i 0) in
-    let long : length front ≡ 4 * i = length-word-bytes (take i ws) ∙ ap (λ (k : ℕ). 4 * k) (length-take-le i ws (omega arith)) in
-    let place : 4 * i + 4 ≡ 4 * (i + 1) = omega arith in
-    let behind : drop (4 * i + 4) (front ++ drop (4 * i) buffer) ≡ drop (4 * (i + 1)) buffer =
-    ap (λ (k : ℕ). drop (k + 4) (front ++ drop (4 * i) buffer)) (sym long)
-    ∙ drop-append-add front (drop (4 * i) buffer) 4
-    ∙ drop-drop 4 (4 * i) buffer
-    ∙ ap (λ (k : ℕ). drop k buffer) place in
-    let words : wordBytes (take (i + 1) ws) ≡ front ++ word =
-    ap (λ (k : ℕ). wordBytes (take k ws)) (add-one i)
+    sym
+    (ap (λ (k : ℕ). wordBytes (take k ws)) (add-one i)
     ∙ ap wordBytes (take-suc ws i 0 h)
     ∙ word-bytes-append (take i ws) (getD ws i 0 ∷ [])
-    ∙ ap (λ (l : List ℕ). front ++ l) (append-nil word) in
-    rw words (ap₂ (λ (x y : List ℕ). x ++ word ++ y) (take-at front (drop (4 * i) buffer) (4 * i) long) behind)
+    ∙ ap (λ (l : List ℕ). front ++ l) (append-nil (digits 256 4 (getD ws i 0))))
+
+pub begins-word : {buffer after next : List ℕ} (ws : List ℕ) (i : ℕ) → Begins buffer (wordBytes (take i ws)) after
+    → i < length ws → 4 * length ws ≤ length buffer
+    → next ≡ placed after (4 * i) (digits 256 4 (getD ws i 0)) → Begins buffer (wordBytes (take (i + 1) ws)) next
+begins-word {buffer} {after} {next} ws i b h room e =
+    let word = digits 256 4 (getD ws i 0) in
+    let four : length word ≡ 4 = length-digits 256 4 (getD ws i 0) in
+    let front : length (wordBytes (take i ws)) ≡ 4 * i =
+    length-word-bytes (take i ws) ∙ ap (λ (k : ℕ). 4 * k) (length-take-le i ws (omega arith)) in
+    subst (λ (l : List ℕ). Begins buffer l next) (next-word ws i h) (begins-more b (4 * i) (sym front) word (omega arith) e)

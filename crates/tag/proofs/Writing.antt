@@ -1,17 +1,18 @@
 -- Writing: its number, and what it leaves in the buffer.
 -- Assumes nothing.
 use mathlib.Core.Path.{_≡_, refl, sym, ap, ap₂, _∙_}
-use mathlib.Core.List.{List, _++_}
+use mathlib.Core.List.{List}
 use mathlib.Core.Logic.{_≢_}
 use Prim.Native.Nat.{ℕ, _+_, _*_, _≤_, _<_}
 use native.Mathlib.Omega.{arith}
 use borrow.Author.Tests.{ne-eqb, lt-ltb, le-ltb}
 use lib.ListN.{length, take, drop, length-append}
-use lib.Seq.{take-at, take-append-seam, drop-append-add, drop-drop}
 use Rattle.basics.specs.Logic.{_and_, all}
+use Rattle.basics.specs.Lists.{placed}
 use Rattle.basics.specs.Numbers.{accepted, bufferTooShort}
 use Rattle.basics.specs.Refusals.{firstNumber}
 use Rattle.basics.proofs.Cases.{if-true, if-false}
+use Rattle.basics.proofs.Placed.{placed-none, placed-behind, placed-start, placed-front}
 use Rattle.basics.proofs.FirstRow.{behind, refused-before, accepted-none}
 use Rattle.pattern.specs.Pattern.{mergedWords}
 use Rattle.pattern.specs.Opening.{Opening, wordRows, startRows, startNumber, given}
@@ -31,7 +32,9 @@ length-string ws separator =
 module _ (n : ℕ) (string buffer : List ℕ) where
   pub inside : writtenWith n string .length ≤ length (bufferWith n string buffer)
   unfolding writtenWith bufferWith
-  inside = let bytes = given n string in omega (arith, length-append bytes (drop (length bytes) buffer))
+  inside =
+      let bytes = given n string in
+      rw (placed-start buffer bytes) (omega (arith, length-append bytes (drop (length bytes) buffer)))
 
   module _ (refused : n ≢ accepted) where
     pub none-written : writtenWith n string ≡ record { number = n; length = 0 }
@@ -40,21 +43,21 @@ module _ (n : ℕ) (string buffer : List ℕ) where
 
     pub buffer-left : bufferWith n string buffer ≡ buffer
     unfolding bufferWith
-    buffer-left = rw (given-refused n string (ne-eqb n accepted refused))
+    buffer-left = rw (given-refused n string (ne-eqb n accepted refused)) (placed-none buffer 0)
 
   module _ (e : n ≡ accepted) where
     pub all-written : writtenWith n string ≡ record { number = accepted; length = length string }
     unfolding writtenWith
     all-written = rw (e, given-accepted accepted string refl)
 
-    pub string-in-front : bufferWith n string buffer ≡ string ++ drop (length string) buffer
+    pub string-in-front : bufferWith n string buffer ≡ placed buffer 0 string
     unfolding bufferWith
     string-in-front = rw (given-accepted n string e)
 
     pub front : take (writtenWith n string .length) (bufferWith n string buffer) ≡ string
     front =
         ap₂ (λ (w : Written) (l : List ℕ). take (w .length) l) all-written string-in-front
-        ∙ take-append-seam string (drop (length string) buffer)
+        ∙ placed-front buffer string
 
 -- ---- a string to a buffer
 
@@ -83,25 +86,19 @@ module _ (ws separator buffer : List ℕ) where
 
   -- the buffer with the words in its front
   abbrev half : List ℕ
-  half = wordBytes ws ++ drop (4 * length ws) buffer
+  half = placed buffer 0 (wordBytes ws)
 
   pub whole-string : 4 * length ws + length separator ≤ length buffer
       → (record { number = accepted; length = 4 * length ws + length separator } ≡ stringWritten string buffer)
-      × (take (4 * length ws) half ++ separator ++ drop (4 * length ws + length separator) half ≡ stringBuffer string buffer)
+      × (placed half (4 * length ws) separator ≡ stringBuffer string buffer)
   unfolding stringWritten stringBuffer stringOf
   whole-string h =
       let long = length-string ws separator in
       let number = number-0 string buffer (rw long h) in
-      let words = wordBytes ws in
-      let words-length = length-word-bytes ws in
-      let rest = drop (4 * length ws) buffer in
-      let behind : drop (4 * length ws + length separator) half ≡ drop (4 * length ws + length separator) buffer =
-      ap (λ (k : ℕ). drop (k + length separator) (words ++ rest)) (sym words-length)
-      ∙ drop-append-add words rest (length separator)
-      ∙ drop-drop (length separator) (4 * length ws) buffer in (
+      let place : 4 * length ws ≡ 0 + length (wordBytes ws) = omega (arith, length-word-bytes ws) in (
         (λ i. record { number = accepted; length = sym long i }) ∙ sym (all-written (bufferNumber string buffer) string buffer number),
-        ap₂ (λ (x y : List ℕ). x ++ separator ++ y) (take-at words rest (4 * length ws) words-length) behind
-            ∙ ap (λ (k : ℕ). words ++ separator ++ drop k buffer) (sym long)
+        ap (λ (k : ℕ). placed half k separator) place
+            ∙ placed-behind buffer 0 (wordBytes ws) separator (omega arith)
             ∙ sym (string-in-front (bufferNumber string buffer) string buffer number),
       )
 

@@ -5,7 +5,7 @@ use Prim.Native.Nat.{ℕ, _+_, _-_, _*_, _/_, _%_}
 use lib.Dec.{ltb, eqb}
 use lib.ListN.{length, take, drop}
 use Rattle.basics.specs.Logic.{_and_}
-use Rattle.basics.specs.Lists.{tabulate}
+use Rattle.basics.specs.Lists.{tabulate, placed}
 use Rattle.basics.specs.Digits.{digits, number}
 use Rattle.basics.specs.Numbers.{separatorTooLong, bufferTooShort, notTagString}
 use Rattle.basics.specs.Refusals.{Row, _gets_⨾_, firstNumber}
@@ -53,7 +53,7 @@ writtenWith number string = record { number = number; length = length (given num
 
 -- the buffer then: "it writes from the buffer's start and only the string's bytes, and none when refused"
 unfoldable pub bufferWith : ℕ → List ℕ → List ℕ → List ℕ
-bufferWith number string buffer = given number string ++ drop (length (given number string)) buffer
+bufferWith number string buffer = placed buffer 0 (given number string)
 
 -- the answer of writing a string to a buffer, whatever string it is
 unfoldable pub stringWritten : List ℕ → List ℕ → Written

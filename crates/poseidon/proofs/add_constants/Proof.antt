@@ -3,7 +3,9 @@
 use mathlib.Core.Path.{_≡_}
 use Prim.Native.Nat.{_+_, _*_, _-_, _%_}
 use denote.Ref.{now}
+use lib.Dec.{lit<}
 use lib.ListN.{getD}
+use Rattle.basics.proofs.Below.{below-at}
 use Rattle.basics.proofs.Fill.{Filled, start, step, end}
 use Rattle.field.specs.Field.{p}
 use Rattle.poseidon_tables.specs.Tables.{constants}
@@ -25,7 +27,7 @@ loop-holds c = start _ _ _ (search needs)
 add-reduced-requires : tie.Need-add-reduced-requires Inv-loop μ-loop
 add-reduced-requires c κs =
     let at-start = c .before .before .before .before in
-    (at-start .pre .2 .below _, rw (at-start .pre .1) (constants-reduced .below _))
+    (below-at p (lit< tt) _ (at-start .pre .2) _, rw (at-start .pre .1) (below-at p (lit< tt) constants constants-reduced _))
 
 loop-again : tie.Need-loop-again Inv-loop μ-loop
 loop-again c =

@@ -6,12 +6,11 @@ use Prim.Native.Nat.{ℕ, _+_, _*_, _-_, _%_, _≤_}
 use native.Mathlib.Omega.{arith}
 use denote.Ref.{now}
 use lib.ListN.{length, getD}
-use Rattle.basics.specs.Lists.{sum}
+use Rattle.basics.specs.Lists.{sum, Below}
 use Rattle.basics.proofs.Fill.{Filled, start, step, end}
 use Rattle.field.specs.Field.{p}
 use Rattle.poseidon_tables.specs.Tables.{inverses}
 use Rattle.poseidon.specs.Permutation.{multiply, matrix, babyBear}
-use Rattle.field.specs.Reduced.{Reduced}
 use Rattle.poseidon_tables.proofs.Entries.{inverses-reduced, inverses-length}
 use borrow.Author.Needs.{needs}
 use Rattle.poseidon.proofs.multiply.Statement.{statement}
@@ -31,7 +30,7 @@ row-product-requires c κs =
     let at-start = c .before .before .before in
     let e : now (at-start .args .table) ≡ inverses = at-start .pre .0 in (
       subst (λ (table : List ℕ). c .before .before .loop .i + 24 ≤ length table) (sym e) (omega (arith, inverses-length)),
-      subst (Reduced p) (sym e) inverses-reduced,
+      subst (Below p) (sym e) inverses-reduced,
       at-start .pre .1,
     )
 

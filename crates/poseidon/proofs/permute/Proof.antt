@@ -1,17 +1,14 @@
 -- `poseidon::permute` meets its contract.
 -- Assumes nothing.
 use mathlib.Core.Path.{_∙_, sym}
-use lib.Dec.{lit<}
 use Rattle.basics.proofs.Cases.{if-true, if-false}
-use Rattle.field.specs.Field.{p}
 use Rattle.poseidon.specs.Permutation.{permuted}
-use Rattle.poseidon.proofs.Bounds.{reduced-all}
 use borrow.Author.Needs.{needs}
 use Rattle.poseidon.proofs.permute.Statement.{statement}
 use Rattle.poseidon.proofs.permute.Tie as tie
 
 permute-reduced-requires : tie.Need-permute-reduced-requires
-permute-reduced-requires c κs = reduced-all p (lit< tt) _ (sym (c .before .is-reduced .ensures) ∙ c .if1 .taken)
+permute-reduced-requires c κs = sym (c .before .is-reduced .ensures) ∙ c .if1 .taken
 
 returns : tie.Need-returns
 unfolding permuted

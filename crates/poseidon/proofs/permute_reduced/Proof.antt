@@ -5,8 +5,8 @@ use Prim.Native.Nat.{_-_, _≤_}
 use native.Mathlib.Numerals.{add-one}
 use native.Mathlib.Omega.{arith}
 use lib.Dec.{lit<}
+use Rattle.basics.specs.Lists.{Below}
 use Rattle.field.specs.Field.{p}
-use Rattle.field.specs.Reduced.{Reduced}
 use Rattle.poseidon.specs.Permutation.{addConstants, raise, multiply, rounds, permutation, babyBear}
 use Rattle.poseidon.proofs.Bounds.{State, added, raised, multiplied}
 use borrow.Author.Needs.{needs}
@@ -32,7 +32,7 @@ multiply-requires : tie.Need-multiply-requires Inv-loop μ-loop
 unfolding babyBear
 multiply-requires c κs = (
   c .before .before .before .before .before .before .before .before .before .inverses .ensures,
-  subst (Reduced p) (sym (c .before .before .raise .ensures))
+  subst (Below p) (sym (c .before .before .raise .ensures))
       (raised babyBear (lit< tt) _ _ (subst (State p) (sym (c .before .before .before .before .add-constants .ensures)) (added babyBear (lit< tt) _ _)) .reduced),
 )
 

@@ -1,9 +1,10 @@
 -- `tag::write_string` meets its contract.
 -- Assumes nothing.
 use mathlib.Core.Path.{ap, _∙_}
-use mathlib.Core.List.{List, _++_}
-use Prim.Native.Nat.{ℕ, _+_, _*_}
-use lib.ListN.{length, take, drop}
+use mathlib.Core.List.{List}
+use Prim.Native.Nat.{ℕ, _*_}
+use lib.ListN.{length}
+use Rattle.basics.specs.Lists.{placed}
 use Rattle.tag.proofs.Writing.{buffer-too-short, whole-string}
 use borrow.Author.Needs.{needs}
 use Rattle.tag.proofs.write_string.Statement.{statement}
@@ -25,8 +26,7 @@ returns-2 c =
     let string = whole-string words separator (args .buffer .now) (at-room .if1 .left) in (
       string .0,
       at-bytes .put-bytes .ensures
-          ∙ ap (λ (l : List ℕ). take (4 * length words) l ++ separator ++ drop (4 * length words + length separator) l)
-          (at-words .put-words .ensures)
+          ∙ ap (λ (l : List ℕ). placed l (4 * length words) separator) (at-words .put-words .ensures)
           ∙ string .1,
     )
 
