@@ -137,9 +137,6 @@ module _ (s : List ℕ) (n : ℕ) where
         let same = length-take-le (length s - size) (drop size s) (omega (arith, length-drop size s)) in
         omega arith
 
-  -- the empty part at the string's end
-  pub empty-part : take (length s - length s) (drop (length s) s) ≡ []
-  empty-part = ap (take (length s - length s)) (drop-length s) ∙ take-nil (length s - length s)
-
-  pub empty-start : length s ≡ length s - length (take (length s - length s) (drop (length s) s))
-  empty-start = let none : length (take (length s - length s) (drop (length s) s)) ≡ 0 = ap length empty-part in omega arith
+  -- the part at the string's end is empty
+  pub empty-length : length (take (length s - length s) (drop (length s) s)) ≡ 0
+  empty-length = ap length (ap (take (length s - length s)) (drop-length s) ∙ take-nil (length s - length s))

@@ -2,7 +2,9 @@
 -- Assumes nothing.
 use mathlib.Core.Path.{sym, ap, _∙_}
 use Prim.Native.Nat.{ℕ, _+_}
-use Rattle.tag.proofs.Reading.{number-read, passed, separator-refused, separator-accepted, last-part, last-start, empty-part, empty-start}
+use native.Mathlib.Omega.{arith}
+use lib.Seq.{take-all}
+use Rattle.tag.proofs.Reading.{number-read, passed, separator-refused, separator-accepted, last-part, last-start, empty-length}
 use borrow.Author.Needs.{needs}
 use Rattle.tag_reader.proofs.read_separator.Statement.{statement}
 use Rattle.tag_reader.proofs.read_separator.Tie as tie
@@ -12,9 +14,10 @@ returns c =
     let string = c .before .before .before .before .before .args .string .now in
     let n = c .before .before .before .before .before .args .separator-length in
     let number = number-read string n _ (c .before .before .before .read .ensures) in
-    let at = c .before .before .before .before .before .args .string .ptr in (
-      empty-part string n ∙ sym (separator-refused string n (λ z. c .before .if1 .taken (sym number ∙ z))),
-      ap (λ (start : ℕ). (at .0, start + at .1)) (empty-start string n),
+    let at = c .before .before .before .before .before .args .string .ptr in
+    let none = empty-length string n in (
+      sym (take-all 0 _ (omega (arith, none))) ∙ sym (separator-refused string n (λ z. c .before .if1 .taken (sym number ∙ z))),
+      ap (λ (start : ℕ). (at .0, start)) (omega (arith, none)),
     )
 
 words-length-requires : tie.Need-words-length-requires
