@@ -3,9 +3,9 @@ use mathlib.Core.Path.{_≡_, _∙_, refl, ap}
 use mathlib.Core.List.{List, []}
 use Prim.Native.Nat.{ℕ, _*_, _^_, _<_}
 use lib.Dec.{lit<}
-use lib.ListN.{getD, take, drop}
+use lib.ListN.{length, getD, take, drop}
 use Rattle.basics.specs.Logic.{if_then_else_}
-use Rattle.basics.specs.Lists.{tabulate, sum}
+use Rattle.basics.specs.Lists.{tabulate, sum, padded}
 use Rattle.basics.specs.Digits.{digits, number, numberAfter}
 use Rattle.field.specs.Field.{p}
 use Rattle.poseidon_tables.specs.Tables.{constants}
@@ -33,15 +33,15 @@ computed : take 696 (run p 130992 (after 160 first) 0 0) ≡ constants
 unfolding run after step next emitted valueAfter sizeAfter first firstRegister digits sum if_then_else_ constants
 computed = refl
 
-pub table-found : found start p 696 262144 ≡ constants
-unfolding found number numberAfter
+pub table-found : generated ≡ constants
+unfolding generated found number numberAfter
 table-found =
     ap (λ (bits : List ℕ). take 696 (kept p (candidates (outputBits bits))))
-    (ap (λ (r : List ℕ). drop 160 (newBits 262144 r)) first-is ∙ dropped 160 first first-bound 261984)
+    (ap (λ (r : List ℕ). drop 160 (newBits 262144 r)) first-is ∙ dropped 160 first first-bound 262144)
     ∙ ap (take 696) (run-is p 130992 (after 160 first) [] (after-bound 160 first first-bound) (lit< tt))
     ∙ computed
 
--- "The 696 round constants come from Poseidon's Grain generator."
-pub table-generated : generated ≡ record { constants = constants; count = 696 }
-unfolding generated constants
-table-generated = rw table-found
+-- "The 696 round constants come from Poseidon's Grain generator.": with p, 262,144 and 696 places it finds 696, and leaves the table
+pub table-generated : (length generated ≡ 696) × (padded 696 generated ≡ constants)
+unfolding constants
+table-generated = rw table-found (refl, refl)

@@ -4,7 +4,7 @@ use mathlib.Core.Path.{_≡_, _∙_, refl, sym, ap, ap₂, subst}
 use mathlib.Core.Bool.{Bool, true, false}
 use mathlib.Core.List.{List, [], _∷_, _++_, append-nil}
 use Prim.Native.Nat.{ℕ, zero, suc, _+_, _-_, _*_, _/_, _%_, _^_, _<_}
-use native.Mathlib.Nat.{le-of-suc-le-suc, zero-add, add-comm, mul-assoc, mul-left-comm, pow-suc, mod-lt, mod-eq-of-lt, add-mul-div-left, add-mul-mod-self-right}
+use native.Mathlib.Nat.{le-of-suc-le-suc, add-comm, mul-assoc, mul-left-comm, pow-suc, mod-lt, mod-eq-of-lt, add-mul-div-left, add-mul-mod-self-right}
 use native.Mathlib.Numerals.{add-one, lt-of-le-of-ne}
 use native.Mathlib.Omega.{arith}
 use borrow.Author.Tests.{eqb-true, eqb-false}
@@ -77,12 +77,12 @@ unfolding after
 after-bound zero n h = h
 after-bound (suc i) n h = step-bound (after i n) (after-bound i n h)
 
-pub dropped : (i n : ℕ) → n < 2 ^ 80 → (count : ℕ) → drop i (newBits (i + count) (bitsOf n)) ≡ newBits count (bitsOf (after i n))
+pub dropped : (i n : ℕ) → n < 2 ^ 80 → (count : ℕ) → drop i (newBits count (bitsOf n)) ≡ newBits (count - i) (bitsOf (after i n))
 unfolding after
-dropped zero n h count = rw (zero-add count)
+dropped zero n h count = let e : count - 0 ≡ count = omega arith in rw e
 dropped (suc i) n h count =
-    (rw (add-one i) at (drop-next (bitsOf n) (bitsOf (after i n)) i (dropped i n h) count))
-    ∙ ap (newBits count) (shift-is (after i n) (after-bound i n h))
+    (rw (add-one i) at (drop-next (bitsOf n) (bitsOf (after i n)) i count (dropped i n h count)))
+    ∙ ap (newBits (count - suc i)) (shift-is (after i n) (after-bound i n h))
 
 -- ---- the generator on numbers: value and size are the number that the bits held write, and how many they are
 

@@ -43,13 +43,16 @@ shift-end r out bit long same e =
     set-split out 79 bit (omega arith)
     ∙ rw (e, take-all 79 (drop 1 r) short, drop-of-length-le out {i = 80} (omega arith))
 
--- one new bit more is dropped
-pub drop-next : (first r : List ℕ) (i : ℕ) → ((n : ℕ) → drop i (newBits (i + n) first) ≡ newBits n r)
-    → (n : ℕ) → drop (i + 1) (newBits (i + 1 + n) first) ≡ newBits n (shifted r)
+drop-first : (n : ℕ) (r : List ℕ) → drop 1 (newBits n r) ≡ newBits (n - 1) (shifted r)
 unfolding newBits
-drop-next first r i h n =
-    let e : i + 1 + n ≡ i + suc n = omega arith in
-    rw e (sym (drop-drop 1 i (newBits (i + suc n) first)) ∙ ap (drop 1) (h (suc n)))
+drop-first zero r = refl
+drop-first (suc n) r = let e : suc n - 1 ≡ n = omega arith in rw e
+
+-- one new bit more is dropped, if there is one
+pub drop-next : (first r : List ℕ) (i n : ℕ) → drop i (newBits n first) ≡ newBits (n - i) r → drop (i + 1) (newBits n first) ≡ newBits (n - (i + 1)) (shifted r)
+drop-next first r i n e =
+    let less : n - i - 1 ≡ n - (i + 1) = omega arith in
+    sym (drop-drop 1 i (newBits n first)) ∙ ap (drop 1) e ∙ drop-first (n - i) r ∙ ap (λ (k : ℕ). newBits k (shifted r)) less
 
 -- ---- output bits
 
@@ -105,16 +108,18 @@ candidate-part word h = rw (div-eq-of-lt h)
 
 -- ---- constants
 
-module _ (modulus : ℕ) (constants : List ℕ) (count candidate : ℕ) (rest : List ℕ) (room : count < 696) where
-  pub keep : count < length constants → candidate < modulus
-      → take count constants ++ take (696 - count) (kept modulus (candidate ∷ rest))
-      ≡ take (count + 1) (set constants count candidate) ++ take (696 - (count + 1)) (kept modulus rest)
-  unfolding kept
-  keep inside h =
-      let n : 696 - count ≡ suc (696 - (count + 1)) = omega arith in
-      rw (n, if-true (ltb candidate modulus) (candidate ∷ []) [] (lt-ltb _ _ h), add-one, take-suc-set constants count candidate inside)
-      (sym (append-snoc (take count constants) candidate (take (696 - suc count) (kept modulus rest))))
+-- a candidate below the modulus stands behind the constants found before it
+pub keep : (modulus wanted : ℕ) (constants : List ℕ) (candidate : ℕ) (rest : List ℕ) → length constants < wanted → candidate < modulus
+    → constants ++ take (wanted - length constants) (kept modulus (candidate ∷ rest))
+    ≡ (constants ++ (candidate ∷ [])) ++ take (wanted - length (constants ++ (candidate ∷ []))) (kept modulus rest)
+unfolding kept
+keep modulus wanted constants candidate rest room h =
+    let long = length-append constants (candidate ∷ []) in
+    let n : wanted - length constants ≡ suc (wanted - length (constants ++ (candidate ∷ []))) = omega arith in
+    rw (n, if-true (ltb candidate modulus) (candidate ∷ []) [] (lt-ltb _ _ h))
+    (sym (append-snoc constants candidate (take (wanted - length (constants ++ (candidate ∷ []))) (kept modulus rest))))
 
+-- any other is dropped
 pub skip : (modulus candidate : ℕ) (rest : List ℕ) → modulus ≤ candidate → kept modulus (candidate ∷ rest) ≡ kept modulus rest
 unfolding kept
 skip modulus candidate rest h = rw (if-false (ltb candidate modulus) (candidate ∷ []) [] (le-ltb _ _ h))

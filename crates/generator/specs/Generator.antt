@@ -1,12 +1,11 @@
 -- Poseidon's Grain generator of round constants (document 01, "Field and permutation"), on lists of bits.
 use mathlib.Core.List.{List, [], _∷_, _++_}
-use Prim.Native.Nat.{ℕ, zero, suc, _+_, _-_, _/_, _%_}
+use Prim.Native.Nat.{ℕ, zero, suc, _+_, _/_, _%_}
 use lib.Dec.{eqb, ltb}
 use lib.ListN.{length, getD, take, drop, replicate}
 use Rattle.basics.specs.Logic.{if_then_else_}
 use Rattle.basics.specs.Digits.{digits, number}
 use Rattle.field.specs.Field.{p}
-use Rattle.generator.specs.declared.Generated.{Generated}
 
 -- "An 80-bit register starts as, from bit 0 on and each number high bit first: field kind 1 (2 bits), power 0 (4),
 -- 31 (12), 24 (12), 8 (10), 21 (10), thirty ones.", where 21 is how many partial rounds the permutation has
@@ -47,13 +46,11 @@ unfoldable pub kept : ℕ → List ℕ → List ℕ
 kept modulus [] = []
 kept modulus (candidate ∷ rest) = (if ltb candidate modulus then candidate ∷ [] else []) ++ kept modulus rest
 
--- "The first 160 new bits are dropped." "It stops at 696 constants or 262,144 new bits, dropped ones included":
--- the constants found among the first limit new bits from a register on, at most wanted of them
+-- "The first 160 new bits are dropped." "It stops at 696 constants or 262,144 new bits, dropped ones included", here at any number
+-- wanted and any limit: the constants found among the first limit new bits from a register on, at most wanted of them
 unfoldable pub found : List ℕ → ℕ → ℕ → ℕ → List ℕ
 found register modulus wanted limit = take wanted (kept modulus (candidates (outputBits (drop 160 (newBits limit register)))))
 
--- "gives those found, zeros in the places left, and how many"
-unfoldable pub generated : Generated
-generated =
-    let constants = found (firstRegister 21) p 696 262144 in
-    record { constants = constants ++ replicate (696 - length constants) 0; count = length constants }
+-- the constants of the permutation: the register for 21 partial rounds; "It stops at 696 constants or 262,144 new bits"
+unfoldable pub generated : List ℕ
+generated = found (firstRegister 21) p 696 262144

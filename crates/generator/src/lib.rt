@@ -3,25 +3,14 @@ mod tables;
 
 ghost use mathlib.Core.Path.{_≡_};
 ghost use mathlib.Core.Bool.{true, false};
-ghost use Prim.Native.Nat.{ℕ, _+_, _<_};
-ghost use lib.ListN.{length, drop};
-ghost use Rattle.generator.specs.Generator.{firstRegister, nextBit, shifted, newBits, generated};
-ghost use Rattle.generator.specs.Steps.{NextOutput, NextCandidate};
+ghost use Prim.Native.Nat.{_+_, _-_, _<_};
+ghost use lib.ListN.{length, drop, replicate};
+ghost use Rattle.basics.specs.Lists.{padded, placed};
+ghost use Rattle.generator.specs.Generator.{firstRegister, nextBit, shifted, newBits, found};
+ghost use Rattle.generator.specs.Steps.{bitsLeft, foundFrom, NextOutput, NextCandidate};
 
 // How many new bits are dropped at the start.
 const DROPPED: usize = 160;
-
-// How many new bits may be taken, those dropped included.
-const LIMIT: usize = 262144;
-
-// How many new bits may be taken after those dropped.
-const USABLE: usize = LIMIT - DROPPED;
-
-// The constants found, then zeros, and how many were found.
-pub struct Generated {
-    pub constants: [u32; 696],
-    pub count: usize,
-}
 
 // Where the generator stands: the register, oldest bit first, and how many new bits may still be taken.
 struct Source {
@@ -78,9 +67,19 @@ fn shift(register: &[u8; 80]) -> [u8; 80]
     out
 }
 
-// The register behind the 160 new bits that are dropped.
-fn start() -> [u8; 80]
-    ensures { λ r. ⌜ ((n : ℕ) → drop 160 (newBits (160 + n) (firstRegister 21)) ≡ newBits n r) ⌝ }
+// How many new bits may be taken behind those dropped, which the limit counts too.
+fn usable(limit: usize) -> usize
+    ensures { λ r. ⌜ r ≡ limit - 160 ⌝ }
+{
+    if limit < DROPPED {
+        return 0;
+    }
+    limit - DROPPED
+}
+
+// The source behind the new bits that are dropped.
+fn start(limit: usize) -> Source
+    ensures { λ r. ⌜ bitsLeft r ≡ drop 160 (newBits limit (firstRegister 21)) ⌝ }
 {
     let mut register = tables::FIRST_REGISTER;
     let mut i: usize = 0;
@@ -88,7 +87,8 @@ fn start() -> [u8; 80]
         register = shift(&register);
         i += 1;
     }
-    register
+    let left = usable(limit);
+    Source { register, left }
 }
 
 // Takes new bits in pairs until the first of a pair is 1, or fewer than two are left.
@@ -144,26 +144,46 @@ fn next_candidate(source: Source) -> Candidate
     }
 }
 
-// Runs the generator until it has 696 constants or no bits left.
-pub fn generate() -> Generated
-    ensures { λ r. ⌜ r ≡ generated ⌝ }
+// Stores constants from the list's start on, until it is full or the source makes no candidate. Answers how many.
+fn fill(source: Source, modulus: u32, constants: &mut [u32]) -> usize
+    ensures { λ r. ⌜ (r ≡ length (foundFrom source modulus (length (now (constants .entry))))) ×
+        (now (constants .exit) ≡ placed (now (constants .entry)) 0 (foundFrom source modulus (length (now (constants .entry))))) ⌝ }
 {
-    let mut source = Source {
-        register: start(),
-        left: USABLE,
-    };
-    let mut constants = [0u32; 696];
+    let mut from = source;
     let mut count: usize = 0;
-    while count < 696 {
-        let next = next_candidate(source);
+    while count < constants.len() {
+        let next = next_candidate(from);
         if !next.present {
-            return Generated { constants, count };
+            return count;
         }
-        source = next.source;
-        if next.value < field::P {
+        from = next.source;
+        if next.value < modulus {
             constants[count] = next.value;
             count += 1;
         }
     }
-    Generated { constants, count }
+    count
+}
+
+// Zeros from a place on.
+fn clear(constants: &mut [u32], from: usize)
+    ensures { λ _. ⌜ now (constants .exit) ≡ placed (now (constants .entry)) from (replicate (length (now (constants .entry)) - from) 0) ⌝ }
+{
+    let mut i = from;
+    while i < constants.len() {
+        constants[i] = 0;
+        i += 1;
+    }
+}
+
+// Runs the generator until the list lent is full or the limit of new bits is reached. Answers how many constants were found;
+// zeros stand behind them.
+pub fn generate(modulus: u32, limit: usize, constants: &mut [u32]) -> usize
+    ensures { λ r. ⌜ (r ≡ length (found (firstRegister 21) modulus (length (now (constants .entry))) limit)) ×
+        (now (constants .exit) ≡ padded (length (now (constants .entry))) (found (firstRegister 21) modulus (length (now (constants .entry))) limit)) ⌝ }
+{
+    let source = start(limit);
+    let count = fill(source, modulus, constants);
+    clear(constants, count);
+    count
 }

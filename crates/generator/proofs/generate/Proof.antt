@@ -1,123 +1,57 @@
--- `generator::generate` meets its contract: the constants so far, and those of the bits left, are the constants found.
+-- `generator::generate` meets its contract.
 -- Assumes nothing.
-use mathlib.Core.Path.{_≡_, _∙_, refl, sym, ap}
-use mathlib.Core.List.{List, [], _∷_, _++_, append-nil}
-use Prim.Native.Nat.{ℕ, suc, _+_, _-_, _≤_, _<_}
+use mathlib.Core.Path.{_≡_, _∙_, sym, ap, ap₂}
+use mathlib.Core.List.{List, _++_, append-nil}
+use Prim.Native.Nat.{ℕ, _-_, _≤_}
+use native.Mathlib.Nat.{zero-add}
 use native.Mathlib.Omega.{arith}
-use borrow.Author.Tests.{not-true, not-false}
-use lib.ListN.{length, take, drop, set, replicate, length-set, take-append-drop}
-use lib.Seq.{take-nil, length-take-le, drop-set-lt, drop-drop}
-use Rattle.field.specs.Field.{p}
-use Rattle.generator.specs.Generator.{firstRegister, outputBits, candidates, kept, found, generated}
-use Rattle.generator.specs.Steps.{bitsLeft}
+use lib.ListN.{length, take, drop, replicate, length-append, length-replicate, length-take, drop-of-length-le}
+use Rattle.basics.specs.Lists.{padded, placed}
+use Rattle.basics.proofs.Placed.{placed-length, placed-behind, placed-start}
+use Rattle.generator.specs.Generator.{firstRegister, newBits, outputBits, candidates, kept, found}
+use Rattle.generator.specs.Steps.{bitsLeft, foundFrom}
 use Rattle.generator.specs.declared.Source.{Source}
-use Rattle.generator.specs.declared.Generated.{Generated}
-use Rattle.generator.proofs.Streams.{keep, skip}
 use borrow.Author.Needs.{needs}
 use Rattle.generator.proofs.generate.Statement.{statement}
 use Rattle.generator.proofs.generate.Tie as tie
 
--- count constants are found, zeros stand behind them, and the others are still to come from the source
-record Progress (source : Source) (constants : List ℕ) (count : ℕ) : Type 0 where
-  within : count ≤ 696
-  long : length constants ≡ 696
-  blank : drop count constants ≡ replicate (696 - count) 0
-  all : found (firstRegister 21) p 696 262144 ≡ take count constants ++ take (696 - count) (kept p (candidates (outputBits (bitsLeft source))))
+-- a text at the start of a buffer, and zeros from its end on
+zeros-behind : (buffer text : List ℕ) → length text ≤ length buffer
+    → placed (placed buffer 0 text) (length text) (replicate (length (placed buffer 0 text) - length text) 0) ≡ padded (length buffer) text
+zeros-behind buffer text h =
+    let zeros : List ℕ = replicate (length buffer - length text) 0 in
+    let size : length zeros ≡ length buffer - length text = length-replicate {A = ℕ} (length buffer - length text) 0 in
+    let whole = length-append text zeros in
+    ap₂ (λ (n k : ℕ). placed (placed buffer 0 text) k (replicate (n - length text) 0)) (placed-length buffer 0 text (omega arith)) (sym (zero-add (length text)))
+    ∙ placed-behind buffer 0 text zeros (omega arith)
+    ∙ placed-start buffer (text ++ zeros)
+    ∙ ap (λ (l : List ℕ). text ++ zeros ++ l) (drop-of-length-le buffer {i = length (text ++ zeros)} (omega arith))
+    ∙ append-nil (text ++ zeros)
 
--- nothing is to come: what there is, is the answer
-done : {source : Source} (constants : List ℕ) (count : ℕ) → Progress source constants count
-    → take (696 - count) (kept p (candidates (outputBits (bitsLeft source)))) ≡ []
-    → _≡_ {A = Generated} (record { constants = constants; count = count }) generated
-unfolding generated
-done constants count k e =
-    let f : found (firstRegister 21) p 696 262144 ≡ take count constants = k .all ∙ ap (λ (rest : List ℕ). take count constants ++ rest) e ∙ append-nil _ in
-    let n : length (take count constants) ≡ count = length-take-le count constants (omega arith) in
-    rw (f, n, ← k .blank, take-append-drop count constants)
+-- the three calls: a source behind the dropped bits, its constants at the start of the list, and zeros behind them
+answer : (source : Source) (modulus limit count : ℕ) (entry filled cleared : List ℕ)
+    → bitsLeft source ≡ drop 160 (newBits limit (firstRegister 21))
+    → (count ≡ length (foundFrom source modulus (length entry))) × (filled ≡ placed entry 0 (foundFrom source modulus (length entry)))
+    → cleared ≡ placed filled count (replicate (length filled - count) 0)
+    → (count ≡ length (found (firstRegister 21) modulus (length entry) limit)) × (cleared ≡ padded (length entry) (found (firstRegister 21) modulus (length entry) limit))
+unfolding found foundFrom
+answer source modulus limit count entry filled cleared e (number, is) zeros =
+    let constants = foundFrom source modulus (length entry) in
+    let same : constants ≡ found (firstRegister 21) modulus (length entry) limit =
+    ap (λ (bits : List ℕ). take (length entry) (kept modulus (candidates (outputBits bits)))) e in
+    let few : length constants ≡ _ = length-take (length entry) (kept modulus (candidates (outputBits (bitsLeft source)))) in (
+      number ∙ ap length same,
+      zeros
+          ∙ ap₂ (λ (n : ℕ) (l : List ℕ). placed l n (replicate (length l - n) 0)) number is
+          ∙ zeros-behind entry constants (omega arith)
+          ∙ ap (padded (length entry)) same,
+    )
 
--- a candidate below p is stored
-stored : {source next : Source} {constants : List ℕ} {count value : ℕ} → Progress source constants count → count < 696 → value < p
-    → candidates (outputBits (bitsLeft source)) ≡ value ∷ candidates (outputBits (bitsLeft next)) → Progress next (set constants count value) (count + 1)
-stored {next = next} {constants = constants} {count = count} {value = value} k room small e =
-    let n : 696 - count ≡ suc (696 - (count + 1)) = omega arith in
-    record {
-      within = omega arith;
-      long = length-set constants count value ∙ k .long;
-      blank = drop-set-lt (count + 1) constants count value (omega arith) ∙ sym (drop-drop 1 count constants) ∙ ap (drop 1) (k .blank) ∙ rw n;
-      all = k .all ∙ rw e (keep p constants count value _ room (omega arith) small);
-    }
-
--- any other is dropped
-dropped : {source next : Source} {constants : List ℕ} {count value : ℕ} → Progress source constants count → p ≤ value
-    → candidates (outputBits (bitsLeft source)) ≡ value ∷ candidates (outputBits (bitsLeft next)) → Progress next constants count
-dropped {constants = constants} {count = count} {value = value} k large e =
-    record {
-      within = k .within;
-      long = k .long;
-      blank = k .blank;
-      all = k .all ∙ ap (λ (rest : List ℕ). take count constants ++ take (696 - count) rest) (ap (kept p) e ∙ skip p value _ large);
-    }
-
-abbrev Inv-loop : tie.InvT-loop
-Inv-loop source₀ constants₀ count₀ source constants count = Progress source constants count
-
-abbrev μ-loop : tie.MeasureT-loop
-μ-loop source₀ constants₀ count₀ source constants count = source .left
-
-loop-holds : tie.Need-loop-holds Inv-loop μ-loop
-unfolding found bitsLeft
-loop-holds c =
-    record {
-      within = search needs;
-      long = refl;
-      blank = refl;
-      all = ap (λ (bits : List ℕ). take 696 (kept p (candidates (outputBits bits)))) (c .start .ensures 261984);
-    }
-
-returns : tie.Need-returns Inv-loop μ-loop
-unfolding kept
+returns : tie.Need-returns
 returns c =
-    let l = c .before .before .before .before .loop in
-    done (l .constants) (l .count) (l .inv)
-    (ap (λ (rest : List ℕ). take (696 - l .count) (kept p rest)) (c .before .before .next-candidate .ensures .none (not-true _ (c .if1 .taken)))
-    ∙ take-nil (696 - l .count))
-
-loop-less : tie.Need-loop-less Inv-loop μ-loop
-loop-less c = c .before .before .before .before .before .next-candidate .ensures .fewer (not-false _ (c .before .before .before .if1 .left))
-
-loop-again : tie.Need-loop-again Inv-loop μ-loop
-loop-again c =
-    let next = c .before .before .before .before .before .next-candidate .ensures in
-    stored (c .before .before .before .before .before .before .before .loop .inv) (search needs) (c .if2 .taken) (next .some (not-false _ (c .before .before .before .if1 .left)))
-
-loop-less-2 : tie.Need-loop-less-2 Inv-loop μ-loop
-loop-less-2 c = c .before .before .before .before .before .next-candidate .ensures .fewer (not-false _ (c .before .before .before .if1 .left))
-
-loop-again-2 : tie.Need-loop-again-2 Inv-loop μ-loop
-loop-again-2 c =
-    let next = c .before .before .before .before .before .next-candidate .ensures in
-    dropped (c .before .before .before .before .before .before .before .loop .inv) (c .if2 .left) (next .some (not-false _ (c .before .before .before .if1 .left)))
-
-returns-2 : tie.Need-returns-2 Inv-loop μ-loop
-returns-2 c =
-    let l = c .before .loop in
-    let e : 696 - l .count ≡ 0 = omega arith in
-    done (l .constants) (l .count) (l .inv) (rw e)
+    let filled = c .before .before .before .before .before .before in
+    answer _ _ _ _ _ _ _ (filled .before .before .start .ensures) (filled .fill .ensures) (c .before .before .clear .ensures)
 
 pub generate-spec : {M : Type 1} → statement M
 generate-spec =
-    tie.close
-    (tie.spec
-    Inv-loop
-    μ-loop
-    (λ c κs. search needs)
-    loop-holds
-    (λ c κs. search needs)
-    returns
-    (λ c. search needs)
-    (λ c. search needs)
-    (λ c. search needs)
-    loop-less
-    loop-again
-    loop-less-2
-    loop-again-2
-    returns-2)
+    tie.close (tie.spec (λ c κs. search needs) (λ c κs. search needs) (λ c κs. search needs) (λ c. search needs) returns)

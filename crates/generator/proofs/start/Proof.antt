@@ -1,26 +1,28 @@
 -- `generator::start` meets its contract.
 -- Assumes nothing.
-use mathlib.Core.Path.{_≡_, refl}
-use Prim.Native.Nat.{ℕ, _+_, _-_, _≤_}
-use native.Mathlib.Nat.{zero-add}
+use mathlib.Core.Path.{_≡_, refl, sym, ap}
+use Prim.Native.Nat.{ℕ, _-_, _≤_}
 use native.Mathlib.Omega.{arith}
 use lib.ListN.{length, drop}
 use Rattle.basics.specs.Digits.{digits}
 use Rattle.generator.specs.Generator.{firstRegister, newBits}
+use Rattle.generator.specs.Steps.{bitsLeft}
 use Rattle.generator.proofs.Streams.{length-shifted, drop-next}
 use borrow.Author.Needs.{needs}
 use Rattle.generator.proofs.start.Statement.{statement}
 use Rattle.generator.proofs.start.Tie as tie
 
 abbrev Inv-loop : tie.InvT-loop
-Inv-loop register₀ i₀ register i = (i ≤ 160) × (length register ≡ 80) × ((n : ℕ) → drop i (newBits (i + n) (firstRegister 21)) ≡ newBits n register)
+Inv-loop limit register₀ i₀ register i = (i ≤ 160) × (length register ≡ 80) × (drop i (newBits limit (firstRegister 21)) ≡ newBits (limit - i) register)
 
 abbrev μ-loop : tie.MeasureT-loop
-μ-loop register₀ i₀ register i = 160 - i
+μ-loop limit register₀ i₀ register i = 160 - i
 
 loop-holds : tie.Need-loop-holds Inv-loop μ-loop
 unfolding firstRegister digits
-loop-holds c = (search needs, refl, λ n. rw (zero-add n))
+loop-holds c =
+    let e : c .args .limit ≡ c .args .limit - 0 = omega arith in
+    (search needs, refl, ap (λ (n : ℕ). newBits n (firstRegister 21)) e)
 
 shift-requires : tie.Need-shift-requires Inv-loop μ-loop
 shift-requires c κs = c .before .before .loop .inv .1
@@ -30,14 +32,15 @@ loop-again c =
     let at-loop = c .before .before .before .loop in (
       omega arith,
       rw (c .shift .ensures) (length-shifted _ (at-loop .inv .1)),
-      rw (c .shift .ensures) (drop-next _ _ (at-loop .i) (at-loop .inv .2)),
+      rw (c .shift .ensures) (drop-next _ _ (at-loop .i) _ (at-loop .inv .2)),
     )
 
 returns : tie.Need-returns Inv-loop μ-loop
+unfolding bitsLeft
 returns c =
-    let at-loop = c .before .loop in
+    let at-loop = c .before .before .loop in
     let e : at-loop .i ≡ 160 = omega arith in
-    rw e at (at-loop .inv .2)
+    rw (c .usable .ensures) (sym (rw e at (at-loop .inv .2)))
 
 pub start-spec : {M : Type 1} → statement M
 start-spec =
@@ -50,4 +53,5 @@ start-spec =
     (λ c. search needs)
     (λ c. search needs)
     loop-again
+    (λ c κs. search needs)
     returns)
