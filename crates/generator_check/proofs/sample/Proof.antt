@@ -1,0 +1,35 @@
+-- `generator_check::sample` is safe: the places lent are as many as wanted.
+-- Assumes nothing.
+use mathlib.Core.Path.{sym}
+use native.Mathlib.Omega.{arith}
+use lib.Seq.{length-take-le}
+use borrow.Author.Needs.{needs}
+use Rattle.generator_check.proofs.sample.Statement.{statement}
+use Rattle.generator_check.proofs.sample.Tie as tie
+
+slice-aggregate-generate : tie.Need-slice-aggregate-generate
+slice-aggregate-generate c = sym (length-take-le _ _ (omega arith))
+
+pub sample-spec : {M : Type 1} → statement M
+sample-spec =
+    tie.close
+    (tie.spec
+    (λ c. search needs)
+    slice-aggregate-generate
+    (λ c κs. search needs)
+    (λ c. search needs)
+    (λ c κs. search needs)
+    (λ c. search needs)
+    (λ c κs. search needs)
+    (λ c. search needs)
+    (λ c κs. search needs)
+    (λ c. search needs)
+    (λ c κs. search needs)
+    (λ c. search needs)
+    (λ c κs. search needs)
+    (λ c. search needs)
+    (λ c κs. search needs)
+    (λ c κs. search needs)
+    (λ c. search needs)
+    (λ c κs. search needs)
+    (λ c. search needs))
