@@ -26,9 +26,9 @@ record Cleared (entry : List ℕ) (from : ℕ) (constants : List ℕ) (i : ℕ) 
   long : length constants ≡ length entry
   is : constants ≡ placed entry from (replicate (i - from) 0)
 
-none : (entry : List ℕ) (from : ℕ) → Cleared entry from entry from
-none entry from =
-    let e : 0 ≡ from - from = omega arith in
+none : (entry : List ℕ) (from i : ℕ) → i ≡ from → Cleared entry from entry i
+none entry from i first =
+    let e : 0 ≡ i - from = omega arith in
     record {
       behind = omega arith;
       within = omega arith;
@@ -62,7 +62,7 @@ abbrev μ-loop : tie.MeasureT-loop
 μ-loop constants₀ from i₀ constants i = length constants₀ - i
 
 loop-holds : tie.Need-loop-holds Inv-loop μ-loop
-loop-holds c = none _ _
+loop-holds c = none _ _ _ (omega arith)
 
 loop-again : tie.Need-loop-again Inv-loop μ-loop
 loop-again c = more (c .before .loop .inv) (search needs)
