@@ -33,8 +33,8 @@ computed : take 696 (run p 130992 (after 160 first) 0 0) ≡ constants
 unfolding run after step next emitted valueAfter sizeAfter first firstRegister digits sum if_then_else_ constants
 computed = refl
 
-pub table-found : generated ≡ constants
-unfolding generated found number numberAfter
+pub table-found : found start p 696 262144 ≡ constants
+unfolding found number numberAfter
 table-found =
     ap (λ (bits : List ℕ). take 696 (kept p (candidates (outputBits bits))))
     (ap (λ (r : List ℕ). drop 160 (newBits 262144 r)) first-is ∙ dropped 160 first first-bound 262144)
@@ -43,5 +43,5 @@ table-found =
 
 -- "The 696 round constants come from Poseidon's Grain generator.": with p, 262,144 and 696 places it finds 696, and leaves the table
 pub table-generated : (length generated ≡ 696) × (padded 696 generated ≡ constants)
-unfolding constants
+unfolding generated constants
 table-generated = rw table-found (refl, refl)
