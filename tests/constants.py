@@ -23,7 +23,7 @@ SAMPLES = (
 
 
 def until(limit, bits):
-    """The first bits, as many as the limit says."""
+    """The first bits, as many as the limit says; islice takes no limit of 64 bits."""
     for taken, bit in enumerate(bits):
         if taken == limit:
             return

@@ -2,8 +2,7 @@
 mod tables;
 
 ghost use mathlib.Core.Path.{_≡_};
-ghost use mathlib.Core.Bool.{true, false};
-ghost use Prim.Native.Nat.{_+_, _-_, _<_};
+ghost use Prim.Native.Nat.{_-_, _<_};
 ghost use lib.ListN.{length, drop, replicate};
 ghost use Rattle.basics.specs.Lists.{padded, placed};
 ghost use Rattle.generator.specs.Generator.{firstRegister, nextBit, shifted, newBits, found};
