@@ -22,7 +22,7 @@ use Rattle.counters.proofs.PermutationCounts.{phase-bound, sum-bound}
 use Rattle.card_grammar.specs.Text.{hex, decimal}
 use Rattle.card_grammar.specs.Grammar.{Reading, card, none}
 use Rattle.card_grammar.specs.Card.{cardOf}
-use Rattle.card_grammar.specs.Digits.{decimal-small, decimal-more}
+use Rattle.card_grammar.proofs.Digits.{decimal-small, decimal-more}
 use Rattle.card.specs.Answer.{longestAnswer, okText, noText, cardAnswer, answer}
 use Rattle.card.proofs.Laws.{answer-card, answer-none}
 

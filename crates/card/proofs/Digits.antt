@@ -9,7 +9,7 @@ use native.Mathlib.Omega.{arith}
 use lib.ListN.{length, getD, take, set, length-append}
 use lib.Seq.{length-take-le, take-suc}
 use Rattle.card_grammar.specs.Text.{hexDigit, hex, decimal}
-use Rattle.card_grammar.specs.Digits.{hex-append, decimal-small, decimal-more}
+use Rattle.card_grammar.proofs.Digits.{hex-append, decimal-small, decimal-more}
 use Rattle.card.specs.Answer.{placed}
 use Rattle.card.proofs.Placed.{placed-none, placed-set}
 use Rattle.card.proofs.Bounds.{length-hex, length-decimal-more}

@@ -1,14 +1,10 @@
 -- Which lines are cards. From document 01, "Cards".
 use mathlib.Core.Path.{_≡_}
-use mathlib.Core.List.{List, [], _∷_}
-use Prim.Native.Nat.{ℕ, _<_, _≤_}
+use mathlib.Core.List.{List}
+use Prim.Native.Nat.{ℕ, _≤_}
 use lib.ListN.{length}
+use Rattle.basics.specs.Lists.{Below}
 use Rattle.card_grammar.specs.Text.{cardText}
-
--- every number of a list is below a bound
-unfoldable pub Below : ℕ → List ℕ → Type 0
-Below n [] = Unit {0}
-Below n (x ∷ xs) = (x < n) × Below n xs
 
 -- A line, "at most 2,048 bytes before the newline", is the card of a separator, which is bytes, and of words, which are numbers of 32
 -- bits, if it is their text, byte for byte. A word's length is thereby "at most 2147483647".
@@ -23,11 +19,6 @@ pub data Reading : Type 0 where
   card : List ℕ → List ℕ → Reading
   none : Reading
 
--- a line is a card, with its separator and its words; or it is none, whatever separator and words are tried
-pub record IsCard (line : List ℕ) : Type 0 where
-  pub separator : List ℕ
-  pub words : List ℕ
-  pub is : CardOf line separator words
-
+-- a line is no card, whatever separator and words are tried
 pub record NoCard (line : List ℕ) : Type 0 where
   pub never : (separator ws : List ℕ) → CardOf line separator ws → ⊥

@@ -9,15 +9,14 @@ use lib.ListN.{length, take, getD, replicate}
 use lib.Seq.{take-suc, take-all}
 use Rattle.card_grammar.specs.Grammar.{none}
 use Rattle.card_grammar.specs.Machine.{moveOf, State, at, moved, run, fresh}
-use Rattle.card_grammar.specs.Forward.{run-append}
-use Rattle.card_grammar.specs.Decided.{ended-card, not-ended}
+use Rattle.card_grammar.proofs.Forward.{run-append}
 use Rattle.card_grammar.specs.Card.{cardOf}
 use Rattle.card_reader.specs.Reading.{reading}
 use Rattle.card_grammar.specs.declared.machine.Mode.{Mode}
 use Rattle.card_grammar.specs.declared.machine.Mode.the-variants.{Head, End}
 use Rattle.card_grammar.specs.declared.machine.Move.{Move}
 use Rattle.card_reader.proofs.Kept.{Kept, nothing-kept}
-use Rattle.card_grammar.proofs.Laws.{card-of, none-of}
+use Rattle.card_grammar.proofs.Laws.{ended, not-ended}
 
 pub record Held (line separator : List ℕ) (separatorLength : ℕ) (words : List ℕ) (wordCount : ℕ) (mode : Mode) (i : ℕ) : Type 0 where
   pub bytes : List ℕ
@@ -69,7 +68,6 @@ module _ {line separator words : List ℕ} {separatorLength wordCount i : ℕ} {
         } ≡ reading (cardOf line)
     unfolding reading
     held-card short e =
-        let ended : run fresh line ≡ at End (h .bytes) (h .calls) = whole ∙ ap (λ (m : Mode). at m (h .bytes) (h .calls)) e in
         (λ j. record {
           «is_card» = true;
           separator = h .bytes-kept .numbers j;
@@ -77,7 +75,7 @@ module _ {line separator words : List ℕ} {separatorLength wordCount i : ℕ} {
           words = h .calls-kept .numbers j;
           «word_count» = h .calls-kept .counted j;
         })
-        ∙ ap reading (sym (card-of line (h .bytes) (h .calls) (ended-card line (h .bytes) (h .calls) short ended)))
+        ∙ ap reading (sym (ended line (h .bytes) (h .calls) short (whole ∙ ap (λ (m : Mode). at m (h .bytes) (h .calls)) e)))
 
-    pub held-none : (mode ≡ End → ⊥) → cardOf line ≡ none
-    held-none other = none-of line (not-ended line (λ e. other (sym (ap (λ (st : State). st .mode) whole) ∙ e)))
+    pub held-none : length line ≤ 2048 → (mode ≡ End → ⊥) → cardOf line ≡ none
+    held-none short other = not-ended line short (λ e. other (sym (ap (λ (st : State). st .mode) whole) ∙ e))

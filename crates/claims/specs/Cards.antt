@@ -4,11 +4,11 @@ use mathlib.Core.Path.{_≡_, refl, sym, ap, ap₂, _∙_}
 use mathlib.Core.Bool.{true}
 use mathlib.Core.List.{List, [], _∷_, _++_}
 use Prim.Native.Nat.{ℕ, _<_}
-use lib.Dec.{lit<, lit≤}
+use lib.Dec.{lit≤}
 use lib.ListN.{length, take}
-use Rattle.basics.specs.Logic.{if_then_else_, _or_, same, any}
+use Rattle.basics.specs.Logic.{if_then_else_, _and_, _or_, same, all, any}
 use Rattle.basics.specs.Digits.{digits}
-use Rattle.basics.specs.Lists.{sum}
+use Rattle.basics.specs.Lists.{sum, Below}
 use Rattle.basics.specs.Numbers.{notCard}
 use Rattle.basics.proofs.Cases.{if-true}
 use Rattle.basics.specs.Refusals.{firstNumber}
@@ -20,7 +20,7 @@ use Rattle.counters.specs.Permutations.{blockCount, phasePermutations, permutat
 use Rattle.runs.specs.Runs.{Run, tagOf, permutationsOf}
 use Rattle.runs.proofs.Opened.{start-accepted}
 use Rattle.card_grammar.specs.Text.{ascii, hexDigit, hex, separatorText, decimalUpTo, decimal, callText, callsText, cardText}
-use Rattle.card_grammar.specs.Grammar.{Below, CardOf, card, none, NoCard}
+use Rattle.card_grammar.specs.Grammar.{CardOf, card, none, NoCard}
 use Rattle.card_grammar.specs.Card.{cardOf}
 use Rattle.card_grammar.proofs.Laws as grammar
 use Rattle.card.specs.Answer.{okText, noText, cardAnswer, answer, hasRoom, answerInto, beginning}
@@ -129,16 +129,16 @@ line3 : List ℕ
 line3 = ascii "(card (domain) (calls (a 0)))"
 
 card1 : CardOf line1 (0x41 ∷ 0x42 ∷ []) (0x80000003 ∷ 0x80000003 ∷ 3 ∷ [])
-unfolding line1 Below hexDigit hex separatorText decimalUpTo decimal callText callsText cardText isAbsorb lengthOf if_then_else_
-card1 = record { short = lit≤ tt; bytes = (lit< tt, (lit< tt, tt)); words = (lit< tt, (lit< tt, (lit< tt, tt))); text = refl }
+unfolding line1 all _and_ hexDigit hex separatorText decimalUpTo decimal callText callsText cardText isAbsorb lengthOf if_then_else_
+card1 = record { short = lit≤ tt; bytes = refl; words = refl; text = refl }
 
 card2 : CardOf line2 [] (1 ∷ [])
-unfolding line2 Below hexDigit hex separatorText decimalUpTo decimal callText callsText cardText isAbsorb lengthOf if_then_else_
-card2 = record { short = lit≤ tt; bytes = tt; words = (lit< tt, tt); text = refl }
+unfolding line2 all _and_ hexDigit hex separatorText decimalUpTo decimal callText callsText cardText isAbsorb lengthOf if_then_else_
+card2 = record { short = lit≤ tt; bytes = refl; words = refl; text = refl }
 
 card3 : CardOf line3 [] (0x80000000 ∷ [])
-unfolding line3 Below hexDigit hex separatorText decimalUpTo decimal callText callsText cardText isAbsorb lengthOf if_then_else_
-card3 = record { short = lit≤ tt; bytes = tt; words = (lit< tt, tt); text = refl }
+unfolding line3 all _and_ hexDigit hex separatorText decimalUpTo decimal callText callsText cardText isAbsorb lengthOf if_then_else_
+card3 = record { short = lit≤ tt; bytes = refl; words = refl; text = refl }
 
 answer1 : answer line1 ≡ ascii "(ok 80000006000000034142 1)"
 unfolding cardAnswer okText startNumber startRows wordRows firstNumber tooLong tagString stringOf wordBytes digits mergedWords phases merge join phaseOf wordOf isAbsorb lengthOf

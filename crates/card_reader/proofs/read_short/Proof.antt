@@ -69,7 +69,8 @@ loop-again-3 c =
 returns : tie.Need-returns Inv-loop μ-loop
 returns c =
     c .no-card .ensures
-    ∙ ap reading (sym (held-none (c .before .before .before .loop .inv) (c .before .before .loop-test .left) (not-end _ (c .before .match2 .keys2))))
+    ∙ ap reading (sym (held-none (c .before .before .before .loop .inv) (c .before .before .loop-test .left) (c .before .before .before .before .before .pre)
+    (not-end _ (c .before .match2 .keys2))))
 
 returns-2 : tie.Need-returns-2 Inv-loop μ-loop
 returns-2 c =

@@ -1,4 +1,5 @@
--- Digits: what is printed reads back, and a byte that reads as a digit was printed so. Proofs, which a reader of the statements may pass over.
+-- Digits: what is printed reads back, and a byte that reads as a digit was printed so.
+-- Assumes nothing.
 use mathlib.Core.Path.{_≡_, refl, sym, ap, _∙_}
 use mathlib.Core.Bool.{false}
 use mathlib.Core.List.{List, [], _∷_, _++_}

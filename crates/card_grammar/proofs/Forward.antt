@@ -1,4 +1,5 @@
--- The machine takes a card's text to its end, with its separator and words. Proofs, which a reader of the statements may pass over.
+-- The machine takes a card's text to its end, with its separator and words.
+-- Assumes nothing.
 use mathlib.Core.Path.{_≡_, refl, ap, _∙_}
 use mathlib.Core.List.{List, [], _∷_, _++_, append-assoc, append-nil}
 use Prim.Native.Nat.{ℕ, zero, suc, _+_, _*_, _/_, _%_, _<_, _≤_}
@@ -6,12 +7,13 @@ use native.Mathlib.Omega.{arith}
 use borrow.Author.Tests.{lt-ltb, ltb-true, ltb-false, le-leb, leb-true, leb-false, ne-eqb, eqb-true, eqb-false}
 use lib.Dec.{ltb, leb, eqb}
 use Rattle.basics.specs.Logic.{if_then_else_}
+use Rattle.basics.specs.Lists.{Below}
 use Rattle.basics.proofs.Cases.{cases}
+use Rattle.basics.proofs.Below.{below-head, below-tail}
 use Rattle.words.specs.Words.{isAbsorb, lengthOf}
 use Rattle.card_grammar.specs.Text.{headText, middleText, endText, hexDigit, hex, separatorText, decimal, callText, callsText, cardText}
-use Rattle.card_grammar.specs.Grammar.{Below}
 use Rattle.card_grammar.specs.Machine.{headAt, middleAt, expected, moveOf, State, at, moved, stepped, run, fresh}
-use Rattle.card_grammar.specs.Digits.{hex-printed, hex-no-bracket, decimal-printed, decimal-small, decimal-more}
+use Rattle.card_grammar.proofs.Digits.{hex-printed, hex-no-bracket, decimal-printed, decimal-small, decimal-more}
 use Rattle.card_grammar.specs.declared.machine.Mode.{Mode}
 use Rattle.card_grammar.specs.declared.machine.Mode.the-variants.{Domain, First, Half, More, Middle, Calls, Kind, Space, Start, Length, End}
 use Rattle.card_grammar.specs.declared.machine.Move.{Move}
@@ -68,20 +70,20 @@ pair-run m s b l h begins =
     ∙ ap (λ (x : ℕ). run (at More (s ++ (x ∷ [])) []) l) whole
 
 more-run : (s more : List ℕ) → Below 256 more → run (at More s []) (hex more ++ middleText) ≡ at Calls (s ++ more) []
-unfolding hex Below
+unfolding hex
 more-run s [] h = rw append-nil (middle-run More s more-closes)
 more-run s (b ∷ more) h =
-    pair-run More s b (hex more ++ middleText) (h .0) more-digit
-    ∙ more-run (s ++ (b ∷ [])) more (h .1)
+    pair-run More s b (hex more ++ middleText) (below-head 256 b more h) more-digit
+    ∙ more-run (s ++ (b ∷ [])) more (below-tail 256 b more h)
     ∙ ap (λ (x : List ℕ). at Calls x []) (append-assoc s (b ∷ []) more)
 
 separator-run : (s : List ℕ) → Below 256 s → run (at Domain [] []) (separatorText s ++ middleText) ≡ at Calls s []
-unfolding hex separatorText Below
+unfolding hex separatorText
 separator-run [] h = middle-run Domain [] domain-closes
 separator-run (b ∷ s) h =
     run-one Domain [] [] 32 _ _ domain-space
-    ∙ pair-run First [] b (hex s ++ middleText) (h .0) first-digit
-    ∙ more-run (b ∷ []) s (h .1)
+    ∙ pair-run First [] b (hex s ++ middleText) (below-head 256 b s h) first-digit
+    ∙ more-run (b ∷ []) s (below-tail 256 b s h)
 
 start-digit : (t v : ℕ) → 0 < v → v < 10 → moveOf (Start t) (v + 48) ≡ To (Length t v)
 unfolding moveOf if_then_else_
@@ -153,13 +155,13 @@ call-run x s w h =
     ∙ ap (λ (y : ℕ). at Calls s (w ++ (y ∷ []))) whole))
 
 calls-run : (s w ws : List ℕ) → Below 4294967296 ws → run (at Calls s w) (callsText ws ++ endText) ≡ at End s (w ++ ws)
-unfolding callsText Below run moveOf expected if_then_else_
+unfolding callsText run moveOf expected if_then_else_
 calls-run s w [] h = rw append-nil
 calls-run s w (x ∷ ws) h =
     ap (run (at Calls s w)) (append-assoc (callText x) (callsText ws) endText)
     ∙ run-append (at Calls s w) (callText x) (callsText ws ++ endText)
-    ∙ ap (λ (st : State). run st (callsText ws ++ endText)) (call-run x s w (h .0))
-    ∙ calls-run s (w ++ (x ∷ [])) ws (h .1)
+    ∙ ap (λ (st : State). run st (callsText ws ++ endText)) (call-run x s w (below-head 4294967296 x ws h))
+    ∙ calls-run s (w ++ (x ∷ [])) ws (below-tail 4294967296 x ws h)
     ∙ ap (λ (y : List ℕ). at End s y) (append-assoc w (x ∷ []) ws)
 
 pub card-run : (s w : List ℕ) → Below 256 s → Below 4294967296 w → run fresh (cardText s w) ≡ at End s w

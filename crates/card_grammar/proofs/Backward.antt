@@ -1,4 +1,5 @@
--- A line that the machine takes to its end is a card's text. Proofs, which a reader of the statements may pass over.
+-- A line that the machine takes to its end is a card's text.
+-- Assumes nothing.
 use mathlib.Core.Path.{_≡_, refl, sym, ap, subst, _∙_}
 use mathlib.Core.List.{List, [], _∷_, _++_, append-assoc, append-nil}
 use mathlib.Core.Logic.{_⊎_, ⊎-elim, inl, inr}
@@ -10,12 +11,13 @@ use lib.Dec.{ltb, leb, eqb, lit<}
 use lib.ListN.{take}
 use lib.Seq.{take-suc}
 use Rattle.basics.specs.Logic.{if_then_else_}
+use Rattle.basics.specs.Lists.{Below}
 use Rattle.basics.proofs.Cases.{by}
+use Rattle.basics.proofs.Below.{below-nil, below-push}
 use Rattle.words.specs.Words.{isAbsorb, lengthOf}
 use Rattle.card_grammar.specs.Text.{headText, middleText, hexDigit, hex, separatorText, decimal, callText, callsText, cardText}
-use Rattle.card_grammar.specs.Grammar.{Below}
 use Rattle.card_grammar.specs.Machine.{headAt, middleAt, hexValue, decimalValue, expected, moveOf, State, at, moved, stepped, run, fresh}
-use Rattle.card_grammar.specs.Digits.{hex-append, hex-read, decimal-read, decimal-small, decimal-push}
+use Rattle.card_grammar.proofs.Digits.{hex-append, hex-read, decimal-read, decimal-small, decimal-push}
 use Rattle.card_grammar.specs.declared.machine.Mode.{Mode}
 use Rattle.card_grammar.specs.declared.machine.Mode.the-variants.{Head, Domain, First, Half, More, Middle, Calls, Open}
 use Rattle.card_grammar.specs.declared.machine.Mode.the-variants.{Kind, Space, Start, Zero, Length, Close, End, Dead}
@@ -78,11 +80,6 @@ more l p q b x e f = ap (λ (y : List ℕ). y ++ (b ∷ [])) e ∙ append-assoc 
 first-more : (l p : List ℕ) (b x : ℕ) → l ≡ p → b ≡ x → l ++ (b ∷ []) ≡ p ++ (x ∷ [])
 first-more l p b x e f = ap (λ (y : List ℕ). y ++ (b ∷ [])) e ∙ ap (λ (y : ℕ). p ++ (y ∷ [])) f
 
-below-push : (n : ℕ) (s : List ℕ) (x : ℕ) → Below n s → x < n → Below n (s ++ (x ∷ []))
-unfolding Below
-below-push n [] x h p = (p, tt)
-below-push n (y ∷ s) x h p = (h .0, below-push n s x (h .1) p)
-
 hex-push : (s : List ℕ) (x : ℕ) → hex (s ++ (x ∷ [])) ≡ hex s ++ (hexDigit (x / 16) ∷ hexDigit (x % 16) ∷ [])
 unfolding hex
 hex-push s x = hex-append s (x ∷ [])
@@ -132,8 +129,7 @@ unfolding middleAt
 middle-more k h = rw add-one (sym (take-suc middleText k 0 h))
 
 empty-below : (n : ℕ) (s : List ℕ) → s ≡ [] → Below n s
-unfolding Below
-empty-below n s e = rw e tt
+empty-below n s e = rw e (below-nil n)
 
 empty-separator : (s : List ℕ) → s ≡ [] → headText ++ (41 ∷ []) ≡ headText ++ (separatorText s ++ take 1 middleText)
 unfolding separatorText
