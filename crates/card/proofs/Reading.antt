@@ -8,11 +8,12 @@ use native.Mathlib.Omega.{arith}
 use borrow.Author.Tests.{le-leb, lt-leb}
 use lib.ListN.{length, take, replicate, length-append}
 use lib.Seq.{take-append-seam}
+use Rattle.basics.specs.Lists.{padded}
 use Rattle.basics.specs.Numbers.{notCard}
 use Rattle.basics.proofs.Cases.{if-true, if-false}
 use Rattle.card_grammar.specs.Grammar.{Reading, card, none}
 use Rattle.card_grammar.specs.Card.{cardOf}
-use Rattle.card_reader.specs.Reading.{places, reading}
+use Rattle.card_reader.specs.Reading.{reading}
 use Rattle.card_reader.specs.declared.Card.{Card}
 use Rattle.pattern.specs.Opening.{opening}
 use Rattle.card.specs.Answer.{noText, cardAnswer, answer, hasRoom, answerInto}
@@ -29,13 +30,11 @@ pub record Holds (r : Reading) (c : Card) : Type 0 where
   pub separator-used : take (c .«separator_length») (c .separator) ≡ take 257 separator
   pub words-used : take (c .«word_count») (c .words) ≡ take 65 words
 
-places-inside : (n : ℕ) (xs : List ℕ) → length (take n xs) ≤ length (places n xs)
-unfolding places
-places-inside n xs = omega (arith, length-append (take n xs) (replicate (n - length xs) 0))
+padded-inside : (n : ℕ) (xs : List ℕ) → length xs ≤ length (padded n xs)
+padded-inside n xs = omega (arith, length-append xs (replicate (n - length xs) 0))
 
-places-used : (n : ℕ) (xs : List ℕ) → take (length (take n xs)) (places n xs) ≡ take n xs
-unfolding places
-places-used n xs = take-append-seam (take n xs) (replicate (n - length xs) 0)
+padded-used : (n : ℕ) (xs : List ℕ) → take (length xs) (padded n xs) ≡ xs
+padded-used n xs = take-append-seam xs (replicate (n - length xs) 0)
 
 reading-holds : (r : Reading) → reading r .«is_card» ≡ true → Holds r (reading r)
 unfolding reading
@@ -44,10 +43,10 @@ reading-holds (card s ws) t =
       separator = s;
       words = ws;
       is = refl;
-      separator-inside = places-inside 257 s;
-      words-inside = places-inside 65 ws;
-      separator-used = places-used 257 s;
-      words-used = places-used 65 ws;
+      separator-inside = padded-inside 257 (take 257 s);
+      words-inside = padded-inside 65 (take 65 ws);
+      separator-used = padded-used 257 (take 257 s);
+      words-used = padded-used 65 (take 65 ws);
     }
 reading-holds none t = absurd (true≢false (sym t))
 

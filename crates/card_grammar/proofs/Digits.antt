@@ -1,14 +1,16 @@
 -- Digits: what is printed reads back, and a byte that reads as a digit was printed so.
 -- Assumes nothing.
 use mathlib.Core.Path.{_≡_, refl, sym, ap, _∙_}
-use mathlib.Core.Bool.{false}
+use mathlib.Core.Bool.{true}
 use mathlib.Core.List.{List, [], _∷_, _++_}
 use Prim.Native.Nat.{ℕ, zero, suc, _+_, _-_, _*_, _/_, _%_, _<_, _≤_}
 use native.Mathlib.Omega.{arith}
-use borrow.Author.Tests.{lt-ltb, le-ltb, ltb-true, ltb-false, le-leb, lt-leb, leb-true}
-use lib.Dec.{ltb, leb}
-use Rattle.basics.specs.Logic.{if_then_else_}
-use Rattle.basics.proofs.Cases.{cases}
+use borrow.Author.Tests.{lt-ltb, le-ltb, ltb-true, ltb-false, le-leb, lt-leb, leb-true, eqb-true}
+use lib.Dec.{ltb, leb, eqb}
+use lib.ListN.{replicate}
+use Rattle.basics.specs.Logic.{if_then_else_, _and_}
+use Rattle.basics.proofs.Cases.{cases, if-true}
+use Rattle.basics.proofs.Table.{passes, every-entry}
 use Rattle.card_grammar.specs.Text.{hexDigit, hex, decimalUpTo, decimal}
 use Rattle.card_grammar.specs.Machine.{hexValue, decimalValue}
 
@@ -17,34 +19,25 @@ unfolding hex
 hex-append [] ys = refl
 hex-append (x ∷ xs) ys = ap (λ (l : List ℕ). hexDigit (x / 16) ∷ hexDigit (x % 16) ∷ l) (hex-append xs ys)
 
+-- one computed test over the sixteen digits, and one over the bytes up to "f"
 pub hex-printed : (d : ℕ) → d < 16 → hexValue (hexDigit d) ≡ d
-unfolding hexValue hexDigit if_then_else_
-hex-printed d h =
-    cases (ltb d 10)
-    (λ e. let small : d < 10 = ltb-true d 10 e in
-    let back : d ≡ d + 48 - 48 = omega arith in
-    simp (e, le-ltb (d + 48) 48 (omega arith), le-leb (d + 48) 57 (omega arith)) (sym back))
-    (λ e. let large : 10 ≤ d = ltb-false d 10 e in
-    let back : d ≡ d + 87 - 97 + 10 = omega arith in
-    let above : leb (d + 87) 57 ≡ false = lt-leb (d + 87) 57 (omega arith) in
-    simp (e, le-ltb (d + 87) 48 (omega arith), above, le-ltb (d + 87) 97 (omega arith), le-leb (d + 87) 102 (omega arith)) (sym back))
+unfolding hexValue hexDigit passes if_then_else_ _and_
+hex-printed d h = eqb-true _ _ (every-entry (λ k x. eqb (hexValue (hexDigit k)) k) (replicate 16 0) refl d h)
+
+printed-if-digit : (b : ℕ) → b < 103 → (if ltb (hexValue b) 16 then eqb b (hexDigit (hexValue b)) else true) ≡ true
+unfolding hexValue hexDigit passes if_then_else_ _and_
+printed-if-digit = every-entry (λ k x. if ltb (hexValue k) 16 then eqb k (hexDigit (hexValue k)) else true) (replicate 103 0) refl
+
+no-digit-above : (b : ℕ) → 103 ≤ b → hexValue b ≡ 16
+unfolding hexValue if_then_else_
+no-digit-above b h =
+    simp (le-ltb b 48 (omega arith), lt-leb b 57 (omega arith), le-ltb b 97 (omega arith), lt-leb b 102 (omega arith))
 
 pub hex-read : (b : ℕ) → hexValue b < 16 → b ≡ hexDigit (hexValue b)
-unfolding hexValue hexDigit if_then_else_
 hex-read b h =
-    cases (ltb b 48)
-    (λ e₁. absurd (let k : 16 < 16 = simp e₁ at h in omega arith))
-    (λ e₁. cases (leb b 57)
-    (λ e₂. let low : 48 ≤ b = ltb-false b 48 e₁ in
-    let high : b ≤ 57 = leb-true b 57 e₂ in
-    simp (e₁, e₂, lt-ltb (b - 48) 10 (omega arith)) (omega arith))
-    (λ e₂. cases (ltb b 97)
-    (λ e₃. absurd (let k : 16 < 16 = simp (e₁, e₂, e₃) at h in omega arith))
-    (λ e₃. cases (leb b 102)
-    (λ e₄. let low : 97 ≤ b = ltb-false b 97 e₃ in
-    let high : b ≤ 102 = leb-true b 102 e₄ in
-    simp (e₁, e₂, e₃, e₄, le-ltb (b - 97 + 10) 10 (omega arith)) (omega arith))
-    (λ e₄. absurd (let k : 16 < 16 = simp (e₁, e₂, e₃, e₄) at h in omega arith)))))
+    cases (ltb b 103)
+    (λ e. eqb-true _ _ (sym (if-true _ _ _ (lt-ltb (hexValue b) 16 h)) ∙ printed-if-digit b (ltb-true b 103 e)))
+    (λ e. absurd (omega (arith, h, no-digit-above b (ltb-false b 103 e))))
 
 -- a hexadecimal digit is not the closing bracket
 pub hex-no-bracket : (d : ℕ) → d < 16 → hexDigit d ≡ 41 → ⊥

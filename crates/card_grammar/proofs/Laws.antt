@@ -8,8 +8,9 @@ use native.Mathlib.Omega.{arith}
 use borrow.Author.Tests.{lt-ltb, le-ltb, ltb-true, ltb-false}
 use lib.Dec.{ltb}
 use lib.ListN.{length}
+use Rattle.basics.specs.Logic.{if_then_else_}
 use Rattle.basics.specs.Lists.{Below}
-use Rattle.basics.proofs.Cases.{cases, if-true, if-false}
+use Rattle.basics.proofs.Cases.{cases}
 use Rattle.card_grammar.specs.Text.{cardText}
 use Rattle.card_grammar.specs.Grammar.{CardOf, Reading, card, none, NoCard}
 use Rattle.card_grammar.specs.Machine.{State, at, run, fresh}
@@ -64,12 +65,12 @@ at-end m s w s′ w′ e =
 module _ (line : List ℕ) where
   -- by a line's length, and where it leaves the machine
   pub long-none : 2048 < length line → cardOf line ≡ none
-  unfolding cardOf
-  long-none h = if-true _ _ _ (lt-ltb 2048 (length line) h)
+  unfolding cardOf if_then_else_
+  long-none h = rw lt-ltb
 
   short-read : length line ≤ 2048 → cardOf line ≡ cardAt (run fresh line)
-  unfolding cardOf
-  short-read h = if-false _ _ _ (le-ltb 2048 (length line) h)
+  unfolding cardOf if_then_else_
+  short-read h = rw le-ltb
 
   pub ended : (s w : List ℕ) → length line ≤ 2048 → run fresh line ≡ at End s w → cardOf line ≡ card s w
   unfolding cardAt
@@ -82,7 +83,7 @@ module _ (line : List ℕ) where
 
   -- a card is read as its separator and words, and what is read as a card is one
   pub card-of : (s w : List ℕ) → CardOf line s w → cardOf line ≡ card s w
-  card-of s w c = ended s w (c .short) (ap (run fresh) (c .text) ∙ card-run s w (c .bytes) (c .words))
+  card-of s w c = ended s w (omega (arith, c .short)) (ap (run fresh) (c .text) ∙ card-run s w (c .bytes) (c .words))
 
   pub of-card : (s w : List ℕ) → cardOf line ≡ card s w → CardOf line s w
   of-card s w e =
@@ -91,7 +92,7 @@ module _ (line : List ℕ) where
       (λ t. let short : length line ≤ 2048 = ltb-false 2048 (length line) t in
       let st : State = run fresh line in
       let told = end-told line s w (at-end (st .mode) (st .separator) (st .words) s w (sym (short-read short) ∙ e)) in
-      record { short = short; bytes = told .0 .0; words = told .0 .1; text = told .1 })
+      record { short = omega arith; bytes = told .0 .0; words = told .0 .1; text = told .1 })
 
   -- a line that is no card is read as none, and what is read as none is no card
   pub of-none : cardOf line ≡ none → NoCard line

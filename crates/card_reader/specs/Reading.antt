@@ -1,23 +1,18 @@
 -- What reading a line gives.
 use mathlib.Core.Bool.{true, false}
-use mathlib.Core.List.{List, _++_}
-use Prim.Native.Nat.{ℕ, _-_}
 use lib.ListN.{length, take, replicate}
+use Rattle.basics.specs.Lists.{padded}
 use Rattle.card_grammar.specs.Grammar.{Reading, card, none}
 use Rattle.card_reader.specs.declared.Card.{Card}
 
--- the first n numbers of a list, with zeros behind them up to n
-unfoldable pub places : ℕ → List ℕ → List ℕ
-places n xs = take n xs ++ replicate (n - length xs) 0
-
--- a reading as the record that `read` gives
+-- a reading as the record that `read` gives: of each list as many as its array has places, and zeros behind them
 unfoldable pub reading : Reading → Card
 reading (card separator ws) =
     record {
       «is_card» = true;
-      separator = places 257 separator;
+      separator = padded 257 (take 257 separator);
       «separator_length» = length (take 257 separator);
-      words = places 65 ws;
+      words = padded 65 (take 65 ws);
       «word_count» = length (take 65 ws);
     }
 reading none =
