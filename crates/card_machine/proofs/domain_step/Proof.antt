@@ -1,5 +1,6 @@
 -- `card_machine::domain_step` meets its contract.
 -- Assumes nothing.
+use mathlib.Core.Path.{refl}
 use borrow.Author.Tests.{eq-eqb, ne-eqb}
 use Rattle.basics.specs.Logic.{if_then_else_}
 use Rattle.card_grammar.specs.Machine.{moveOf}
@@ -9,7 +10,7 @@ use Rattle.card_machine.proofs.domain_step.Tie as tie
 
 returns : tie.Need-returns
 unfolding moveOf if_then_else_
-returns c = simp (eq-eqb _ _ (c .if1 .taken))
+returns c = simp (eq-eqb _ _ (c .if1 .taken)) refl
 
 returns-2 : tie.Need-returns-2
 unfolding moveOf if_then_else_

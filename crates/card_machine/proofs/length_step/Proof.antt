@@ -23,7 +23,7 @@ returns-3 c =
       ne-eqb _ _ (c .before .before .before .if1 .left),
       sym (c .before .before .decimal-value .ensures),
       lt-ltb _ _ (c .before .if3 .taken),
-      le-leb _ _ (c .if4 .taken),
+      le-leb _ 2147483647 (c .if4 .taken),
     )
 
 returns-4 : tie.Need-returns-4
@@ -33,7 +33,7 @@ returns-4 c =
       ne-eqb _ _ (c .before .before .before .if1 .left),
       sym (c .before .before .decimal-value .ensures),
       lt-ltb _ _ (c .before .if3 .taken),
-      lt-leb _ _ (c .if4 .left),
+      lt-leb _ 2147483647 (c .if4 .left),
     )
 
 returns-5 : tie.Need-returns-5

@@ -1,6 +1,6 @@
 -- `card_machine::start_step` meets its contract.
 -- Assumes nothing.
-use mathlib.Core.Path.{sym}
+use mathlib.Core.Path.{refl, sym}
 use borrow.Author.Tests.{lt-ltb, le-ltb, eq-eqb, ne-eqb}
 use Rattle.basics.specs.Logic.{if_then_else_}
 use Rattle.card_grammar.specs.Machine.{moveOf}
@@ -10,7 +10,7 @@ use Rattle.card_machine.proofs.start_step.Tie as tie
 
 returns : tie.Need-returns
 unfolding moveOf if_then_else_
-returns c = simp (eq-eqb _ _ (c .if1 .taken))
+returns c = simp (eq-eqb _ _ (c .if1 .taken)) refl
 
 returns-2 : tie.Need-returns-2
 unfolding moveOf if_then_else_

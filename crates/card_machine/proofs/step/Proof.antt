@@ -1,5 +1,6 @@
 -- `card_machine::step` meets its contract.
 -- Assumes nothing.
+use mathlib.Core.Path.{refl}
 use Rattle.card_grammar.specs.Machine.{moveOf}
 use borrow.Author.Needs.{needs}
 use Rattle.card_machine.proofs.step.Statement.{statement}
@@ -52,7 +53,7 @@ returns-14 c = rw (c .before .enum-told7 .given .1) (c .expect3 .ensures)
 
 returns-15 : tie.Need-returns-15
 unfolding moveOf
-returns-15 c = rw (c .enum-told8 .given .1)
+returns-15 c = rw (c .enum-told8 .given .1) refl
 
 returns-16 : tie.Need-returns-16
 unfolding moveOf
