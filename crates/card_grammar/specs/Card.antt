@@ -1,5 +1,5 @@
--- What a line is read as. The machine computes it, and two theorems fix it whatever the machine: it is the separator and words whose card the line
--- is, and none for a line that is no card (claims/specs/Cards.antt, `cards-are-their-text`, `other-lines-are-no-card`).
+-- What a line is read as. The machine computes it, and two theorems of claims/specs/Cards.antt fix it whatever the machine: it is the separator and
+-- words whose card the line is (`cards-are-their-text`), and none exactly if the line is no card (`other-lines-are-no-card`).
 use mathlib.Core.List.{List}
 use Prim.Native.Nat.{ℕ}
 use lib.Dec.{ltb}
@@ -31,6 +31,6 @@ cardAt st = elim (st .mode) [
   | Dead ↦ none
 ]
 
--- what a line is read as: none if it has more than 2,048 bytes, else the card at which the machine has come to its end
+-- what a line is read as: none if it has more than 2,048 bytes, else what the machine has read when the line ends
 unfoldable pub cardOf : List ℕ → Reading
 cardOf line = if ltb 2048 (length line) then none else cardAt (run fresh line)

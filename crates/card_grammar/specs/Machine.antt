@@ -1,5 +1,5 @@
--- The machine that reads a line byte by byte, whose code is the crate card_machine. `cardOf` is computed by it; the type of `decided` fixes the
--- outcome, whatever the machine.
+-- The machine that reads a line byte by byte, whose code is the crate card_machine. `cardOf` is computed by it, and fixed by theorems whatever
+-- the machine.
 use mathlib.Core.List.{List, [], _∷_, _++_}
 use Prim.Native.Nat.{ℕ, _+_, _-_, _*_}
 use lib.Dec.{ltb, leb, eqb}
