@@ -13,8 +13,8 @@ use Rattle.basics.specs.Lists.{Below}
 use Rattle.basics.proofs.Cases.{cases}
 use Rattle.card_grammar.specs.Text.{cardText}
 use Rattle.card_grammar.specs.Grammar.{CardOf, Reading, card, none, NoCard}
-use Rattle.card_grammar.specs.Machine.{State, at, run, fresh}
-use Rattle.card_grammar.specs.Card.{cardAt, cardOf}
+use Rattle.card_grammar.specs.Machine.{State, at, run, fresh, cardAt}
+use Rattle.card_grammar.specs.Card.{cardOf}
 use Rattle.card_grammar.specs.declared.machine.Mode.{Mode}
 use Rattle.card_grammar.specs.declared.machine.Mode.the-variants.{Head, Domain, First, Half, More, Middle, Calls, Open}
 use Rattle.card_grammar.specs.declared.machine.Mode.the-variants.{Kind, Space, Start, Zero, Length, Close, End, Dead}

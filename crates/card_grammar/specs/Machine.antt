@@ -6,6 +6,7 @@ use lib.Dec.{ltb, leb, eqb}
 use lib.ListN.{getD}
 use Rattle.basics.specs.Logic.{if_then_else_}
 use Rattle.card_grammar.specs.Text.{headText, middleText}
+use Rattle.card_grammar.specs.Grammar.{Reading, card, none}
 use Rattle.card_grammar.specs.declared.machine.Mode.{Mode}
 use Rattle.card_grammar.specs.declared.machine.Mode.the-variants.{Head, Domain, First, Half, More, Middle, Calls, Open}
 use Rattle.card_grammar.specs.declared.machine.Mode.the-variants.{Kind, Space, Start, Zero, Length, Close, End, Dead}
@@ -81,3 +82,24 @@ run st (b ∷ l) = run (stepped st b) l
 
 abbrev pub fresh : State
 fresh = at (Head 0) [] []
+
+-- the card of the separator and words that the machine has read, if it stands behind a whole card
+unfoldable pub cardAt : State → Reading
+cardAt st = elim (st .mode) [
+  | End ↦ card (st .separator) (st .words)
+  | Head k ↦ none
+  | Domain ↦ none
+  | First ↦ none
+  | Half h ↦ none
+  | More ↦ none
+  | Middle k ↦ none
+  | Calls ↦ none
+  | Open ↦ none
+  | Kind ↦ none
+  | Space t ↦ none
+  | Start t ↦ none
+  | Zero t ↦ none
+  | Length t v ↦ none
+  | Close ↦ none
+  | Dead ↦ none
+]
