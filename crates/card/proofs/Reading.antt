@@ -8,7 +8,7 @@ use native.Mathlib.Omega.{arith}
 use borrow.Author.Tests.{le-leb, lt-leb}
 use lib.ListN.{length, take, replicate, length-append}
 use lib.Seq.{take-append-seam}
-use Rattle.basics.specs.Lists.{padded}
+use Rattle.basics.specs.Lists.{zeroPadded}
 use Rattle.basics.specs.Numbers.{notCard}
 use Rattle.basics.proofs.Cases.{if-true, if-false}
 use Rattle.card_grammar.specs.Grammar.{Reading, card, none}
@@ -30,10 +30,10 @@ pub record Holds (r : Reading) (c : Card) : Type 0 where
   pub separator-used : take (c .«separator_length») (c .separator) ≡ take 257 separator
   pub words-used : take (c .«word_count») (c .words) ≡ take 65 words
 
-padded-inside : (n : ℕ) (xs : List ℕ) → length xs ≤ length (padded n xs)
+padded-inside : (n : ℕ) (xs : List ℕ) → length xs ≤ length (zeroPadded n xs)
 padded-inside n xs = omega (arith, length-append xs (replicate (n - length xs) 0))
 
-padded-used : (n : ℕ) (xs : List ℕ) → take (length xs) (padded n xs) ≡ xs
+padded-used : (n : ℕ) (xs : List ℕ) → take (length xs) (zeroPadded n xs) ≡ xs
 padded-used n xs = take-append-seam xs (replicate (n - length xs) 0)
 
 reading-holds : (r : Reading) → reading r .«is_card» ≡ true → Holds r (reading r)

@@ -9,13 +9,13 @@ use lib.Dec.{ltb}
 use lib.ListN.{length, take, set, replicate, length-append, length-take}
 use lib.Seq.{take-all, take-nil, take-append-le}
 use Rattle.basics.specs.Logic.{if_then_else_}
-use Rattle.basics.specs.Lists.{padded}
+use Rattle.basics.specs.Lists.{zeroPadded}
 use Rattle.basics.proofs.Cases.{cases, if-true, if-false}
 use Rattle.basics.proofs.Zeros.{push-number}
 
 pub record Kept (n : ℕ) (xs : List ℕ) (count : ℕ) (array : List ℕ) : Type 0 where
   pub counted : count ≡ length (take n xs)
-  pub numbers : array ≡ padded n (take n xs)
+  pub numbers : array ≡ zeroPadded n (take n xs)
 
 pub nothing-kept : (n : ℕ) → Kept n [] 0 (replicate n 0)
 nothing-kept n =
@@ -33,16 +33,16 @@ module _ {n count : ℕ} {xs array : List ℕ} (x : ℕ) (k : Kept n xs count ar
       record {
         counted = ap (λ (c : ℕ). c + 1) count-all ∙ sym longer ∙ ap length (sym more);
         numbers =
-            ap₂ (λ (a : List ℕ) (c : ℕ). set a c x) (k .numbers ∙ ap (padded n) all) count-all
+            ap₂ (λ (a : List ℕ) (c : ℕ). set a c x) (k .numbers ∙ ap (zeroPadded n) all) count-all
             ∙ push-number n xs x few
-            ∙ ap (padded n) (sym more);
+            ∙ ap (zeroPadded n) (sym more);
       }
 
   kept-full : n ≤ count → Kept n (xs ++ (x ∷ [])) count array
   kept-full h =
       let many : n ≤ length xs = omega (arith, k .counted, length-take n xs) in
       let same : take n (xs ++ (x ∷ [])) ≡ take n xs = take-append-le n xs (x ∷ []) many in
-      record { counted = k .counted ∙ ap length (sym same); numbers = k .numbers ∙ ap (padded n) (sym same) }
+      record { counted = k .counted ∙ ap length (sym same); numbers = k .numbers ∙ ap (zeroPadded n) (sym same) }
 
   -- a number more: in the next place, or in none if all are used
   pub kept-more : Kept n (xs ++ (x ∷ [])) (if ltb count n then count + 1 else count) (if ltb count n then set array count x else array)

@@ -1,7 +1,7 @@
 -- What reading a line gives.
 use mathlib.Core.Bool.{true, false}
 use lib.ListN.{length, take, replicate}
-use Rattle.basics.specs.Lists.{padded}
+use Rattle.basics.specs.Lists.{zeroPadded}
 use Rattle.card_grammar.specs.Grammar.{Reading, card, none}
 use Rattle.card_reader.specs.declared.Card.{Card}
 
@@ -10,9 +10,9 @@ unfoldable pub reading : Reading → Card
 reading (card separator ws) =
     record {
       «is_card» = true;
-      separator = padded 257 (take 257 separator);
+      separator = zeroPadded 257 (take 257 separator);
       «separator_length» = length (take 257 separator);
-      words = padded 65 (take 65 ws);
+      words = zeroPadded 65 (take 65 ws);
       «word_count» = length (take 65 ws);
     }
 reading none =

@@ -1,3 +1,4 @@
+pub mod Primitives
 pub mod TagStrings
 pub mod Sessions
 pub mod Compared

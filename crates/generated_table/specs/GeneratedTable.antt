@@ -5,7 +5,7 @@ use Prim.Native.Nat.{ℕ, _*_, _^_, _<_}
 use lib.Dec.{lit<}
 use lib.ListN.{length, getD, take, drop}
 use Rattle.basics.specs.Logic.{if_then_else_}
-use Rattle.basics.specs.Lists.{tabulate, sum, padded}
+use Rattle.basics.specs.Lists.{tabulate, sum, zeroPadded}
 use Rattle.basics.specs.Digits.{digits, number, numberAfter}
 use Rattle.field.specs.Field.{p}
 use Rattle.poseidon_tables.specs.Tables.{constants}
@@ -42,6 +42,6 @@ table-found =
     ∙ computed
 
 -- "The 696 round constants come from Poseidon's Grain generator.": with p, 262,144 and 696 places it finds 696, and leaves the table
-pub table-generated : (length generated ≡ 696) × (padded 696 generated ≡ constants)
+pub table-generated : (length generated ≡ 696) × (zeroPadded 696 generated ≡ constants)
 unfolding generated constants
 table-generated = rw table-found (refl, refl)

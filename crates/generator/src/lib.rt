@@ -4,7 +4,7 @@ mod tables;
 ghost use mathlib.Core.Path.{_≡_};
 ghost use Prim.Native.Nat.{_-_, _<_};
 ghost use lib.ListN.{length, drop, replicate};
-ghost use Rattle.basics.specs.Lists.{padded, placed};
+ghost use Rattle.basics.specs.Lists.{zeroPadded, placed};
 ghost use Rattle.generator.specs.Generator.{firstRegister, nextBit, shifted, newBits, found};
 ghost use Rattle.generator.specs.Steps.{bitsLeft, foundFrom, NextOutput, NextCandidate};
 
@@ -179,7 +179,7 @@ fn clear(constants: &mut [u32], from: usize)
 // zeros stand behind them.
 pub fn generate(modulus: u32, limit: usize, constants: &mut [u32]) -> usize
     ensures { λ r. ⌜ (r ≡ length (found (firstRegister 21) modulus (length (now (constants .entry))) limit)) ×
-        (now (constants .exit) ≡ padded (length (now (constants .entry))) (found (firstRegister 21) modulus (length (now (constants .entry))) limit)) ⌝ }
+        (now (constants .exit) ≡ zeroPadded (length (now (constants .entry))) (found (firstRegister 21) modulus (length (now (constants .entry))) limit)) ⌝ }
 {
     let source = start(limit);
     let count = fill(source, modulus, constants);

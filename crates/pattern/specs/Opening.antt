@@ -5,7 +5,7 @@ use Prim.Native.Nat.{ℕ, _-_}
 use lib.Dec.{ltb, eqb}
 use lib.ListN.{length, getD}
 use Rattle.basics.specs.Logic.{if_then_else_, _or_, any}
-use Rattle.basics.specs.Lists.{padded}
+use Rattle.basics.specs.Lists.{zeroPadded}
 use Rattle.basics.specs.Numbers.{accepted, wordCountOutOfRange, wordLengthZero, firstWordSqueeze, lastWordAbsorb, mergedLengthTooLong, separatorTooLong}
 use Rattle.basics.specs.Refusals.{Row, _gets_⨾_, firstNumber}
 use Rattle.words.specs.Words.{maxLength, isAbsorb, lengthOf, Phase}
@@ -53,7 +53,7 @@ given number xs = if eqb number accepted then xs else []
 
 -- a number with words: 64 places, unused ones 0, and how many are used
 unfoldable pub withWords : ℕ → List ℕ → Merged
-withWords number ws = record { number = number; words = padded maxWords ws; count = length ws }
+withWords number ws = record { number = number; words = zeroPadded maxWords ws; count = length ws }
 
 -- an answer that holds words: its number, and the words if that is 0
 unfoldable pub answerWith : ℕ → List ℕ → Merged

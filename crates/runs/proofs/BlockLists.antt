@@ -11,7 +11,7 @@ use lib.Dec.{eqb, ltb}
 use lib.ListN.{length, take, drop, replicate, length-append, length-drop, length-take, length-replicate, take-append-drop}
 use lib.Seq.{take-all, take-at, drop-at, take-append-add, length-take-le}
 use Rattle.basics.specs.Logic.{if_then_else_, all}
-use Rattle.basics.specs.Lists.{padded, joined}
+use Rattle.basics.specs.Lists.{zeroPadded, joined}
 use Rattle.basics.proofs.Cases.{cases, by, and-both, all-both, if-true, if-false}
 use Rattle.words.specs.Words.{Phase}
 use Rattle.counters.specs.Permutations.{blockCount}
@@ -26,7 +26,7 @@ length-eights zero xs = refl
 length-eights (suc n) xs = ap suc (length-eights n _)
 
 -- eight places are filled
-padded-long : (xs : List ℕ) → length (padded 8 (take 8 xs)) ≡ 8
+padded-long : (xs : List ℕ) → length (zeroPadded 8 (take 8 xs)) ≡ 8
 padded-long xs =
     let front = take 8 xs in
     let short = length-take 8 xs in
@@ -38,7 +38,7 @@ eights-long zero xs = refl
 eights-long (suc n) xs = and-both _ _ (eq-eqb _ 8 (padded-long xs)) (eights-long n (drop 8 xs))
 
 -- the last block of a phase, and one that others follow
-last-held : (xs rest : List ℕ) → length xs ≤ 8 → take (length xs) (padded 8 (take 8 xs) ++ rest) ≡ xs
+last-held : (xs rest : List ℕ) → length xs ≤ 8 → take (length xs) (zeroPadded 8 (take 8 xs) ++ rest) ≡ xs
 last-held xs rest h =
     let all-taken = take-all 8 xs h in
     let zeros : List ℕ = replicate (8 - length xs) 0 in
@@ -47,7 +47,7 @@ last-held xs rest h =
     ∙ take-at xs (zeros ++ rest) (length xs) refl
 
 more-held : (xs rest : List ℕ) → 8 < length xs → take (length (drop 8 xs)) rest ≡ drop 8 xs
-    → take (length xs) (padded 8 (take 8 xs) ++ rest) ≡ xs
+    → take (length xs) (zeroPadded 8 (take 8 xs) ++ rest) ≡ xs
 more-held xs rest h e =
     let front = take 8 xs in
     let long = length-take-le 8 xs (omega arith) in

@@ -6,7 +6,7 @@ use mathlib.Core.List.{List}
 use Prim.Native.Nat.{ℕ, _+_, _-_}
 use lib.Dec.{eqb}
 use lib.ListN.{length, getD}
-use Rattle.basics.specs.Lists.{padded}
+use Rattle.basics.specs.Lists.{zeroPadded}
 use Rattle.basics.specs.Numbers.{accepted}
 use Rattle.basics.proofs.Sums.{sum-same}
 use Rattle.basics.proofs.Zeros.{zeros-behind}
@@ -34,7 +34,7 @@ permutations-same vs ws h phase done =
     (ap (λ (w : ℕ). phasePermutations w done) (h phase))
 
 module _ (o : Opening) (e : start o .number ≡ accepted) where
-  pub start-words : start o .session .words ≡ padded 64 (mergedWords (o .words))
+  pub start-words : start o .session .words ≡ zeroPadded 64 (mergedWords (o .words))
   unfolding startRecord openRecord
   start-words = ap (λ (r : Session). r .words) (start-record o e)
 

@@ -4,14 +4,14 @@ use mathlib.Core.List.{List, [], _∷_, _++_}
 use Prim.Native.Nat.{ℕ, zero, suc, _+_}
 use lib.ListN.{take, drop}
 use Rattle.basics.specs.Logic.{if_then_else_}
-use Rattle.basics.specs.Lists.{padded, joined}
+use Rattle.basics.specs.Lists.{zeroPadded, joined}
 use Rattle.words.specs.Words.{Phase}
 use Rattle.counters.specs.Permutations.{blockCount}
 
 -- n blocks: "into eights from its start, its last filled up with zeros"
 unfoldable pub eights : ℕ → List ℕ → List (List ℕ)
 eights zero xs = []
-eights (suc n) xs = padded 8 (take 8 xs) ∷ eights n (drop 8 xs)
+eights (suc n) xs = zeroPadded 8 (take 8 xs) ∷ eights n (drop 8 xs)
 
 -- "For the list of blocks, cut the absorbed elements into the lengths of the ABSORB phases in turn, and each of those into eights"
 unfoldable pub blocks : List Phase → List ℕ → List (List ℕ)

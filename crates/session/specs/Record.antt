@@ -2,7 +2,7 @@
 use mathlib.Core.List.{List, [], _∷_, _++_}
 use Prim.Native.Nat.{ℕ, zero, suc, _-_}
 use lib.ListN.{length, replicate}
-use Rattle.basics.specs.Lists.{padded}
+use Rattle.basics.specs.Lists.{zeroPadded}
 use Rattle.basics.specs.Figures.{rate, capacity, width}
 use Rattle.pattern.specs.Pattern.{maxWords}
 use Rattle.progress.specs.Place.{nextPlace}
@@ -43,7 +43,7 @@ openRecord state ws =
     record {
       status = opened;
       state = state;
-      words = padded maxWords ws;
+      words = zeroPadded maxWords ws;
       count = length ws;
       phase = 0;
       done = 0;

@@ -11,7 +11,7 @@ use lib.Dec.{eqb}
 use lib.ListN.{length, take, drop, length-drop}
 use lib.Seq.{length-take-le, take-at, take-all, take-nil, drop-length}
 use Rattle.basics.specs.Logic.{_and_}
-use Rattle.basics.specs.Lists.{padded}
+use Rattle.basics.specs.Lists.{zeroPadded}
 use Rattle.basics.specs.Numbers.{accepted, separatorTooLong, notTagString}
 use Rattle.basics.specs.Refusals.{firstNumber}
 use Rattle.basics.proofs.Cases.{by, if-true, if-false, and-false}
@@ -104,7 +104,7 @@ module _ (s : List ℕ) (n : ℕ) where
 
     -- the words in 64 places
     abbrev places : List ℕ
-    places = padded 64 (wordsOf (take size s))
+    places = zeroPadded 64 (wordsOf (take size s))
 
     count : length (wordsOf (take size s)) ≡ size / 4
     count = length-words-of (take size s) ∙ ap (λ (k : ℕ). k / 4) length-part

@@ -3,7 +3,7 @@ ghost use mathlib.Core.Path.{_≡_};
 ghost use mathlib.Core.List.{[], _∷_};
 ghost use Prim.Native.Nat.{_+_, _*_, _/_, _≤_};
 ghost use lib.ListN.{length};
-ghost use Rattle.basics.specs.Lists.{padded};
+ghost use Rattle.basics.specs.Lists.{zeroPadded};
 ghost use Rattle.basics.specs.Digits.{number};
 ghost use Rattle.tag.specs.TagString.{wordAt, wordsOf};
 
@@ -26,7 +26,7 @@ pub(crate) fn word_at(string: &[u8], k: usize) -> u32
 // The words of a string of at most 64 words, and zeros behind them.
 pub(crate) fn words_of(string: &[u8]) -> [u32; 64]
     requires { ⌜ length (now string) / 4 ≤ 64 ⌝ }
-    ensures { λ r. ⌜ r ≡ padded 64 (wordsOf (now (string .entry))) ⌝ }
+    ensures { λ r. ⌜ r ≡ zeroPadded 64 (wordsOf (now (string .entry))) ⌝ }
 {
     let mut out = [0u32; 64];
     for k in 0..string.len() / 4 {

@@ -6,7 +6,7 @@ use Prim.Native.Nat.{ℕ, _-_, _≤_}
 use native.Mathlib.Nat.{zero-add}
 use native.Mathlib.Omega.{arith}
 use lib.ListN.{length, take, drop, replicate, length-append, length-replicate, length-take, drop-of-length-le}
-use Rattle.basics.specs.Lists.{padded, placed}
+use Rattle.basics.specs.Lists.{zeroPadded, placed}
 use Rattle.basics.proofs.Placed.{placed-length, placed-behind, placed-start}
 use Rattle.generator.specs.Generator.{firstRegister, newBits, outputBits, candidates, kept, found}
 use Rattle.generator.specs.Steps.{bitsLeft, foundFrom}
@@ -17,7 +17,7 @@ use Rattle.generator.proofs.generate.Tie as tie
 
 -- a text at the start of a buffer, and zeros from its end on
 zeros-behind : (buffer text : List ℕ) → length text ≤ length buffer
-    → placed (placed buffer 0 text) (length text) (replicate (length (placed buffer 0 text) - length text) 0) ≡ padded (length buffer) text
+    → placed (placed buffer 0 text) (length text) (replicate (length (placed buffer 0 text) - length text) 0) ≡ zeroPadded (length buffer) text
 zeros-behind buffer text h =
     let zeros : List ℕ = replicate (length buffer - length text) 0 in
     let size : length zeros ≡ length buffer - length text = length-replicate {A = ℕ} (length buffer - length text) 0 in
@@ -33,7 +33,7 @@ answer : (source : Source) (modulus limit count : ℕ) (entry filled cleared : L
     → bitsLeft source ≡ drop 160 (newBits limit (firstRegister 21))
     → (count ≡ length (foundFrom source modulus (length entry))) × (filled ≡ placed entry 0 (foundFrom source modulus (length entry)))
     → cleared ≡ placed filled count (replicate (length filled - count) 0)
-    → (count ≡ length (found (firstRegister 21) modulus (length entry) limit)) × (cleared ≡ padded (length entry) (found (firstRegister 21) modulus (length entry) limit))
+    → (count ≡ length (found (firstRegister 21) modulus (length entry) limit)) × (cleared ≡ zeroPadded (length entry) (found (firstRegister 21) modulus (length entry) limit))
 unfolding found foundFrom
 answer source modulus limit count entry filled cleared e (number, is) zeros =
     let constants = foundFrom source modulus (length entry) in
@@ -44,7 +44,7 @@ answer source modulus limit count entry filled cleared e (number, is) zeros =
       zeros
           ∙ ap₂ (λ (n : ℕ) (l : List ℕ). placed l n (replicate (length l - n) 0)) number is
           ∙ zeros-behind entry constants (omega arith)
-          ∙ ap (padded (length entry)) same,
+          ∙ ap (zeroPadded (length entry)) same,
     )
 
 returns : tie.Need-returns

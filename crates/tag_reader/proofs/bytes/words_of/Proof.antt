@@ -6,7 +6,7 @@ use Prim.Native.Nat.{ℕ, _-_, _/_, _≤_}
 use native.Mathlib.Numerals.{add-one}
 use native.Mathlib.Omega.{arith}
 use lib.ListN.{length, set}
-use Rattle.basics.specs.Lists.{tabulate, padded}
+use Rattle.basics.specs.Lists.{tabulate, zeroPadded}
 use Rattle.basics.proofs.Fill.{length-tabulate}
 use Rattle.tag.specs.TagString.{wordAt, wordsOf}
 use Rattle.basics.proofs.Zeros.{push-number}
@@ -19,7 +19,7 @@ abbrev front : List ℕ → ℕ → List ℕ
 front string k = tabulate k (wordAt string)
 
 abbrev Inv-loop : tie.InvT-loop
-Inv-loop string out₀ k₀ k-end out k = (k ≤ length string / 4) × (out ≡ padded 64 (front string k))
+Inv-loop string out₀ k₀ k-end out k = (k ≤ length string / 4) × (out ≡ zeroPadded 64 (front string k))
 
 abbrev μ-loop : tie.MeasureT-loop
 μ-loop string out₀ k₀ k-end out k = length string / 4 - k
@@ -38,7 +38,7 @@ loop-again c =
       search needs,
       rw add-one
           (ap₂ (λ (l : List ℕ) (w : ℕ). set l k w) (c .before .before .loop .inv .1) (c .word-at .ensures)
-          ∙ ap (λ (j : ℕ). set (padded 64 words) j (wordAt string k)) (sym long)
+          ∙ ap (λ (j : ℕ). set (zeroPadded 64 words) j (wordAt string k)) (sym long)
           ∙ push-number 64 words (wordAt string k) (omega (arith, c .before .before .before .before .pre))),
     )
 
@@ -48,7 +48,7 @@ returns c =
     let string = c .before .before .before .args .string .now in
     let k = c .before .loop .k in
     let e : k ≡ length string / 4 = omega arith in
-    c .before .loop .inv .1 ∙ ap (λ (j : ℕ). padded 64 (front string j)) e
+    c .before .loop .inv .1 ∙ ap (λ (j : ℕ). zeroPadded 64 (front string j)) e
 
 pub words-of-spec : {M : Type 1} → statement M
 words-of-spec =
