@@ -2,13 +2,14 @@
 -- parameters of the permutation.
 -- Assumes nothing.
 use mathlib.Core.Path.{_≡_, refl, sym, ap, ap₂, _∙_}
-use mathlib.Core.List.{List, [], _∷_, _++_, append-assoc, append-nil}
+use mathlib.Core.List.{List, [], _∷_, _++_, append-nil}
 use Prim.Native.Nat.{ℕ, zero, suc, _+_, _≤_, _<_}
 use native.Mathlib.Nat.{add-assoc}
 use native.Mathlib.Omega.{arith}
-use lib.ListN.{length, getD, set, drop, length-append, length-drop, drop-of-length-le}
-use lib.Seq.{drop-cons, set-at}
+use lib.ListN.{length, set, drop-of-length-le}
+use Rattle.basics.specs.Lists.{placed}
 use Rattle.basics.specs.Figures.{rate}
+use Rattle.basics.proofs.Placed.{placed-length, placed-set, placed-start}
 use Rattle.poseidon.specs.Permutation.{Parameters}
 use Rattle.sponge.specs.Sponge.{sponge, outer, absorbElement, squeezeElement, squeezedElement, absorbElements, squeezeElements, squeezedElements}
 use Rattle.sponge.specs.Steps.{stateFor, permutationsFor, stateWith, absorbFor}
@@ -38,26 +39,27 @@ module _ (F : Parameters) where
 
   -- a buffer whose first n elements are written
 
-  pub length-written : (s : Sponge) (n : ℕ) (buffer : List ℕ) → n ≤ length buffer → length (squeezedElements F s n ++ drop n buffer) ≡ length buffer
-  length-written s n buffer h =
-      length-append (squeezedElements F s n) (drop n buffer)
-      ∙ omega (arith, length-squeezed n s, length-drop n buffer)
+  pub length-written : (s : Sponge) (n : ℕ) (buffer : List ℕ) → n ≤ length buffer → length (placed buffer 0 (squeezedElements F s n)) ≡ length buffer
+  length-written s n buffer h = placed-length buffer 0 (squeezedElements F s n) (omega (arith, length-squeezed n s))
 
   pub write-next : (s : Sponge) (n : ℕ) (buffer : List ℕ) (x : ℕ) → n < length buffer → x ≡ squeezedElement F (squeezeElements F s n)
-      → set (squeezedElements F s n ++ drop n buffer) n x ≡ squeezedElements F s (suc n) ++ drop (suc n) buffer
+      → set (placed buffer 0 (squeezedElements F s n)) n x ≡ placed buffer 0 (squeezedElements F s (suc n))
   write-next s n buffer x h e =
       let front = squeezedElements F s n in
-      let rest = drop (suc n) buffer in
-      ap (λ (l : List ℕ). set (front ++ l) n x) (drop-cons buffer n 0 h)
-      ∙ set-at front (getD buffer n 0) rest x n (length-squeezed n s)
-      ∙ sym (append-assoc front (x ∷ []) rest)
-      ∙ ap (λ (v : ℕ). (front ++ (v ∷ [])) ++ rest) e
-      ∙ ap (λ (l : List ℕ). l ++ rest) (sym (squeezed-snoc n s))
+      let long = length-squeezed n s in
+      let place : n ≡ 0 + length front = omega arith in
+      ap (λ (k : ℕ). set (placed buffer 0 front) k x) place
+      ∙ placed-set buffer 0 front x (omega arith)
+      ∙ ap (λ (v : ℕ). placed buffer 0 (front ++ (v ∷ []))) e
+      ∙ ap (placed buffer 0) (sym (squeezed-snoc n s))
 
-  pub all-written : (s : Sponge) (n : ℕ) (buffer : List ℕ) → n ≡ length buffer → squeezedElements F s n ++ drop n buffer ≡ squeezedElements F s (length buffer)
+  pub all-written : (s : Sponge) (n : ℕ) (buffer : List ℕ) → n ≡ length buffer → placed buffer 0 (squeezedElements F s n) ≡ squeezedElements F s (length buffer)
   all-written s n buffer e =
-      let end : length buffer ≤ n = omega arith in
-      ap (λ (l : List ℕ). squeezedElements F s n ++ l) (drop-of-length-le buffer end)
+      let front = squeezedElements F s n in
+      let long = length-squeezed n s in
+      let end : length buffer ≤ length front = omega arith in
+      placed-start buffer front
+      ∙ ap (λ (l : List ℕ). front ++ l) (drop-of-length-le buffer end)
       ∙ append-nil _
       ∙ ap (squeezedElements F s) e
 

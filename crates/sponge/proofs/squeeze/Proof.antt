@@ -1,11 +1,13 @@
 -- `sponge::squeeze` meets its contract.
 -- Assumes nothing.
 use mathlib.Core.Path.{_≡_, refl, sym, ap, _∙_}
-use mathlib.Core.List.{List, _++_}
+use mathlib.Core.List.{List}
 use Prim.Native.Nat.{ℕ, _+_, _-_, _≤_}
 use native.Mathlib.Numerals.{add-one}
 use native.Mathlib.Omega.{arith}
-use lib.ListN.{length, getD, set, drop}
+use lib.ListN.{length, getD, set}
+use Rattle.basics.specs.Lists.{placed}
+use Rattle.basics.proofs.Placed.{placed-none}
 use Rattle.poseidon.specs.Permutation.{babyBear}
 use Rattle.sponge.specs.Sponge.{sponge, outer, squeezeElement, squeezedElement, squeezeElements, squeezedElements}
 use Rattle.sponge.specs.declared.Sponge.{Sponge}
@@ -19,7 +21,7 @@ abbrev Inv-loop : tie.InvT-loop
 Inv-loop absorb-position squeeze-position output₀ next₀ absorb₀ position₀ permutations₀ i₀ i-end output next absorb position permutations i =
     (i ≤ length output₀)
     × (squeezeElements babyBear (sponge next₀ absorb-position squeeze-position 0) i ≡ sponge next absorb position permutations)
-    × (output ≡ squeezedElements babyBear (sponge next₀ absorb-position squeeze-position 0) i ++ drop i output₀)
+    × (output ≡ placed output₀ 0 (squeezedElements babyBear (sponge next₀ absorb-position squeeze-position 0) i))
     × (permutations ≤ i)
 
 abbrev μ-loop : tie.MeasureT-loop
@@ -39,7 +41,7 @@ same c = ap length (c .loop .inv .2) ∙ length-written babyBear (start c) (c .l
 
 loop-holds : tie.Need-loop-holds Inv-loop μ-loop
 unfolding squeezeElements squeezedElements
-loop-holds c = (search needs, refl, refl, omega arith)
+loop-holds c = (search needs, refl, sym (placed-none (c .before .args .output .now) 0), omega arith)
 
 add-permutations : tie.Need-add-permutations Inv-loop μ-loop
 add-permutations c =
