@@ -14,7 +14,7 @@ use Rattle.basics.specs.Lists.{isBelow, Below}
 use Rattle.basics.specs.Figures.{rate}
 use Rattle.basics.proofs.Below.{below-at}
 use Rattle.basics.proofs.Cases.{by, cases, all-set}
-use Rattle.poseidon.specs.Permutation.{Parameters, permutation}
+use Rattle.poseidon.specs.Permutation.{Parameters}
 use Rattle.poseidon.proofs.Bounds.{permutation-reduced}
 use Rattle.sponge.specs.Sponge.{sponge, outer, readyToAbsorb, absorbElement, readyToSqueeze, squeezedElement, squeezeElement}
 use Rattle.sponge.specs.Steps.{stateFor, permutationsFor, stateWith, absorbFor}

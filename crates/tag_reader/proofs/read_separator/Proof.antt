@@ -9,6 +9,7 @@ use borrow.Author.Needs.{needs}
 use Rattle.tag_reader.proofs.read_separator.Statement.{statement}
 use Rattle.tag_reader.proofs.read_separator.Tie as tie
 
+-- the bytes by their number alone, so that the place is what the second part proves
 returns : tie.Need-returns
 returns c =
     let string = c .before .before .before .before .before .args .string .now in

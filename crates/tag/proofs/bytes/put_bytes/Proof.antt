@@ -21,14 +21,16 @@ abbrev μ-loop : tie.MeasureT-loop
 loop-holds : tie.Need-loop-holds Inv-loop μ-loop
 loop-holds c = (search needs, sym (placed-none (c .args .buffer .now) (c .args .at)))
 
-slice-write-buffer : tie.Need-slice-write-buffer Inv-loop μ-loop
-slice-write-buffer c =
-    let args = c .before .before .before .args in
-    let buffer = args .buffer .now in
+-- the buffer keeps its length
+same : (c : tie.At-loop Inv-loop μ-loop) → length (c .loop .buffer) ≡ length (c .before .args .buffer .now)
+same c =
+    let args = c .before .args in
     let bytes = args .bytes .now in
-    let i = c .before .before .loop .i in
-    let long = ap length (c .before .before .loop .inv .1) ∙ placed-length buffer (args .at) (take i bytes) (omega (arith, length-take-le i bytes (omega arith))) in
-    omega arith
+    let copied = length-take-le (c .loop .i) bytes (omega arith) in
+    ap length (c .loop .inv .1) ∙ placed-length (args .buffer .now) (args .at) (take (c .loop .i) bytes) (omega arith)
+
+slice-write-buffer : tie.Need-slice-write-buffer Inv-loop μ-loop
+slice-write-buffer c = let long = same (c .before .before) in omega arith
 
 loop-again : tie.Need-loop-again Inv-loop μ-loop
 loop-again c =
@@ -42,12 +44,7 @@ loop-again c =
     )
 
 same-length : tie.Need-same-length Inv-loop μ-loop
-same-length c =
-    let args = c .before .before .args in
-    let buffer = args .buffer .now in
-    let bytes = args .bytes .now in
-    let i = c .before .loop .i in
-    ap length (c .before .loop .inv .1) ∙ placed-length buffer (args .at) (take i bytes) (omega (arith, length-take-le i bytes (omega arith)))
+same-length c = same (c .before)
 
 returns : tie.Need-returns Inv-loop μ-loop
 returns c =
