@@ -23,7 +23,7 @@ use Rattle.card_grammar.specs.Text.{hex, decimal}
 use Rattle.card_grammar.specs.Grammar.{Reading, card, none}
 use Rattle.card_grammar.specs.Card.{cardOf}
 use Rattle.card_grammar.proofs.Digits.{decimal-small, decimal-more}
-use Rattle.card.specs.Answer.{longestAnswer, okText, noText, cardAnswer, answer}
+use Rattle.card.specs.Answer.{longestAnswer, okText, noText, cardAnswer, answer, withNewline}
 use Rattle.card.proofs.Laws.{answer-card, answer-none}
 
 -- ---- numerals
@@ -85,24 +85,31 @@ pub length-no : (number : ℕ) → length (noText number) ≡ 4 + length (decima
 unfolding noText
 length-no number = omega (arith, length-append (decimal number) (41 ∷ []))
 
-no-short : (number : ℕ) → number ≤ 99 → length (noText number) ≤ longestAnswer
-no-short number h = omega (arith, length-no number, number-digits number h)
+pub length-with-newline : (text : List ℕ) → length (withNewline text) ≡ length text + 1
+unfolding withNewline
+length-with-newline text = length-append text (10 ∷ [])
 
-card-answer-short : (o : Opening) → length (cardAnswer o) ≤ longestAnswer
-unfolding cardAnswer
-card-answer-short o =
-    by (λ (text : List ℕ). length text ≤ longestAnswer) _ _ _
-    (λ t.
-    let e = eqb-true (startNumber o) accepted t in
+no-short : (number : ℕ) → number ≤ 99 → length (withNewline (noText number)) ≤ longestAnswer
+no-short number h = omega (arith, length-with-newline (noText number), length-no number, number-digits number h)
+
+ok-short : (o : Opening) → startNumber o ≡ accepted → length (withNewline (okText (tagString o) (fullPermutations (o .words)))) ≤ longestAnswer
+ok-short o e =
+    let text = okText (tagString o) (fullPermutations (o .words)) in
     let string = tag-string-short o e in
     let digits = count-digits (fullPermutations (o .words)) (few-permutations o e) in
-    omega (arith, length-ok (tagString o) (fullPermutations (o .words))))
+    omega (arith, length-with-newline text, length-ok (tagString o) (fullPermutations (o .words)))
+
+card-answer-short : (o : Opening) → length (withNewline (cardAnswer o)) ≤ longestAnswer
+unfolding cardAnswer
+card-answer-short o =
+    by (λ (text : List ℕ). length (withNewline text) ≤ longestAnswer) _ _ _
+    (λ t. ok-short o (eqb-true (startNumber o) accepted t))
     λ _. no-short (startNumber o) (small-number o)
 
--- every answer, without its newline
-pub answer-short : (line : List ℕ) → length (answer line) ≤ longestAnswer
+-- every answer, with its newline
+pub answer-short : (line : List ℕ) → length (withNewline (answer line)) ≤ longestAnswer
 answer-short line = short (cardOf line) refl
   where
-    short : (r : Reading) → cardOf line ≡ r → length (answer line) ≤ longestAnswer
+    short : (r : Reading) → cardOf line ≡ r → length (withNewline (answer line)) ≤ longestAnswer
     short (card separator ws) e = rw (answer-card line separator ws e) (card-answer-short (opening ws separator))
     short none e = rw (answer-none line e) (no-short notCard (omega arith))

@@ -10,8 +10,8 @@ use lib.ListN.{length, getD, take, set, length-append}
 use lib.Seq.{length-take-le, take-suc}
 use Rattle.card_grammar.specs.Text.{hexDigit, hex, decimal}
 use Rattle.card_grammar.proofs.Digits.{hex-append, decimal-small, decimal-more}
-use Rattle.card.specs.Answer.{placed}
-use Rattle.card.proofs.Placed.{placed-none, placed-set}
+use Rattle.basics.specs.Lists.{placed}
+use Rattle.basics.proofs.Placed.{placed-none, placed-set}
 use Rattle.card.proofs.Bounds.{length-hex, length-decimal-more}
 
 module _ (buffer : List ℕ) (at : ℕ) where

@@ -1,6 +1,6 @@
+pub mod Front
 pub mod Laws
 pub mod Bounds
-pub mod Placed
 pub mod Digits
 pub mod Texts
 pub mod CardAnswer

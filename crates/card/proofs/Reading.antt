@@ -2,21 +2,19 @@
 -- Assumes nothing.
 use mathlib.Core.Path.{_≡_, refl, sym, ap, ap₂, subst, _∙_}
 use mathlib.Core.Bool.{true, false, true≢false}
-use mathlib.Core.List.{List, []}
-use Prim.Native.Nat.{ℕ, _-_, _≤_, _<_}
+use mathlib.Core.List.{List}
+use Prim.Native.Nat.{ℕ, _-_, _≤_}
 use native.Mathlib.Omega.{arith}
-use borrow.Author.Tests.{le-leb, lt-leb}
 use lib.ListN.{length, take, replicate, length-append}
 use lib.Seq.{take-append-seam}
 use Rattle.basics.specs.Lists.{zeroPadded}
 use Rattle.basics.specs.Numbers.{notCard}
-use Rattle.basics.proofs.Cases.{if-true, if-false}
 use Rattle.card_grammar.specs.Grammar.{Reading, card, none}
 use Rattle.card_grammar.specs.Card.{cardOf}
 use Rattle.card_reader.specs.Reading.{reading}
 use Rattle.card_reader.specs.declared.Card.{Card}
 use Rattle.pattern.specs.Opening.{opening}
-use Rattle.card.specs.Answer.{noText, cardAnswer, answer, hasRoom, answerInto}
+use Rattle.card.specs.Answer.{noText, cardAnswer, answer}
 use Rattle.card.proofs.Cut.{cut-answer}
 use Rattle.card.proofs.Laws.{answer-card, answer-none}
 
@@ -68,12 +66,3 @@ module _ (line : List ℕ) (c : Card) (e : c ≡ reading (cardOf line)) where
       answer-card line (h .separator) (h .words) (h .is)
       ∙ sym (cut-answer (h .words) (h .separator))
       ∙ sym (ap₂ (λ (ws s : List ℕ). cardAnswer (opening ws s)) (h .words-used) (h .separator-used))
-
--- what is written to a buffer
-pub into-room : (line buffer : List ℕ) → 1042 ≤ length buffer → answerInto line buffer ≡ answer line
-unfolding answerInto hasRoom
-into-room line buffer h = if-true _ _ _ (le-leb 1042 (length buffer) h)
-
-pub into-short : (line buffer : List ℕ) → length buffer < 1042 → answerInto line buffer ≡ []
-unfolding answerInto hasRoom
-into-short line buffer h = if-false _ _ _ (lt-leb 1042 (length buffer) h)

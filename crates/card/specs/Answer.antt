@@ -1,9 +1,8 @@
 -- The answer to a line. From document 01, "Cards".
-use mathlib.Core.Bool.{Bool}
-use mathlib.Core.List.{List, [], _++_}
-use Prim.Native.Nat.{ℕ, _+_}
-use lib.Dec.{leb, eqb}
-use lib.ListN.{length, take, drop}
+use mathlib.Core.List.{List, [], _∷_, _++_}
+use Prim.Native.Char.{code}
+use Prim.Native.Nat.{ℕ}
+use lib.Dec.{eqb}
 use Rattle.basics.specs.Logic.{if_then_else_}
 use Rattle.basics.specs.Numbers.{accepted, notCard}
 use Rattle.pattern.specs.Opening.{Opening, opening, startNumber}
@@ -34,29 +33,14 @@ readingAnswer none = noText notCard
 unfoldable pub answer : List ℕ → List ℕ
 answer line = readingAnswer (cardOf line)
 
--- Document 01 leaves it to the program how output is cut into buffers. The rest of this file says when a buffer has room and where a text
--- stands in it; what is common to every choice is `answer`.
+-- "one bracketed form a line": a line's end
+abbrev pub newline : ℕ
+newline = code "\n"
 
--- the longest answer: "(ok ", 1,024 digits, a space, 11 digits, a bracket
+-- a text as it is printed, with a newline behind it
+unfoldable pub withNewline : List ℕ → List ℕ
+withNewline text = text ++ (newline ∷ [])
+
+-- how long an answer is at most with its newline: "(ok ", 1,024 digits, a space, 11 digits, a bracket, the newline
 abbrev pub longestAnswer : ℕ
-longestAnswer = 1041
-
--- with its newline
-abbrev pub room : ℕ
-room = longestAnswer + 1
-
--- a buffer has room for any answer with its newline
-unfoldable pub hasRoom : List ℕ → Bool
-hasRoom buffer = leb room (length buffer)
-
--- what is written to a buffer: the answer, or nothing if the buffer is too short
-unfoldable pub answerInto : List ℕ → List ℕ → List ℕ
-answerInto line buffer = if hasRoom buffer then answer line else []
-
--- a buffer with a text at its start, and the rest as it was
-unfoldable pub beginning : List ℕ → List ℕ → List ℕ
-beginning text buffer = text ++ drop (length text) buffer
-
--- a buffer with a text from a place on, and the rest as it was
-unfoldable pub placed : List ℕ → ℕ → List ℕ → List ℕ
-placed buffer at text = take at buffer ++ text ++ drop (at + length text) buffer
+longestAnswer = 1042

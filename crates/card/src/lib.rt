@@ -4,44 +4,44 @@ pub mod text;
 ghost use mathlib.Core.Path.{_≡_};
 ghost use Prim.Native.Nat.{_≤_};
 ghost use lib.ListN.{length};
+ghost use Rattle.basics.specs.Lists.{placed};
 ghost use Rattle.pattern.specs.Opening.{opening};
 ghost use Rattle.tag.specs.TagString.{maxString};
-ghost use Rattle.card.specs.Answer.{room, okText, noText, cardAnswer, answerInto, beginning};
+ghost use Rattle.card.specs.Answer.{okText, noText, cardAnswer, answer, withNewline};
 
-// What a buffer has to hold at least: the longest answer, of 1,041 bytes, and a newline.
-pub const ROOM: usize = 1042;
+// The bytes of the longest answer, with its newline.
+pub const LONGEST_ANSWER: usize = 1042;
 
-// Writes "(no N)".
-fn put_no(buffer: &mut [u8], number: u32) -> usize
-    requires { ⌜ (room ≤ length (now buffer)) × (number ≤ 99) ⌝ }
-    ensures { λ r. ⌜ (r ≡ length (noText number)) ×
-        (now (buffer .exit) ≡ beginning (noText number) (now (buffer .entry))) ⌝ }
+// Writes "(no N)" and a newline.
+fn put_no(buffer: &mut [u8; 1042], number: u32) -> usize
+    requires { ⌜ number ≤ 99 ⌝ }
+    ensures { λ r. ⌜ (r ≡ length (withNewline (noText number))) ×
+        (now (buffer .exit) ≡ placed (now (buffer .entry)) 0 (withNewline (noText number))) ⌝ }
 {
     text::copy(buffer, 0, b"(no ");
     let end = text::put_decimal(buffer, 4, number as u64);
-    text::copy(buffer, end, b")");
-    end + 1
+    text::copy(buffer, end, b")\n");
+    end + 2
 }
 
-// Writes "(ok TAG COUNT)" for a tag string.
-fn put_ok(buffer: &mut [u8], string: &[u8], permutations: u64) -> usize
-    requires { ⌜ (room ≤ length (now buffer)) × (length (now string) ≤ maxString) × (permutations ≤ 99999999999) ⌝ }
-    ensures { λ r. ⌜ (r ≡ length (okText (now (string .entry)) permutations)) ×
-        (now (buffer .exit) ≡ beginning (okText (now (string .entry)) permutations) (now (buffer .entry))) ⌝ }
+// Writes "(ok TAG COUNT)" for a tag string, and a newline.
+fn put_ok(buffer: &mut [u8; 1042], string: &[u8], permutations: u64) -> usize
+    requires { ⌜ (length (now string) ≤ maxString) × (permutations ≤ 99999999999) ⌝ }
+    ensures { λ r. ⌜ (r ≡ length (withNewline (okText (now (string .entry)) permutations))) ×
+        (now (buffer .exit) ≡ placed (now (buffer .entry)) 0 (withNewline (okText (now (string .entry)) permutations))) ⌝ }
 {
     text::copy(buffer, 0, b"(ok ");
     let tag_end = text::put_hex(buffer, 4, string);
     text::copy(buffer, tag_end, b" ");
     let end = text::put_decimal(buffer, tag_end + 1, permutations);
-    text::copy(buffer, end, b")");
-    end + 1
+    text::copy(buffer, end, b")\n");
+    end + 2
 }
 
-// Writes the answer to a card of these words and this separator.
-fn answer_card(words: &[u32], separator: &[u8], buffer: &mut [u8]) -> usize
-    requires { ⌜ room ≤ length (now buffer) ⌝ }
-    ensures { λ r. ⌜ (r ≡ length (cardAnswer (opening (now (words .entry)) (now (separator .entry))))) ×
-        (now (buffer .exit) ≡ beginning (cardAnswer (opening (now (words .entry)) (now (separator .entry)))) (now (buffer .entry))) ⌝ }
+// Writes the answer to a card of these words and this separator, and a newline.
+fn answer_card(words: &[u32], separator: &[u8], buffer: &mut [u8; 1042]) -> usize
+    ensures { λ r. ⌜ (r ≡ length (withNewline (cardAnswer (opening (now (words .entry)) (now (separator .entry)))))) ×
+        (now (buffer .exit) ≡ placed (now (buffer .entry)) 0 (withNewline (cardAnswer (opening (now (words .entry)) (now (separator .entry)))))) ⌝ }
 {
     let merged = pattern::check(words, separator);
     if merged.number != basics::ACCEPTED {
@@ -56,15 +56,11 @@ fn answer_card(words: &[u32], separator: &[u8], buffer: &mut [u8]) -> usize
     put_ok(buffer, &string[..length], permutations)
 }
 
-// Writes the answer to a line from the buffer's start on, and gives its length. A buffer of fewer than 1,042 bytes is left as it is, and
-// 0 is given.
-pub fn answer(line: &[u8], buffer: &mut [u8]) -> usize
-    ensures { λ r. ⌜ (r ≡ length (answerInto (now (line .entry)) (now (buffer .entry)))) ×
-        (now (buffer .exit) ≡ beginning (answerInto (now (line .entry)) (now (buffer .entry))) (now (buffer .entry))) ⌝ }
+// Writes the answer to a line, and a newline, from the buffer's start on, and gives the number of these bytes.
+pub fn answer(line: &[u8], buffer: &mut [u8; 1042]) -> usize
+    ensures { λ r. ⌜ (r ≡ length (withNewline (answer (now (line .entry))))) ×
+        (now (buffer .exit) ≡ placed (now (buffer .entry)) 0 (withNewline (answer (now (line .entry))))) ⌝ }
 {
-    if buffer.len() < ROOM {
-        return 0;
-    }
     let card = card_reader::read(line);
     if !card.is_card {
         return put_no(buffer, basics::NOT_CARD);

@@ -1,24 +1,34 @@
 // Text written to a place of a buffer.
 ghost use mathlib.Core.Path.{_≡_};
-ghost use Prim.Native.Nat.{_+_, _-_, _*_, _≤_};
+ghost use Prim.Native.Nat.{_+_, _-_, _*_, _≤_, min};
 ghost use lib.ListN.{length, take};
+ghost use Rattle.basics.specs.Lists.{placed};
 ghost use Rattle.card_grammar.specs.Text.{hexDigit, hex, decimal};
-ghost use Rattle.card.specs.Answer.{placed};
+
+// How many of some bytes a buffer of so many has room for from a place on.
+fn fitting(buffer: usize, at: usize, bytes: usize) -> usize
+    ensures { λ r. ⌜ r ≡ min (buffer - at) bytes ⌝ }
+{
+    if at >= buffer {
+        return 0;
+    }
+    if bytes < buffer - at {
+        bytes
+    } else {
+        buffer - at
+    }
+}
 
 // Copies bytes to a place of the buffer, as many as it has room for there, and gives their number.
 pub fn copy(buffer: &mut [u8], at: usize, bytes: &[u8]) -> usize
     ensures { λ r. ⌜ (r ≡ length (take (length (now (buffer .entry)) - at) (now (bytes .entry)))) ×
         (now (buffer .exit) ≡ placed (now (buffer .entry)) at (take (length (now (buffer .entry)) - at) (now (bytes .entry)))) ⌝ }
 {
-    let mut i: usize = 0;
-    while i < bytes.len() {
-        if at >= buffer.len() - i {
-            return i;
-        }
+    let count = fitting(buffer.len(), at, bytes.len());
+    for i in 0..count {
         buffer[at + i] = bytes[i];
-        i += 1;
     }
-    i
+    count
 }
 
 fn hex_digit(digit: u8) -> u8

@@ -1,6 +1,6 @@
 -- However an input is cut into pieces, the output is that of the whole.
 -- Assumes nothing.
-use mathlib.Core.Path.{_≡_, refl, sym, ap, ap₂, subst, _∙_}
+use mathlib.Core.Path.{_≡_, refl, sym, ap, subst, _∙_}
 use mathlib.Core.Bool.{true, false}
 use mathlib.Core.List.{List, [], _∷_, _++_, append-assoc, append-nil}
 use Prim.Native.Nat.{ℕ, _+_, _-_, min}
@@ -9,17 +9,17 @@ use borrow.Author.Tests.{leb-true, leb-false, eq-eqb, ne-eqb}
 use lib.Dec.{leb}
 use lib.ListN.{length, take, length-append, length-take}
 use lib.Seq.{take-all, take-at, take-append-le, take-append-add, length-take-le}
+use Rattle.basics.specs.Lists.{placed}
 use Rattle.basics.proofs.Cases.{cases, if-true, if-false}
-use Rattle.card.specs.Answer.{answer, hasRoom, placed}
+use Rattle.basics.proofs.Placed.{placed-length}
+use Rattle.card.specs.Answer.{answer, withNewline}
 use Rattle.card.proofs.Laws.{answer-long}
-use Rattle.card.proofs.Placed.{placed-length}
 use Rattle.card_lines.specs.Lines.{output}
-use Rattle.card_lines.specs.Stream.{firstLine, endsLine, extendedLength, extended, heldAnswer, writes, lastAnswer}
-use Rattle.card_lines.specs.Calls.{Call, Held, after, taken, written}
+use Rattle.card_lines.specs.Stream.{firstLine, endsLine, extendedLength, extended, heldAnswer, writes, takes, lineAfter, lastAnswer}
+use Rattle.card_lines.specs.Calls.{Held, after, writesAll, takesAll, afterAll}
 use Rattle.card_lines.proofs.OutputLines.{NoNewline, join-no-newline, output-newline, output-none, output-last}
 use Rattle.card_lines.proofs.Pieces.{first-no-newline, all-first}
-use Rattle.card_lines.proofs.FeedCases.{no-room-line, no-room-length, no-room-writes, no-room-takes, room-line}
-use Rattle.card_lines.proofs.FeedCases.{open-length, open-writes, open-takes, newline-length, newline-writes, newline-takes}
+use Rattle.card_lines.proofs.FeedCases.{open-held, open-writes, open-takes, newline-held, newline-writes, newline-takes}
 
 take-append : (n : ℕ) (a b : List ℕ) → take n (a ++ b) ≡ take n a ++ take (n - length a) b
 take-append n a b =
@@ -71,111 +71,116 @@ answer-held q =
     λ e. let long = leb-false (length q) 2048 e in
     answer-long (take 2049 q) (omega (arith, length-take-le 2049 q (omega arith))) ∙ sym (answer-long q long)
 
--- the line in progress behind a call, by the call's kind
-module _ (h : Held) (c : Call) (q : List ℕ) (holds : Holds h q) where
-  abbrev first : List ℕ
-  first = firstLine (c .piece)
+-- Calls that take and write so much, from the line in progress q on: what they leave holds the line in progress then, and the output of what
+-- they take and what follows is what they write, and then that of the line in progress and what follows.
+pub record Continues (q text taken : List ℕ) (h : Held) : Type 0 where
+  pub line : List ℕ
+  pub holds : Holds h line
+  pub prints : (rest : List ℕ) → output (q ++ (taken ++ rest)) ≡ text ++ output (line ++ rest)
 
-  no-room-left : hasRoom (c .output) ≡ false → after h c ≡ h
-  unfolding after
-  no-room-left e =
-      λ i. record {
-        line = no-room-line (h .line) (h .held) (c .piece) (c .output) e i;
-        held = no-room-length (h .line) (h .held) (c .piece) (c .output) e i;
+-- no call
+pub stays : (h : Held) (q : List ℕ) → Holds h q → Continues q [] [] h
+stays h q holds = record { line = q; holds = holds; prints = λ rest. refl }
+
+-- calls, and calls behind them
+pub goes-on : (q text taken text′ taken′ : List ℕ) (h h′ : Held) → Continues q text taken h
+    → ((line : List ℕ) → Holds h line → Continues line text′ taken′ h′)
+    → Continues q (text ++ text′) (taken ++ taken′) h′
+goes-on q text taken text′ taken′ h h′ first later =
+    let second = later (first .line) (first .holds) in
+    record {
+      line = second .line;
+      holds = second .holds;
+      prints =
+          λ rest. ap (λ (l : List ℕ). output (q ++ l)) (append-assoc taken taken′ rest)
+          ∙ first .prints (taken′ ++ rest)
+          ∙ ap (λ (l : List ℕ). text ++ l) (second .prints rest)
+          ∙ sym (append-assoc text text′ (output (second .line ++ rest)));
+    }
+
+-- one call, by its kind
+module _ (h : Held) (piece q : List ℕ) (holds : Holds h q) where
+  abbrev first : List ℕ
+  first = firstLine piece
+
+  after-long : length (after h piece .line) ≡ 2049
+  unfolding after lineAfter extended
+  after-long = longer h q holds first
+
+  open-holds : endsLine piece ≡ false → Holds (after h piece) (q ++ piece)
+  unfolding after lineAfter
+  open-holds e =
+      let all = all-first piece e in
+      let count = open-held (h .line) (h .held) piece e in
+      record {
+        long = after-long;
+        count = count ∙ more-count h q holds first ∙ ap (λ (l : List ℕ). min (length (q ++ l)) 2049) all;
+        bytes =
+            ap (λ (n : ℕ). take n (extended (h .line) (h .held) first)) count
+            ∙ more-bytes h q holds first
+            ∙ ap (λ (l : List ℕ). take 2049 (q ++ l)) all;
+        no-newline = join-no-newline q piece (holds .no-newline) (subst NoNewline all (first-no-newline piece));
       }
 
-  module _ (e : hasRoom (c .output) ≡ true) where
-    room-long : length (after h c .line) ≡ 2049
-    unfolding after extended
-    room-long = ap length (room-line (h .line) (h .held) (c .piece) (c .output) e) ∙ longer h q holds first
+  with-no-newline : endsLine piece ≡ false → Continues q (writes (h .line) (h .held) piece) (takes piece) (after h piece)
+  with-no-newline e =
+      rw (open-writes (h .line) (h .held) piece e, open-takes (h .line) (h .held) piece e)
+      record { line = q ++ piece; holds = open-holds e; prints = λ rest. ap output (sym (append-assoc q piece rest)) }
 
-    open-holds : endsLine (c .piece) ≡ false → Holds (after h c) (q ++ c .piece)
-    unfolding after
-    open-holds f =
-        let all = all-first (c .piece) f in
-        let count = open-length (h .line) (h .held) (c .piece) (c .output) e f in
-        record {
-          long = room-long;
-          count = count ∙ more-count h q holds first ∙ ap (λ (l : List ℕ). min (length (q ++ l)) 2049) all;
-          bytes =
-              ap₂ (λ (n : ℕ) (l : List ℕ). take n l) count (room-line (h .line) (h .held) (c .piece) (c .output) e)
-              ∙ more-bytes h q holds first
-              ∙ ap (λ (l : List ℕ). take 2049 (q ++ l)) all;
-          no-newline = join-no-newline q (c .piece) (holds .no-newline) (subst NoNewline all (first-no-newline (c .piece)));
-        }
+  newline-holds : endsLine piece ≡ true → Holds (after h piece) []
+  unfolding after NoNewline
+  newline-holds e =
+      let none = newline-held (h .line) (h .held) piece e in
+      record { long = after-long; count = none; bytes = ap (λ (n : ℕ). take n (after h piece .line)) none; no-newline = tt }
 
-    newline-holds : endsLine (c .piece) ≡ true → Holds (after h c) []
-    unfolding after NoNewline
-    newline-holds f =
-        let none = newline-length (h .line) (h .held) (c .piece) (c .output) e f in
-        record { long = room-long; count = none; bytes = ap (λ (n : ℕ). take n (after h c .line)) none; no-newline = tt }
+  newline-answer : endsLine piece ≡ true → writes (h .line) (h .held) piece ≡ withNewline (answer (q ++ first))
+  unfolding heldAnswer
+  newline-answer e =
+      newline-writes (h .line) (h .held) piece e
+      ∙ ap (λ (l : List ℕ). withNewline (answer l)) (more-bytes h q holds first)
+      ∙ ap withNewline (answer-held (q ++ first))
 
-    newline-answer : endsLine (c .piece) ≡ true → writes (h .line) (h .held) (c .piece) (c .output) ≡ answer (q ++ first) ++ (10 ∷ [])
-    unfolding heldAnswer
-    newline-answer f =
-        newline-writes (h .line) (h .held) (c .piece) (c .output) e f
-        ∙ ap (λ (l : List ℕ). answer l ++ (10 ∷ [])) (more-bytes h q holds first)
-        ∙ ap (λ (l : List ℕ). l ++ (10 ∷ [])) (answer-held (q ++ first))
+  with-newline : endsLine piece ≡ true → Continues q (writes (h .line) (h .held) piece) (takes piece) (after h piece)
+  with-newline e =
+      rw (newline-answer e, newline-takes (h .line) (h .held) piece e)
+      record {
+        line = [];
+        holds = newline-holds e;
+        prints =
+            λ rest. ap (λ (l : List ℕ). output (q ++ l)) (append-assoc first (10 ∷ []) rest)
+            ∙ ap output (sym (append-assoc q first (10 ∷ rest)))
+            ∙ output-newline (q ++ first) rest (join-no-newline q first (holds .no-newline) (first-no-newline piece));
+      }
+
+  pub one-continues : Continues q (writes (h .line) (h .held) piece) (takes piece) (after h piece)
+  one-continues = cases (endsLine piece) with-newline with-no-newline
+
+-- calls in turn
+pub all-continue : (pieces : List (List ℕ)) (h : Held) (q : List ℕ) → Holds h q
+    → Continues q (writesAll h pieces) (takesAll pieces) (afterAll h pieces)
+unfolding writesAll takesAll afterAll
+all-continue [] h q holds = stays h q holds
+all-continue (piece ∷ pieces) h q holds =
+    goes-on q _ _ _ _ (after h piece) _ (one-continues h piece q holds) (all-continue pieces (after h piece))
 
 -- at the end of the input
-held-line : (h : Held) (q : List ℕ) → Holds h q → heldAnswer (h .line) (h .held) ≡ answer q ++ (10 ∷ [])
-unfolding heldAnswer
-held-line h q holds =
-    ap (λ (l : List ℕ). answer l ++ (10 ∷ [])) (holds .bytes) ∙ ap (λ (l : List ℕ). l ++ (10 ∷ [])) (answer-held q)
-
-last-line : (h : Held) (q last : List ℕ) → Holds h q → hasRoom last ≡ true → lastAnswer (h .line) (h .held) last ≡ output q
-unfolding lastAnswer
-last-line h [] last holds e = if-true _ _ _ (eq-eqb _ _ (holds .count)) ∙ sym output-none
-last-line h (b ∷ q) last holds e =
+pub last-line : (h : Held) (q : List ℕ) → Holds h q → lastAnswer (h .line) (h .held) ≡ output q
+unfolding lastAnswer heldAnswer
+last-line h [] holds = if-true _ _ _ (eq-eqb _ _ (holds .count)) ∙ sym output-none
+last-line h (b ∷ q) holds =
     if-false _ _ _ (ne-eqb (h .held) 0 (omega (arith, holds .count)))
-    ∙ if-true _ _ _ e
-    ∙ held-line h (b ∷ q) holds
+    ∙ ap (λ (l : List ℕ). withNewline (answer l)) (holds .bytes)
+    ∙ ap withNewline (answer-held (b ∷ q))
     ∙ sym (output-last b q (holds .no-newline))
 
--- one call, and what is true of the calls behind it
-module _ (h : Held) (c : Call) (cs : List Call) (q last : List ℕ) (holds : Holds h q)
-    (later : (r : List ℕ) → Holds (after h c) r → written (after h c) cs last ≡ output (r ++ taken cs)) where
-  with-no-room : hasRoom (c .output) ≡ false → written h (c ∷ cs) last ≡ output (q ++ taken (c ∷ cs))
-  unfolding written taken
-  with-no-room e =
-      ap (λ (l : List ℕ). l ++ written (after h c) cs last) (no-room-writes (h .line) (h .held) (c .piece) (c .output) e)
-      ∙ later q (subst (λ (k : Held). Holds k q) (sym (no-room-left h c q holds e)) holds)
-      ∙ ap (λ (l : List ℕ). output (q ++ (l ++ taken cs))) (sym (no-room-takes (h .line) (h .held) (c .piece) (c .output) e))
-
-  with-no-newline : hasRoom (c .output) ≡ true → endsLine (c .piece) ≡ false → written h (c ∷ cs) last ≡ output (q ++ taken (c ∷ cs))
-  unfolding written taken
-  with-no-newline e f =
-      ap (λ (l : List ℕ). l ++ written (after h c) cs last) (open-writes (h .line) (h .held) (c .piece) (c .output) e f)
-      ∙ later (q ++ c .piece) (open-holds h c q holds e f)
-      ∙ ap output (append-assoc q (c .piece) (taken cs))
-      ∙ ap (λ (l : List ℕ). output (q ++ (l ++ taken cs))) (sym (open-takes (h .line) (h .held) (c .piece) (c .output) e f))
-
-  with-newline : hasRoom (c .output) ≡ true → endsLine (c .piece) ≡ true → written h (c ∷ cs) last ≡ output (q ++ taken (c ∷ cs))
-  unfolding written taken
-  with-newline e f =
-      let first = firstLine (c .piece) in
-      let line = q ++ first in
-      ap (λ (l : List ℕ). l ++ written (after h c) cs last) (newline-answer h c q holds e f)
-      ∙ append-assoc (answer line) (10 ∷ []) (written (after h c) cs last)
-      ∙ ap (λ (l : List ℕ). answer line ++ (10 ∷ l)) (later [] (newline-holds h c q holds e f))
-      ∙ sym (output-newline line (taken cs) (join-no-newline q first (holds .no-newline) (first-no-newline (c .piece))))
-      ∙ ap output (append-assoc q first (10 ∷ taken cs) ∙ ap (λ (l : List ℕ). q ++ l) (sym (append-assoc first (10 ∷ []) (taken cs))))
-      ∙ ap (λ (l : List ℕ). output (q ++ (l ++ taken cs))) (sym (newline-takes (h .line) (h .held) (c .piece) (c .output) e f))
-
--- no call is left
-at-end : (h : Held) (q last : List ℕ) → Holds h q → hasRoom last ≡ true → written h [] last ≡ output (q ++ taken [])
-unfolding written taken
-at-end h q last holds e = last-line h q last holds e ∙ ap output (sym (append-nil q))
-
--- calls in turn, from a line in progress q
-pub written-output : (cs : List Call) (h : Held) (q last : List ℕ) → Holds h q → hasRoom last ≡ true → written h cs last ≡ output (q ++ taken cs)
-written-output [] h q last holds e = at-end h q last holds e
-written-output (c ∷ cs) h q last holds e =
-    let later : (r : List ℕ) → Holds (after h c) r → written (after h c) cs last ≡ output (r ++ taken cs) =
-    λ r left. written-output cs (after h c) r last left e in
-    cases (hasRoom (c .output))
-    (λ room. cases (endsLine (c .piece)) (with-newline h c cs q last holds later room) (with-no-newline h c cs q last holds later room))
-    (with-no-room h c cs q last holds later)
+-- calls in turn, and then the end
+pub written-output : (pieces : List (List ℕ)) (h : Held) (q : List ℕ) → Holds h q
+    → writesAll h pieces ++ lastAnswer (afterAll h pieces .line) (afterAll h pieces .held) ≡ output (q ++ takesAll pieces)
+written-output pieces h q holds =
+    let calls = all-continue pieces h q holds in
+    ap (λ (l : List ℕ). writesAll h pieces ++ l) (last-line (afterAll h pieces) (calls .line) (calls .holds) ∙ ap output (sym (append-nil (calls .line))))
+    ∙ sym (calls .prints [])
+    ∙ ap (λ (l : List ℕ). output (q ++ l)) (append-nil (takesAll pieces))
 
 -- at the start, when nothing is held
 pub start-holds : (line : List ℕ) → length line ≡ 2049 → Holds (record { line = line; held = 0 }) []

@@ -3,5 +3,7 @@ pub mod Pieces
 pub mod HeldLine
 pub mod FeedCases
 pub mod Progress
-pub mod AllTaken
 pub mod Cutting
+pub mod Feedings
+pub mod Turns
+pub mod Callers

@@ -2,11 +2,11 @@
 -- Assumes nothing.
 use mathlib.Core.Path.{_≡_, refl, ap, _∙_}
 use mathlib.Core.Bool.{false}
-use mathlib.Core.List.{List, [], _∷_, _++_}
+use mathlib.Core.List.{List, [], _∷_, _++_, append-nil}
 use Prim.Native.Nat.{ℕ}
 use lib.Dec.{eqb}
 use Rattle.basics.proofs.Cases.{if-true, if-false}
-use Rattle.card.specs.Answer.{answer}
+use Rattle.card.specs.Answer.{answer, withNewline}
 use Rattle.card_lines.specs.Lines.{before, lines, answers, output}
 
 -- no byte is a newline
@@ -30,7 +30,7 @@ lines-one b [] h = if-false _ _ _ (h .0)
 lines-one b (x ∷ a) h = if-false _ _ _ (h .0) ∙ ap (before b) (lines-one x a (h .1))
 
 -- a line that a newline ends
-pub output-newline : (a rest : List ℕ) → NoNewline a → output (a ++ (10 ∷ rest)) ≡ answer a ++ (10 ∷ output rest)
+pub output-newline : (a rest : List ℕ) → NoNewline a → output (a ++ (10 ∷ rest)) ≡ withNewline (answer a) ++ output rest
 unfolding output answers
 output-newline a rest h = ap answers (lines-newline a rest h)
 
@@ -39,6 +39,6 @@ pub output-none : output [] ≡ []
 unfolding output answers lines
 output-none = refl
 
-pub output-last : (b : ℕ) (a : List ℕ) → NoNewline (b ∷ a) → output (b ∷ a) ≡ answer (b ∷ a) ++ (10 ∷ [])
+pub output-last : (b : ℕ) (a : List ℕ) → NoNewline (b ∷ a) → output (b ∷ a) ≡ withNewline (answer (b ∷ a))
 unfolding output answers
-output-last b a h = ap answers (lines-one b a h)
+output-last b a h = ap answers (lines-one b a h) ∙ append-nil (withNewline (answer (b ∷ a)))

@@ -1,67 +1,55 @@
--- A call takes no more than its piece and writes no more than its output; and it takes something, where there is room and a byte.
+-- A call of `feed` takes no more than its piece, and at least a byte where there is one; what is written is no longer than the longest answer.
 -- Assumes nothing.
-use mathlib.Core.Path.{_≡_, refl, sym, ap, _∙_}
-use mathlib.Core.Bool.{true}
-use mathlib.Core.List.{List, [], _∷_}
+use mathlib.Core.Path.{_≡_, ap}
+use mathlib.Core.List.{List, []}
 use Prim.Native.Nat.{ℕ, _+_, _≤_, _<_}
 use native.Mathlib.Omega.{arith}
-use borrow.Author.Tests.{leb-true, leb-false}
-use lib.Dec.{leb}
-use lib.ListN.{length, take, length-append, length-take}
-use lib.Seq.{length-take-le, take-all, take-length}
-use Rattle.basics.proofs.Cases.{by, cases, if-true}
-use Rattle.card.specs.Answer.{answer, hasRoom}
-use Rattle.card.proofs.Bounds.{answer-short}
-use Rattle.card_lines.specs.Stream.{firstLine, extendedLength, extended, heldAnswer, writes, takes, lastAnswer}
+use borrow.Author.Tests.{eqb-true, eq-eqb}
+use lib.Dec.{eqb}
+use lib.ListN.{length, take, length-take}
+use Rattle.basics.proofs.Cases.{by, cases, if-true, if-false}
+use Rattle.card.specs.Answer.{answer, withNewline, longestAnswer}
+use Rattle.card.proofs.Bounds.{length-with-newline, answer-short}
+use Rattle.card.proofs.Front.{take-front}
+use Rattle.card_lines.specs.Stream.{firstLine, endsLine, extendedLength, extended, heldAnswer, writes, takes, lastAnswer}
 
-pub takes-within : (piece output : List ℕ) → length (takes piece output) ≤ length piece
+pub takes-within : (piece : List ℕ) → length (takes piece) ≤ length piece
 unfolding takes
-takes-within piece output =
-    let some = length-take (length (firstLine piece) + 1) piece in
-    by (λ (l : List ℕ). length l ≤ length piece) (hasRoom output) _ _ (λ e. omega arith) λ e. omega arith
+takes-within piece = omega (arith, length-take (length (firstLine piece) + 1) piece)
 
-pub takes-some : (piece output : List ℕ) → hasRoom output ≡ true → 0 < length piece → 0 < length (takes piece output)
+pub takes-some : (piece : List ℕ) → 0 < length piece → 0 < length (takes piece)
 unfolding takes
-takes-some piece output e h =
-    let some = length-take (length (firstLine piece) + 1) piece in
-    rw (if-true (hasRoom output) (take (length (firstLine piece) + 1) piece) [] e) (omega arith)
+takes-some piece h = omega (arith, length-take (length (firstLine piece) + 1) piece)
 
 -- what is taken is the piece's front
-front : (n : ℕ) (l : List ℕ) → take n l ≡ take (length (take n l)) l
-front n l =
-    cases (leb n (length l))
-    (λ e. ap (λ (k : ℕ). take k l) (sym (length-take-le n l (leb-true n (length l) e))))
-    λ e. let all = take-all n l (omega (arith, leb-false n (length l) e)) in
-    all ∙ sym (take-length l) ∙ ap (λ (k : ℕ). take k l) (sym (ap length all))
-
-pub takes-first : (piece output : List ℕ) → takes piece output ≡ take (length (takes piece output)) piece
+pub takes-first : (piece : List ℕ) → takes piece ≡ take (length (takes piece)) piece
 unfolding takes
-takes-first piece output =
-    by (λ (l : List ℕ). l ≡ take (length l) piece) (hasRoom output) _ _ (λ e. front (length (firstLine piece) + 1) piece) λ e. refl
+takes-first piece = take-front (length (firstLine piece) + 1) piece
 
-answer-within : (line : List ℕ) (n : ℕ) → length (heldAnswer line n) ≤ 1042
+answer-within : (line : List ℕ) (n : ℕ) → length (heldAnswer line n) ≤ longestAnswer
 unfolding heldAnswer
-answer-within line n = omega (arith, length-append (answer (take n line)) (10 ∷ []), answer-short (take n line))
+answer-within line n = answer-short (take n line)
 
-room : (output : List ℕ) → hasRoom output ≡ true → 1042 ≤ length output
-unfolding hasRoom
-room output e = leb-true 1042 (length output) e
-
-pub writes-within : (line : List ℕ) (n : ℕ) (piece output : List ℕ) → length (writes line n piece output) ≤ length output
+pub writes-within : (line : List ℕ) (n : ℕ) (piece : List ℕ) → length (writes line n piece) ≤ longestAnswer
 unfolding writes
-writes-within line n piece output =
-    by (λ (l : List ℕ). length l ≤ length output) (hasRoom output) _ _
-    (λ e. by (λ (l : List ℕ). length l ≤ length output) _ _ _
-    (λ f. within e _ (answer-within (extended line n (firstLine piece)) (extendedLength n (firstLine piece))))
-    λ f. omega arith)
+writes-within line n piece =
+    by (λ (l : List ℕ). length l ≤ longestAnswer) (endsLine piece) _ _
+    (λ e. answer-within (extended line n (firstLine piece)) (extendedLength n (firstLine piece)))
     λ e. omega arith
-  where
-    within : hasRoom output ≡ true → (k : ℕ) → k ≤ 1042 → k ≤ length output
-    within e k h = omega (arith, room output e)
 
-pub last-within : (line : List ℕ) (n : ℕ) (output : List ℕ) → length (lastAnswer line n output) ≤ length output
+pub last-within : (line : List ℕ) (n : ℕ) → length (lastAnswer line n) ≤ longestAnswer
 unfolding lastAnswer
-last-within line n output =
-    by (λ (l : List ℕ). length l ≤ length output) _ _ _
-    (λ e. omega arith)
-    λ e. by (λ (l : List ℕ). length l ≤ length output) _ _ _ (λ f. omega (arith, room output f, answer-within line n)) λ f. omega arith
+last-within line n = by (λ (l : List ℕ). length l ≤ longestAnswer) _ _ _ (λ e. omega arith) λ e. answer-within line n
+
+-- nothing is written at the end exactly if no line is in progress
+pub last-none : (line : List ℕ) (n : ℕ) → n ≡ 0 → length (lastAnswer line n) ≡ 0
+unfolding lastAnswer
+last-none line n e = ap length (if-true _ _ _ (eq-eqb n 0 e))
+
+pub last-some : (line : List ℕ) (n : ℕ) → length (lastAnswer line n) ≡ 0 → n ≡ 0
+unfolding lastAnswer heldAnswer
+last-some line n e =
+    cases (eqb n 0) (eqb-true n 0)
+    λ f.
+    let some = ap length (if-false (eqb n 0) [] (withNewline (answer (take n line))) f) in
+    absurd (omega (arith, length-with-newline (answer (take n line))))

@@ -1,55 +1,118 @@
--- Calls of `feed` in turn, each on the line in progress that the one before it left. Document 01 leaves it to the program how input and output
--- are cut; what is common to every choice is `output`.
+-- Calls of `feed` and of `answer_lines` in turn, each on the line in progress that the one before it left. Document 01 leaves it to the program
+-- how input and output are cut; what is common to every choice is `output`.
 use mathlib.Core.List.{List, [], _∷_, _++_}
-use Prim.Native.Nat.{ℕ, zero, suc, _+_}
+use Prim.Native.Nat.{ℕ, zero, suc, _+_, _-_}
+use lib.Dec.{ltb}
 use lib.ListN.{length, drop}
-use Rattle.card_lines.specs.Stream.{writes, takes, lengthAfter, lineAfter, lastAnswer}
+use Rattle.basics.specs.Logic.{if_then_else_}
+use Rattle.card.specs.Answer.{longestAnswer}
+use Rattle.card_lines.specs.Stream.{writes, takes, heldAfter, lineAfter, lastAnswer}
+use Rattle.card_lines.specs.declared.Fed.{Fed}
 
--- the piece and the output that a call is lent
-pub record Call : Type 0 where
-  pub piece : List ℕ
-  pub output : List ℕ
-
--- the line in progress: its places, and its length
+-- the line in progress: its places, and how many bytes it has
 pub record Held : Type 0 where
   pub line : List ℕ
   pub held : ℕ
 
+-- ---- calls of `feed`, each with a piece
+
 -- the line in progress that a call leaves
-unfoldable pub after : Held → Call → Held
-after h c =
-    record {
-      line = lineAfter (h .line) (h .held) (c .piece) (c .output);
-      held = lengthAfter (h .held) (c .piece) (c .output);
-    }
+unfoldable pub after : Held → List ℕ → Held
+after h piece = record { line = lineAfter (h .line) (h .held) piece; held = heldAfter (h .held) piece }
+
+-- what the calls write, in order
+unfoldable pub writesAll : Held → List (List ℕ) → List ℕ
+writesAll h [] = []
+writesAll h (piece ∷ pieces) = writes (h .line) (h .held) piece ++ writesAll (after h piece) pieces
 
 -- what the calls take of their pieces, in order
-unfoldable pub taken : List Call → List ℕ
-taken [] = []
-taken (c ∷ cs) = takes (c .piece) (c .output) ++ taken cs
+unfoldable pub takesAll : List (List ℕ) → List ℕ
+takesAll [] = []
+takesAll (piece ∷ pieces) = takes piece ++ takesAll pieces
 
--- what the calls write, in order, and behind them the end of the input, with the output that it is lent
-unfoldable pub written : Held → List Call → List ℕ → List ℕ
-written h [] last = lastAnswer (h .line) (h .held) last
-written h (c ∷ cs) last = writes (h .line) (h .held) (c .piece) (c .output) ++ written (after h c) cs last
+-- the line in progress that they leave
+unfoldable pub afterAll : Held → List (List ℕ) → Held
+afterAll h [] = h
+afterAll h (piece ∷ pieces) = afterAll (after h piece) pieces
+
+-- ---- a call of `answer_lines`
+
+-- how many places the output has
+abbrev pub outputPlaces : ℕ
+outputPlaces = 65536
+
+-- The pieces that it lends to `feed` in turn: what is left of its own, while there is a byte, and room in the output for the longest answer. The
+-- first argument bounds how many calls there are; the length of what is left is enough.
+unfoldable pub feedings : ℕ → ℕ → Held → List ℕ → List (List ℕ)
+feedings zero room h rest = []
+feedings (suc k) room h [] = []
+feedings (suc k) room h (b ∷ bs) =
+    if ltb room longestAnswer then [] else
+    (b ∷ bs) ∷ feedings k (room - length (writes (h .line) (h .held) (b ∷ bs))) (after h (b ∷ bs)) (drop (length (takes (b ∷ bs))) (b ∷ bs))
+
+-- what it begins with, and its calls of `feed`
+abbrev pub heldOf : List ℕ → Fed → Held
+heldOf line fed = record { line = line; held = fed .held }
+
+unfoldable pub feedingsOf : List ℕ → Fed → List ℕ → List (List ℕ)
+feedingsOf line fed piece = let rest = drop (fed .used) piece in feedings (length rest) outputPlaces (heldOf line fed) rest
+
+-- what it writes, the places of the line in progress that it leaves, and its numbers
+unfoldable pub answeredText : List ℕ → Fed → List ℕ → List ℕ
+answeredText line fed piece = writesAll (heldOf line fed) (feedingsOf line fed piece)
+
+unfoldable pub answeredLine : List ℕ → Fed → List ℕ → List ℕ
+answeredLine line fed piece = afterAll (heldOf line fed) (feedingsOf line fed piece) .line
+
+unfoldable pub answeredFed : List ℕ → Fed → List ℕ → Fed
+answeredFed line fed piece =
+    record {
+      held = afterAll (heldOf line fed) (feedingsOf line fed piece) .held;
+      used = fed .used + length (takesAll (feedingsOf line fed piece));
+      written = length (answeredText line fed piece);
+    }
+
+-- ---- a caller of `answer_lines`
+
+-- the numbers at the start, and before each piece
+abbrev pub startFed : Fed
+startFed = record { held = 0; used = 0; written = 0 }
+
+abbrev pub nextFed : Fed → Fed
+nextFed fed = record { held = fed .held; used = 0; written = 0 }
+
+-- what it keeps from call to call: at the start, before a piece, and after a call
+pub record Kept : Type 0 where
+  pub line : List ℕ
+  pub fed : Fed
+
+abbrev pub startKept : List ℕ → Kept
+startKept line = record { line = line; fed = startFed }
+
+unfoldable pub nextKept : Kept → Kept
+nextKept s = record { line = s .line; fed = nextFed (s .fed) }
+
+unfoldable pub keptAfter : Kept → List ℕ → Kept
+keptAfter s piece = record { line = answeredLine (s .line) (s .fed) piece; fed = answeredFed (s .line) (s .fed) piece }
+
+-- It calls until its piece is used up: what these calls write, and what it then keeps. The first argument bounds how many calls there are; the
+-- length of the piece is enough.
+unfoldable pub pieceText : ℕ → Kept → List ℕ → List ℕ
+pieceText zero s piece = []
+pieceText (suc k) s piece =
+    if ltb (s .fed .used) (length piece) then answeredText (s .line) (s .fed) piece ++ pieceText k (keptAfter s piece) piece else []
+
+unfoldable pub pieceKept : ℕ → Kept → List ℕ → Kept
+pieceKept zero s piece = s
+pieceKept (suc k) s piece = if ltb (s .fed .used) (length piece) then pieceKept k (keptAfter s piece) piece else s
+
+-- the same for piece after piece, and behind them what `end` writes
+unfoldable pub textOfPieces : Kept → List (List ℕ) → List ℕ
+textOfPieces s [] = lastAnswer (s .line) (s .fed .held)
+textOfPieces s (piece ∷ pieces) =
+    pieceText (length piece) (nextKept s) piece ++ textOfPieces (pieceKept (length piece) (nextKept s) piece) pieces
 
 -- pieces one behind the other
 unfoldable pub joined : List (List ℕ) → List ℕ
 joined [] = []
 joined (piece ∷ pieces) = piece ++ joined pieces
-
--- The calls of a caller that lends a piece, then what the call left of it, and so on until none is left. They are numbered from n on, and
--- call number i is lent `outputs i`, whatever is in it: so one buffer may be lent again, with what the calls before left there. The first
--- argument bounds how many calls there are; the length of the piece is enough.
-unfoldable pub callsOf : ℕ → (ℕ → List ℕ) → ℕ → List ℕ → List Call
-callsOf zero outputs n piece = []
-callsOf (suc k) outputs n [] = []
-callsOf (suc k) outputs n (b ∷ bs) =
-    record { piece = b ∷ bs; output = outputs n } ∷ callsOf k outputs (n + 1) (drop (length (takes (b ∷ bs) (outputs n))) (b ∷ bs))
-
--- and so for piece after piece, numbered on
-unfoldable pub callsOfAll : (ℕ → List ℕ) → ℕ → List (List ℕ) → List Call
-callsOfAll outputs n [] = []
-callsOfAll outputs n (piece ∷ pieces) =
-    let calls = callsOf (length piece) outputs n piece in
-    calls ++ callsOfAll outputs (n + length calls) pieces

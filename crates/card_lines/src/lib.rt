@@ -1,18 +1,22 @@
 // Lines out of an input that comes in pieces of any size, and their answers. Between calls the caller keeps the line in progress, which no
 // newline has ended yet: its bytes in 2,049 places, and how many they are, at the start 0. With 2,049 bytes it is too long, whatever follows.
-use card::ROOM;
+use card::LONGEST_ANSWER;
 ghost use mathlib.Core.Path.{_≡_};
 ghost use Prim.Native.Nat.{_≤_, min};
 ghost use lib.ListN.{length};
-ghost use Rattle.card.specs.Answer.{beginning};
-ghost use Rattle.card_lines.specs.Stream.{firstLine, extendedLength, extended, heldAnswer, fed, lineAfter, outputAfter, lastAnswer};
+ghost use Rattle.basics.specs.Lists.{placed};
+ghost use Rattle.card_lines.specs.Stream.{firstLine, extendedLength, extended, heldAnswer, writes, fed, lineAfter, lastAnswer};
+ghost use Rattle.card_lines.specs.Calls.{startFed, nextFed, answeredFed, answeredLine, answeredText};
 
 // The places of the line in progress: one more than a line may have.
 pub const PLACES: usize = 2049;
 
-// How many bytes the line in progress has then, how many bytes of the piece were taken, and how many bytes of output were written.
+// The places of the output of many lines.
+pub const OUTPUT: usize = 65536;
+
+// How many bytes the line in progress has, how many bytes of the piece are used, and how many bytes of output are written.
 pub struct Fed {
-    pub length: usize,
+    pub held: usize,
     pub used: usize,
     pub written: usize,
 }
@@ -47,59 +51,101 @@ fn extend(line: &mut [u8; 2049], held: usize, bytes: &[u8]) -> usize
 }
 
 // Writes the answer to the line in progress, and a newline.
-fn answer_held(line: &[u8], held: usize, output: &mut [u8]) -> usize
-    requires { ⌜ (length (now line) ≡ 2049) × (1042 ≤ length (now output)) ⌝ }
+fn answer_held(line: &[u8], held: usize, answer: &mut [u8; 1042]) -> usize
+    requires { ⌜ length (now line) ≡ 2049 ⌝ }
     ensures { λ r. ⌜ (r ≡ length (heldAnswer (now (line .entry)) held)) ×
-        (now (output .exit) ≡ beginning (heldAnswer (now (line .entry)) held) (now (output .entry))) ⌝ }
+        (now (answer .exit) ≡ placed (now (answer .entry)) 0 (heldAnswer (now (line .entry)) held)) ⌝ }
 {
     let end = within(held);
-    let written = card::answer(&line[..end], output);
-    output[written] = b'\n';
-    written + 1
+    card::answer(&line[..end], answer)
 }
 
 // Takes the bytes of a piece up to its first newline, or all if it has none. At a newline the answer to the line is written from the
-// output's start on, with a newline, and the next line begins. An output of fewer than 1,042 bytes is too short: nothing is taken.
-pub fn feed(line: &mut [u8; 2049], held: usize, piece: &[u8], output: &mut [u8]) -> Fed
-    ensures { λ r. ⌜ (r ≡ fed (now (line .entry)) held (now (piece .entry)) (now (output .entry))) ×
-        (now (line .exit) ≡ lineAfter (now (line .entry)) held (now (piece .entry)) (now (output .entry))) ×
-        (now (output .exit) ≡ outputAfter (now (line .entry)) held (now (piece .entry)) (now (output .entry))) ⌝ }
+// start of `answer` on, with a newline, and the next line begins.
+pub fn feed(line: &mut [u8; 2049], held: usize, piece: &[u8], answer: &mut [u8; 1042]) -> Fed
+    ensures { λ r. ⌜ (r ≡ fed (now (line .entry)) held (now (piece .entry))) ×
+        (now (line .exit) ≡ lineAfter (now (line .entry)) held (now (piece .entry))) ×
+        (now (answer .exit) ≡ placed (now (answer .entry)) 0 (writes (now (line .entry)) held (now (piece .entry)))) ⌝ }
 {
-    if output.len() < ROOM {
-        return Fed {
-            length: held,
-            used: 0,
-            written: 0,
-        };
-    }
     let end = line_end(piece);
     let total = extend(line, held, &piece[..end]);
     if end == piece.len() {
         return Fed {
-            length: total,
+            held: total,
             used: end,
             written: 0,
         };
     }
-    let written = answer_held(line, total, output);
+    let written = answer_held(line, total, answer);
     Fed {
-        length: 0,
+        held: 0,
         used: end + 1,
         written,
     }
 }
 
-// At the end of the input: writes the answer to the line in progress, if it has a byte, and gives the number of bytes written. An output
-// of fewer than 1,042 bytes is left as it is.
-pub fn end(line: &[u8; 2049], held: usize, output: &mut [u8]) -> usize
-    ensures { λ r. ⌜ (r ≡ length (lastAnswer (now (line .entry)) held (now (output .entry)))) ×
-        (now (output .exit) ≡ beginning (lastAnswer (now (line .entry)) held (now (output .entry))) (now (output .entry))) ⌝ }
+// Before the first piece: no line is in progress.
+pub fn start() -> Fed
+    ensures { λ r. ⌜ r ≡ startFed ⌝ }
 {
+    Fed {
+        held: 0,
+        used: 0,
+        written: 0,
+    }
+}
+
+// Before each piece: none of it is used.
+pub fn next_piece(before: Fed) -> Fed
+    ensures { λ r. ⌜ r ≡ nextFed before ⌝ }
+{
+    Fed {
+        held: before.held,
+        used: 0,
+        written: 0,
+    }
+}
+
+// Answers the lines of a piece from the place `before.used` on, until no byte of it is left, or the output has no room for another answer. The
+// answers stand one behind the other from the output's start on.
+pub fn answer_lines(
+    line: &mut [u8; 2049],
+    before: Fed,
+    piece: &[u8],
+    output: &mut [u8; 65536],
+) -> Fed
+    ensures { λ r. ⌜ (r ≡ answeredFed (now (line .entry)) before (now (piece .entry))) ×
+        (now (line .exit) ≡ answeredLine (now (line .entry)) before (now (piece .entry))) ×
+        (now (output .exit) ≡ placed (now (output .entry)) 0 (answeredText (now (line .entry)) before (now (piece .entry)))) ⌝ }
+{
+    let mut answer = [0u8; 1042];
+    let mut held = before.held;
+    let mut used = before.used;
+    let mut written: usize = 0;
+    while used < piece.len() && OUTPUT - written >= LONGEST_ANSWER {
+        let one = feed(line, held, &piece[used..], &mut answer);
+        let count = one.written;
+        card::text::copy(output, written, &answer[..count]);
+        held = one.held;
+        used += one.used;
+        written += count;
+    }
+    Fed {
+        held,
+        used,
+        written,
+    }
+}
+
+// At the end of the input: writes the answer to the line in progress, if it has a byte, and gives the number of bytes written: 0 exactly if
+// no line is in progress.
+pub fn end(line: &[u8; 2049], before: Fed, answer: &mut [u8; 1042]) -> usize
+    ensures { λ r. ⌜ (r ≡ length (lastAnswer (now (line .entry)) (before .held))) ×
+        (now (answer .exit) ≡ placed (now (answer .entry)) 0 (lastAnswer (now (line .entry)) (before .held))) ⌝ }
+{
+    let held = before.held;
     if held == 0 {
         return 0;
     }
-    if output.len() < ROOM {
-        return 0;
-    }
-    answer_held(line, held, output)
+    answer_held(line, held, answer)
 }

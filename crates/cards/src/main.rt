@@ -1,15 +1,14 @@
 // Answers the card lines of standard input on standard output, a line each, in the order of the input. Document 01, "Cards".
-use card::ROOM;
 use card_lines::Fed;
 use libc::STDERR_FILENO;
 use libc::STDIN_FILENO;
 use libc::STDOUT_FILENO;
-ghost use Prim.Native.Nat.{_-_, _≤_, _<_};
+ghost use Prim.Native.Nat.{_≤_};
 ghost use lib.ListN.{length};
 
-// How many bytes the line in progress has, and whether all output could be written.
+// What the next call goes on with, and whether all output could be written.
 struct State {
-    held: usize,
+    fed: Fed,
     is_written: bool,
 }
 
@@ -24,70 +23,35 @@ fn write(output: &[u8], filled: usize) -> bool
     is_written
 }
 
-// How many bytes of the output are filled, and whether all output could be written.
-struct Filled {
-    count: usize,
-    is_written: bool,
-}
-
-// Makes room for another answer, by writing what there is where there might not be enough.
-fn make_room(output: &[u8], filled: usize) -> Filled
-    requires { ⌜ (filled ≤ length (now output)) × (1042 ≤ length (now output)) ⌝ }
-    ensures { λ r. ⌜ (r .count ≤ length (now (output .entry))) × (1042 ≤ length (now (output .entry)) - r .count) ⌝ }
-{
-    if output.len() - filled >= ROOM {
-        return Filled {
-            count: filled,
-            is_written: true,
-        };
-    }
-    Filled {
-        count: 0,
-        is_written: write(output, filled),
-    }
-}
-
-// Takes a line, or what there is of it, out of a piece.
-fn take_line(line: &mut [u8; 2049], held: usize, piece: &[u8], output: &mut [u8]) -> Fed
-    requires { ⌜ (0 < length (now piece)) × (1042 ≤ length (now output)) ⌝ }
-    ensures { λ r. ⌜ (0 < r .used) × (r .used ≤ length (now (piece .entry))) × (r .written ≤ length (now (output .entry))) ⌝ }
-{
-    card_lines::feed(line, held, piece, output)
-}
-
 // Answers the lines of a piece. Answers are written together, when there is no room for another, and at the end of the piece.
-fn answer_piece(line: &mut [u8; 2049], start: usize, piece: &[u8], output: &mut [u8]) -> State
-    requires { ⌜ 1042 ≤ length (now output) ⌝ }
-{
-    let mut held = start;
-    let mut at: usize = 0;
-    let mut filled: usize = 0;
-    while at < piece.len() {
-        let room = make_room(output, filled);
-        if !room.is_written {
+fn answer_piece(
+    line: &mut [u8; 2049],
+    before: Fed,
+    piece: &[u8],
+    output: &mut [u8; 65536],
+) -> State {
+    let mut fed = card_lines::next_piece(before);
+    while fed.used < piece.len() {
+        let next = card_lines::answer_lines(line, fed, piece, output);
+        fed = next;
+        let written = next.written;
+        if !write(output, written) {
             return State {
-                held,
+                fed,
                 is_written: false,
             };
         }
-        let from = room.count;
-        let fed = take_line(line, held, &piece[at..], &mut output[from..]);
-        held = fed.length;
-        at += fed.used;
-        filled = from + fed.written;
     }
     State {
-        held,
-        is_written: write(output, filled),
+        fed,
+        is_written: true,
     }
 }
 
 // Answers the line that the end of the input ends, if there is one.
-fn answer_last(line: &[u8; 2049], held: usize, output: &mut [u8])
-    requires { ⌜ 1042 ≤ length (now output) ⌝ }
-{
-    let written = card_lines::end(line, held, output);
-    write(output, written);
+fn answer_last(line: &[u8; 2049], fed: Fed, answer: &mut [u8; 1042]) {
+    let written = card_lines::end(line, fed, answer);
+    write(answer, written);
 }
 
 fn say_not_read() {
@@ -97,7 +61,7 @@ fn say_not_read() {
 // A proved loop has to end, and nothing says that the input does. So it counts its turns down, from a number that no run uses up.
 fn main() {
     let mut line = [0u8; 2049];
-    let mut held: usize = 0;
+    let mut fed = card_lines::start();
     let mut input = io::large_buffer();
     let mut output = io::large_buffer();
     let mut turns = u64::MAX;
@@ -112,11 +76,13 @@ fn main() {
         if count == 0 {
             break;
         }
-        let state = answer_piece(&mut line, held, &input[..count], &mut output);
+        let state = answer_piece(&mut line, fed, &input[..count], &mut output);
         if !state.is_written {
             return;
         }
-        held = state.held;
+        let next = state.fed;
+        fed = next;
     }
-    answer_last(&line, held, &mut output);
+    let mut answer = [0u8; 1042];
+    answer_last(&line, fed, &mut answer);
 }

@@ -1,17 +1,17 @@
--- Cards. `cardOf`, `answerInto`, `fed`, `lineAfter`, `outputAfter` and `lastAnswer` are those that the contracts of `card_reader`, `card` and
--- `card_lines` cite; `output` is what document 01 has the card program print for a whole input.
+-- Cards. `cardOf`, `answer`, `withNewline`, `fed`, `lineAfter`, `writes`, `answeredFed`, `answeredLine`, `answeredText`, `startFed`, `nextFed` and
+-- `lastAnswer` are those that the contracts of `card_reader`, `card` and `card_lines` cite; `output` is what document 01 has the card program print
+-- for a whole input.
 use mathlib.Core.Path.{_≡_, refl, sym, ap, ap₂, _∙_}
-use mathlib.Core.Bool.{true}
 use mathlib.Core.List.{List, [], _∷_, _++_}
 use Prim.Native.Nat.{ℕ, _<_}
 use lib.Dec.{lit≤}
 use lib.ListN.{length, take}
 use Rattle.basics.specs.Logic.{if_then_else_, _and_, _or_, same, all, any}
 use Rattle.basics.specs.Digits.{digits}
-use Rattle.basics.specs.Lists.{sum, Below}
+use Rattle.basics.specs.Lists.{sum, Below, placed}
 use Rattle.basics.specs.Numbers.{notCard}
-use Rattle.basics.proofs.Cases.{if-true}
 use Rattle.basics.specs.Refusals.{firstNumber}
+use Rattle.basics.proofs.Placed.{placed-front}
 use Rattle.words.specs.Words.{isAbsorb, lengthOf, phaseOf, wordOf}
 use Rattle.pattern.specs.Pattern.{join, merge, phases, mergedWords}
 use Rattle.pattern.specs.Opening.{opening, tooLong, wordRows, startRows, startNumber}
@@ -23,15 +23,15 @@ use Rattle.card_grammar.specs.Text.{ascii, hexDigit, hex, separatorText, decima
 use Rattle.card_grammar.specs.Grammar.{CardOf, card, none, NoCard}
 use Rattle.card_grammar.specs.Card.{cardOf}
 use Rattle.card_grammar.proofs.Laws as grammar
-use Rattle.card.specs.Answer.{okText, noText, cardAnswer, answer, hasRoom, answerInto, beginning}
+use Rattle.card.specs.Answer.{okText, noText, cardAnswer, answer, withNewline}
 use Rattle.card.proofs.Laws.{answer-card, answer-none, answer-long}
 use Rattle.card.proofs.CardAnswer.{accepted-answer}
-use Rattle.card.proofs.Placed.{beginning-front}
-use Rattle.card_lines.specs.Lines.{newline, before, lines, answers, output}
-use Rattle.card_lines.specs.Stream.{writes, takes, fed, outputAfter, lastAnswer}
-use Rattle.card_lines.specs.Calls.{Call, taken, written, joined, callsOfAll}
-use Rattle.card_lines.proofs.Progress.{takes-some}
-use Rattle.card_lines.proofs.AllTaken.{all-taken, written-bytes, used-bytes}
+use Rattle.card_lines.specs.Lines.{before, lines, answers, output}
+use Rattle.card_lines.specs.Stream.{writes, takes, fed, lastAnswer}
+use Rattle.card_lines.specs.Calls.{writesAll, takesAll, afterAll, heldOf, answeredText, answeredFed, startFed, startKept, textOfPieces, joined}
+use Rattle.card_lines.specs.declared.Fed.{Fed}
+use Rattle.card_lines.proofs.Progress.{takes-some, takes-first, last-none, last-some}
+use Rattle.card_lines.proofs.Callers.{answered-some, pieces-output}
 use Rattle.card_lines.proofs.Cutting.{written-output, start-holds}
 use Rattle.claims.specs.Sessions.{count-of-session}
 
@@ -69,54 +69,62 @@ answer-is-of-session a line c =
     ∙ accepted-answer (a .opening) (start-accepted (a .opening) (a .opens))
     ∙ ap (okText (tagOf a)) (sym (count-of-session a))
 
--- The bytes that a call of `feed` wrote and took, by the numbers of its answer, are `writes` and `takes`.
-pub written-and-used : (line : List ℕ) (n : ℕ) (piece buffer : List ℕ)
-    → (take (fed line n piece buffer .written) (outputAfter line n piece buffer) ≡ writes line n piece buffer)
-    × (take (fed line n piece buffer .used) piece ≡ takes piece buffer)
-written-and-used line n piece buffer = (written-bytes line n piece buffer, used-bytes line n piece buffer)
-
--- The same for the other two that write: the first bytes of the buffer, as many as the call's answer says, are `lastAnswer` after a call of
--- `end`,
-pub written-at-end : (line : List ℕ) (n : ℕ) (buffer : List ℕ)
-    → take (length (lastAnswer line n buffer)) (beginning (lastAnswer line n buffer) buffer) ≡ lastAnswer line n buffer
-written-at-end line n buffer = beginning-front (lastAnswer line n buffer) buffer
-
--- and `answerInto` after a call of `card::answer`, which is the line's answer where the buffer has room.
+-- The bytes that a call wrote are the first ones of the array that it was lent, as many as the number in its answer says. Of `card::answer` they
+-- are the answer and a newline;
 pub written-answer : (line buffer : List ℕ)
-    → (take (length (answerInto line buffer)) (beginning (answerInto line buffer) buffer) ≡ answerInto line buffer)
-    × (hasRoom buffer ≡ true → answerInto line buffer ≡ answer line)
-unfolding answerInto
-written-answer line buffer = (beginning-front (answerInto line buffer) buffer, λ room. if-true _ _ _ room)
+    → take (length (withNewline (answer line))) (placed buffer 0 (withNewline (answer line))) ≡ withNewline (answer line)
+written-answer line buffer = placed-front buffer (withNewline (answer line))
 
--- However an input is cut: calls of `feed` in turn, each with any piece and any output, and then `end`, with an output that has room, write
--- the output of what the calls took. `line` is the 2,049 places for the line in progress, which may hold anything at the start.
-pub output-however-cut : (line : List ℕ) (cs : List Call) (last : List ℕ) → length line ≡ 2049 → hasRoom last ≡ true
-    → written (record { line = line; held = 0 }) cs last ≡ output (taken cs)
-output-however-cut line cs last long room = written-output cs (record { line = line; held = 0 }) [] last (start-holds line long) room
+-- of `feed` they are `writes`, and the bytes of the piece that it took are `takes`;
+pub written-and-used : (line : List ℕ) (n : ℕ) (piece buffer : List ℕ)
+    → (take (fed line n piece .written) (placed buffer 0 (writes line n piece)) ≡ writes line n piece)
+    × (take (fed line n piece .used) piece ≡ takes piece)
+unfolding fed
+written-and-used line n piece buffer = (placed-front buffer (writes line n piece), sym (takes-first piece))
 
--- A call takes at least one byte, if there is one and the output has room.
-pub something-is-taken : (piece buffer : List ℕ) → hasRoom buffer ≡ true → 0 < length piece → 0 < length (takes piece buffer)
+-- of `answer_lines` they are `answeredText`;
+pub written-answers : (line : List ℕ) (before : Fed) (piece buffer : List ℕ)
+    → take (answeredFed line before piece .written) (placed buffer 0 (answeredText line before piece)) ≡ answeredText line before piece
+unfolding answeredFed
+written-answers line before piece buffer = placed-front buffer (answeredText line before piece)
+
+-- of `end` they are `lastAnswer`,
+pub written-at-end : (line : List ℕ) (n : ℕ) (buffer : List ℕ)
+    → take (length (lastAnswer line n)) (placed buffer 0 (lastAnswer line n)) ≡ lastAnswer line n
+written-at-end line n buffer = placed-front buffer (lastAnswer line n)
+
+-- and it answers 0 exactly if no line is in progress.
+pub nothing-at-end : (line : List ℕ) (n : ℕ) → (n ≡ 0 → length (lastAnswer line n) ≡ 0) × (length (lastAnswer line n) ≡ 0 → n ≡ 0)
+nothing-at-end line n = (last-none line n, last-some line n)
+
+-- However an input is cut: calls of `feed` in turn, each with any piece, and then `end`, write the output of what the calls took. `line` is the
+-- 2,049 places for the line in progress, which may hold anything at the start.
+pub output-however-cut : (line : List ℕ) (pieces : List (List ℕ)) → length line ≡ 2049
+    → let left = afterAll (heldOf line startFed) pieces in
+    writesAll (heldOf line startFed) pieces ++ lastAnswer (left .line) (left .held) ≡ output (takesAll pieces)
+output-however-cut line pieces long = written-output pieces (heldOf line startFed) [] (start-holds line long)
+
+-- A call takes at least one byte, if there is one: of `feed`,
+pub something-is-taken : (piece : List ℕ) → 0 < length piece → 0 < length (takes piece)
 something-is-taken = takes-some
 
--- So a caller that lends what is left of each piece has all of its input answered, whatever the pieces, and whatever is in the outputs: call
--- number n is lent `outputs n`, and the end of the input `last`;
-pub output-of-pieces : (line : List ℕ) (outputs : ℕ → List ℕ) (last : List ℕ) (pieces : List (List ℕ)) → length line ≡ 2049
-    → ((n : ℕ) → hasRoom (outputs n) ≡ true) → hasRoom last ≡ true
-    → written (record { line = line; held = 0 }) (callsOfAll outputs 0 pieces) last ≡ output (joined pieces)
-output-of-pieces line outputs last pieces long room roomLast =
-    output-however-cut line (callsOfAll outputs 0 pieces) last long roomLast ∙ ap output (all-taken outputs 0 pieces room)
+-- and of `answer_lines`.
+pub something-is-answered : (line : List ℕ) (before : Fed) (piece : List ℕ)
+    → before .used < length piece → before .used < answeredFed line before piece .used
+something-is-answered = answered-some
 
--- and two ways of cutting the same input into pieces give the same output, each with outputs of its own.
-pub two-ways-of-cutting : (line line′ : List ℕ) (outputs outputs′ : ℕ → List ℕ) (last last′ : List ℕ) (pieces pieces′ : List (List ℕ))
-    → length line ≡ 2049 → ((n : ℕ) → hasRoom (outputs n) ≡ true) → hasRoom last ≡ true
-    → length line′ ≡ 2049 → ((n : ℕ) → hasRoom (outputs′ n) ≡ true) → hasRoom last′ ≡ true
+-- So a caller that lends each piece to `answer_lines` until it is used up, and then calls `end`, has all of its input answered, whatever the
+-- pieces;
+pub output-of-pieces : (line : List ℕ) (pieces : List (List ℕ)) → length line ≡ 2049
+    → textOfPieces (startKept line) pieces ≡ output (joined pieces)
+output-of-pieces line pieces long = pieces-output pieces (startKept line) [] (start-holds line long)
+
+-- and two ways of cutting the same input into pieces give the same output.
+pub two-ways-of-cutting : (line line′ : List ℕ) (pieces pieces′ : List (List ℕ)) → length line ≡ 2049 → length line′ ≡ 2049
     → joined pieces ≡ joined pieces′
-    → written (record { line = line; held = 0 }) (callsOfAll outputs 0 pieces) last
-    ≡ written (record { line = line′; held = 0 }) (callsOfAll outputs′ 0 pieces′) last′
-two-ways-of-cutting line line′ outputs outputs′ last last′ pieces pieces′ long room roomLast long′ room′ roomLast′ e =
-    output-of-pieces line outputs last pieces long room roomLast
-    ∙ ap output e
-    ∙ sym (output-of-pieces line′ outputs′ last′ pieces′ long′ room′ roomLast′)
+    → textOfPieces (startKept line) pieces ≡ textOfPieces (startKept line′) pieces′
+two-ways-of-cutting line line′ pieces pieces′ long long′ e =
+    output-of-pieces line pieces long ∙ ap output e ∙ sym (output-of-pieces line′ pieces′ long′)
 
 -- document 01's three lines
 line1 : List ℕ
@@ -154,13 +162,27 @@ unfolding cardAnswer noText startNumber startRows wordRows firstNumber isAbsorb 
 answer3 = answer-to-card _ _ _ card3 ∙ refl
 
 three-lines : (a b c : List ℕ) → answer line1 ≡ a → answer line2 ≡ b → answer line3 ≡ c
-    → answers (line1 ∷ line2 ∷ line3 ∷ []) ≡ a ++ (newline ∷ (b ++ (newline ∷ (c ++ (newline ∷ [])))))
+    → answers (line1 ∷ line2 ∷ line3 ∷ []) ≡ withNewline a ++ (withNewline b ++ (withNewline c ++ []))
 unfolding answers
 three-lines a b c e f g =
-    ap₂ (λ (x y : List ℕ). x ++ (newline ∷ y)) e (ap₂ (λ (x y : List ℕ). x ++ (newline ∷ y)) f (ap (λ (x : List ℕ). x ++ (newline ∷ [])) g))
+    ap₂ (λ (x y : List ℕ). withNewline x ++ y) e
+    (ap₂ (λ (x y : List ℕ). withNewline x ++ y) f (ap (λ (x : List ℕ). withNewline x ++ []) g))
 
 -- "Whole input and output"
 pub whole-example : output (ascii "(card (domain 4142) (calls (a 3) (a 3) (s 3)))\n(card (domain) (calls (s 1)))\n(card (domain) (calls (a 0)))\n")
     ≡ ascii "(ok 80000006000000034142 1)\n(no 3)\n(no 2)\n"
-unfolding output lines before line1 line2 line3 if_then_else_
+unfolding output lines before line1 line2 line3 if_then_else_ withNewline
 whole-example = three-lines _ _ _ answer1 answer2 answer3
+
+-- the same input in pieces, the first cut inside its second line, the second empty, the third cut before its last newline
+pub example-in-pieces : (line : List ℕ) → length line ≡ 2049
+    → textOfPieces
+    (startKept line)
+    (ascii "(card (domain 4142) (calls (a 3) (a 3) (s 3)))\n(card (dom"
+    ∷ []
+    ∷ ascii "ain) (calls (s 1)))\n(card (domain) (calls (a 0)))"
+    ∷ ascii "\n"
+    ∷ [])
+    ≡ ascii "(ok 80000006000000034142 1)\n(no 3)\n(no 2)\n"
+unfolding joined
+example-in-pieces line long = output-of-pieces line _ long ∙ whole-example

@@ -1,18 +1,18 @@
 -- `card::answer_card` meets its contract.
 -- Assumes nothing.
 use mathlib.Core.Path.{_≡_, sym, ap, _∙_}
-use mathlib.Core.List.{List}
-use Prim.Native.Nat.{ℕ, _≤_}
+use Prim.Native.Nat.{_≤_}
 use native.Mathlib.Omega.{arith}
 use lib.ListN.{length, take}
 use lib.Seq.{length-take-le}
+use Rattle.basics.specs.Lists.{placed}
 use Rattle.basics.specs.Numbers.{accepted}
 use Rattle.pattern.specs.Opening.{Opening, opening, startNumber}
 use Rattle.pattern.proofs.Checked.{number-checked, started, count-fits, count-inside}
 use Rattle.tag.specs.TagString.{tagString}
 use Rattle.tag.proofs.Writing.{tag-string-short}
 use Rattle.tag.proofs.CheckedString.{string-inside, string-written}
-use Rattle.card.specs.Answer.{okText, beginning}
+use Rattle.card.specs.Answer.{okText, withNewline}
 use Rattle.card.proofs.Bounds.{few-permutations, small-number}
 use Rattle.card.proofs.CardAnswer.{refuses, counts, answers}
 use borrow.Author.Needs.{needs}
@@ -21,7 +21,7 @@ use Rattle.card.proofs.answer_card.Tie as tie
 
 -- the opening that is checked
 abbrev opened : tie.After-check → Opening
-opened c = let args = c .before .before .before .before .args in opening (args .words .now) (args .separator .now)
+opened c = let args = c .before .before .before .args in opening (args .words .now) (args .separator .now)
 
 -- what is known where it is accepted
 starts : (c : tie.Else1) → startNumber (opened (c .before .before)) ≡ accepted
@@ -49,15 +49,14 @@ put-no-requires c κs =
     let at-check = c .before .before .before in
     let number = number-checked (opened at-check) _ (at-check .check .ensures) in
     let small = small-number (opened at-check) in
-    (search needs, omega arith)
+    omega arith
 
 returns : tie.Need-returns
 returns c =
-    let at-no = c .before .before in
-    let at-check = at-no .before .before .before .before in
-    let buffer = at-check .before .before .before .before .args .buffer .now in
-    let text = sym (refuses (opened at-check) _ (at-check .check .ensures) (at-no .before .before .if1 .taken)) in
-    (at-no .put-no .ensures .0 ∙ ap length text, at-no .put-no .ensures .1 ∙ ap (λ (l : List ℕ). beginning l buffer) text)
+    let at-check = c .before .before .before .before in
+    let buffer = at-check .before .before .before .args .buffer .now in
+    let text = ap withNewline (sym (refuses (opened at-check) _ (at-check .check .ensures) (c .before .before .if1 .taken))) in
+    (c .put-no .ensures .0 ∙ ap length text, c .put-no .ensures .1 ∙ ap (placed buffer 0) text)
 
 array-share-prefix-list : tie.Need-array-share-prefix-list
 array-share-prefix-list c = count-in (c .before)
@@ -93,20 +92,20 @@ put-ok-requires c κs =
     let short = tag-string-short o (starts at-accepted) in
     let few = few-permutations o (starts at-accepted) in
     let counted = at-count .permutations-at .ensures ∙ counts o _ (at-check .check .ensures) (at-accepted .if1 .left) in
-    (search needs, omega (arith, ap length (string-read at-string)), omega arith)
+    (omega (arith, ap length (string-read at-string)), omega arith)
 
 returns-2 : tie.Need-returns-2
 returns-2 c =
-    let at-ok = c .before .before in
-    let at-count = at-ok .before .before .before in
+    let at-count = c .before .before .before in
     let at-string = at-count .before .before .before in
     let at-accepted = at-string .before .before .before .before in
     let at-check = at-accepted .before .before in
-    let buffer = at-check .before .before .before .before .args .buffer .now in
+    let buffer = at-check .before .before .before .args .buffer .now in
     let text =
-    ap (okText _) (at-count .permutations-at .ensures)
-    ∙ answers (opened at-check) _ (at-check .check .ensures) (at-accepted .if1 .left) _ (string-read at-string) in
-    (at-ok .put-ok .ensures .0 ∙ ap length text, at-ok .put-ok .ensures .1 ∙ ap (λ (l : List ℕ). beginning l buffer) text)
+    ap withNewline
+    (ap (okText _) (at-count .permutations-at .ensures)
+    ∙ answers (opened at-check) _ (at-check .check .ensures) (at-accepted .if1 .left) _ (string-read at-string)) in
+    (c .put-ok .ensures .0 ∙ ap length text, c .put-ok .ensures .1 ∙ ap (placed buffer 0) text)
 
 pub answer-card-spec : {M : Type 1} → statement M
 answer-card-spec =
@@ -114,7 +113,6 @@ answer-card-spec =
     (tie.spec
     (λ c κs. search needs)
     put-no-requires
-    (λ c. search needs)
     returns
     array-share-prefix-list
     slice-aggregate-write-string
@@ -127,5 +125,4 @@ answer-card-spec =
     array-share-prefix-string
     slice-aggregate-put-ok
     put-ok-requires
-    (λ c. search needs)
     returns-2)

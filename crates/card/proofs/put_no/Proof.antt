@@ -8,27 +8,25 @@ use Rattle.card.proofs.put_no.Tie as tie
 
 put-decimal-requires : tie.Need-put-decimal-requires
 put-decimal-requires c κs =
-    let at-entry = c .before .before .before .before .before .before .before in
-    let few = number-digits (at-entry .args .number) (at-entry .pre .1) in
+    let at-entry = c .before .before .before .before in
+    let few = number-digits (at-entry .args .number) (at-entry .pre) in
     search needs
 
 add-result : tie.Need-add-result
 add-result c =
-    let at-decimal = c .before .before .before .before .before .before .before in
-    let at-entry = at-decimal .before .before .before .before .before .before .before .before in
-    let few = number-digits (at-entry .args .number) (at-entry .pre .1) in
+    let at-entry = c .before .before .before .before .before .before .before .before in
+    let few = number-digits (at-entry .args .number) (at-entry .pre) in
     search needs
 
 returns : tie.Need-returns
 returns c =
-    let at-end = c .before .before in
-    let at-decimal = at-end .before .before .before .before .before in
-    let at-front = at-decimal .before .before .before .before in
-    let at-entry = at-front .before .before .before .before in
-    no-written _ _ _ _ _ _ (at-entry .pre .0) (at-entry .pre .1)
+    let at-decimal = c .before .before .before in
+    let at-front = at-decimal .before .before in
+    let at-entry = at-front .before .before .before in
+    no-written _ _ _ _ _ _ (search needs) (at-entry .pre)
     (at-front .copy .ensures .1)
     (at-decimal .put-decimal .ensures)
-    (at-end .copy2 .ensures .1)
+    (c .copy2 .ensures .1)
 
 pub put-no-spec : {M : Type 1} → statement M
 put-no-spec =
@@ -40,5 +38,4 @@ put-no-spec =
     (λ c. search needs)
     (λ c κs. search needs)
     add-result
-    (λ c. search needs)
     returns)

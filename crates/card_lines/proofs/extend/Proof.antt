@@ -5,7 +5,7 @@ use mathlib.Core.List.{List}
 use Prim.Native.Nat.{ℕ, _+_, _-_}
 use denote.Ref.{now}
 use lib.ListN.{length, take, length-take}
-use Rattle.card.specs.Answer.{placed}
+use Rattle.basics.specs.Lists.{placed}
 use Rattle.card_lines.proofs.HeldLine.{within-places, within-length}
 use borrow.Author.Needs.{needs}
 use Rattle.card_lines.proofs.extend.Statement.{statement}

@@ -7,10 +7,10 @@ use Rattle.cards.proofs.main.Statement.{statement}
 use Rattle.cards.proofs.main.Tie as tie
 
 abbrev Inv-loop : tie.InvT-loop
-Inv-loop line₀ held₀ input₀ output₀ turns₀ line held input output turns = (65536 ≡ length input) × (65536 ≡ length output)
+Inv-loop line₀ fed₀ input₀ output₀ turns₀ line fed input output turns = 65536 ≡ length input
 
 abbrev μ-loop : tie.MeasureT-loop
-μ-loop line₀ held₀ input₀ output₀ turns₀ line held input output turns = turns
+μ-loop line₀ fed₀ input₀ output₀ turns₀ line fed input output turns = turns
 
 pub main-spec : {M : Type 1} → statement M
 main-spec =
@@ -20,19 +20,18 @@ main-spec =
     μ-loop
     (λ c κs. search needs)
     (λ c κs. search needs)
-    (λ c. search needs)
-    (λ c. search needs)
-    (λ c. search needs)
-    (λ c κs. search needs)
-    (λ c κs. search needs)
-    (λ c. search needs)
-    (λ c. search needs)
     (λ c κs. search needs)
     (λ c. search needs)
     (λ c. search needs)
     (λ c. search needs)
     (λ c κs. search needs)
+    (λ c κs. search needs)
     (λ c. search needs)
+    (λ c. search needs)
+    (λ c κs. search needs)
+    (λ c. search needs)
+    (λ c. search needs)
+    (λ c κs. search needs)
     (λ c. search needs)
     (λ c. search needs)
     (λ c. search needs)

@@ -7,8 +7,8 @@ use native.Mathlib.Omega.{arith}
 use lib.ListN.{length, take, set, length-set}
 use lib.Seq.{take-all}
 use Rattle.card_grammar.specs.Text.{hex}
-use Rattle.card.specs.Answer.{placed}
-use Rattle.card.proofs.Placed.{placed-none, placed-length}
+use Rattle.basics.specs.Lists.{placed}
+use Rattle.basics.proofs.Placed.{placed-none, placed-length}
 use Rattle.card.proofs.Bounds.{length-hex}
 use Rattle.card.proofs.Digits.{length-hex-front, next-byte}
 use borrow.Author.Needs.{needs}

@@ -1,0 +1,115 @@
+-- A caller of `answer_lines`: each call takes something, and all calls together print the output of the whole input.
+-- Assumes nothing.
+use mathlib.Core.Path.{_≡_, sym, ap, _∙_}
+use mathlib.Core.Bool.{true, false}
+use mathlib.Core.List.{List, [], _∷_, _++_, append-nil}
+use Prim.Native.Nat.{ℕ, zero, suc, _+_, _≤_, _<_}
+use native.Mathlib.Omega.{arith}
+use borrow.Author.Tests.{ltb-true, ltb-false}
+use lib.Dec.{ltb}
+use lib.ListN.{length, drop, length-append, length-drop, drop-of-length-le}
+use lib.Seq.{drop-drop}
+use Rattle.basics.proofs.Cases.{cases, if-true, if-false}
+use Rattle.card_lines.specs.Lines.{output}
+use Rattle.card_lines.specs.Stream.{takes}
+use Rattle.card_lines.specs.Calls.{after, takesAll, outputPlaces, feedings, heldOf, feedingsOf, answeredText, answeredLine, answeredFed}
+use Rattle.card_lines.specs.Calls.{Kept, nextKept, keptAfter, pieceText, pieceKept, textOfPieces, joined}
+use Rattle.card_lines.specs.declared.Fed.{Fed}
+use Rattle.card_lines.proofs.Progress.{takes-some}
+use Rattle.card_lines.proofs.Cutting.{Holds, Continues, stays, goes-on, all-continue, last-line}
+use Rattle.card_lines.proofs.Feedings.{feedings-step, feedings-front, feedings-fit, restAfter, roomAfter}
+
+-- ---- one call
+
+module _ (line : List ℕ) (fed : Fed) (piece : List ℕ) where
+  abbrev taken : List ℕ
+  taken = takesAll (feedingsOf line fed piece)
+
+  -- its front, and what is left
+  taken-front : taken ++ drop (length taken) (drop (fed .used) piece) ≡ drop (fed .used) piece
+  unfolding feedingsOf
+  taken-front = let rest = drop (fed .used) piece in feedings-front (length rest) outputPlaces (heldOf line fed) rest
+
+  taken-some : fed .used < length piece → 0 < length taken
+  unfolding feedingsOf takesAll
+  taken-some h =
+      let rest = drop (fed .used) piece in
+      let some : 0 < length rest = omega (arith, length-drop (fed .used) piece) in
+      let later = takesAll (feedings (length (restAfter rest)) (roomAfter outputPlaces (heldOf line fed) rest) (after (heldOf line fed) rest) (restAfter rest)) in
+      rw (feedings-step outputPlaces (heldOf line fed) rest some (omega arith)) (omega (arith, length-append (takes rest) later, takes-some rest some))
+
+  pub answered-some : fed .used < length piece → fed .used < answeredFed line fed piece .used
+  unfolding answeredFed
+  answered-some h = omega (arith, taken-some h)
+
+  pub answered-fits : answeredFed line fed piece .written ≤ outputPlaces
+  unfolding answeredFed answeredText feedingsOf
+  answered-fits = let rest = drop (fed .used) piece in feedings-fit (length rest) outputPlaces (heldOf line fed) rest
+
+-- the calls of `feed` behind it, as one step
+pub answered-continues : (s : Kept) (piece q : List ℕ) → Holds (heldOf (s .line) (s .fed)) q
+    → Continues q (answeredText (s .line) (s .fed) piece) (taken (s .line) (s .fed) piece) (heldOf (keptAfter s piece .line) (keptAfter s piece .fed))
+unfolding answeredText keptAfter answeredLine answeredFed
+answered-continues s piece q holds = all-continue (feedingsOf (s .line) (s .fed) piece) (heldOf (s .line) (s .fed)) q holds
+
+-- ---- a piece
+
+module _ (k : ℕ) (s : Kept) (piece : List ℕ) where
+  module _ (e : ltb (s .fed .used) (length piece) ≡ true) where
+    text-more : pieceText (suc k) s piece ≡ answeredText (s .line) (s .fed) piece ++ pieceText k (keptAfter s piece) piece
+    unfolding pieceText
+    text-more = if-true _ _ _ e
+
+    kept-more : pieceKept (suc k) s piece ≡ pieceKept k (keptAfter s piece) piece
+    unfolding pieceKept
+    kept-more = if-true _ _ _ e
+
+    -- what the calls behind the first one have left to take
+    left-more : taken (s .line) (s .fed) piece ++ drop (keptAfter s piece .fed .used) piece ≡ drop (s .fed .used) piece
+    unfolding keptAfter answeredFed
+    left-more =
+        let front = taken (s .line) (s .fed) piece in
+        ap (λ (l : List ℕ). front ++ l) (sym (drop-drop (length front) (s .fed .used) piece)) ∙ taken-front (s .line) (s .fed) piece
+
+    fewer : length piece ≤ suc k + s .fed .used → length piece ≤ k + keptAfter s piece .fed .used
+    unfolding keptAfter
+    fewer h = omega (arith, answered-some (s .line) (s .fed) piece (ltb-true _ _ e))
+
+  module _ (e : ltb (s .fed .used) (length piece) ≡ false) where
+    text-done : pieceText (suc k) s piece ≡ []
+    unfolding pieceText
+    text-done = if-false _ _ _ e
+
+    kept-done : pieceKept (suc k) s piece ≡ s
+    unfolding pieceKept
+    kept-done = if-false _ _ _ e
+
+pub piece-continues : (k : ℕ) (s : Kept) (piece q : List ℕ) → Holds (heldOf (s .line) (s .fed)) q → length piece ≤ k + s .fed .used
+    → Continues q (pieceText k s piece) (drop (s .fed .used) piece) (heldOf (pieceKept k s piece .line) (pieceKept k s piece .fed))
+unfolding pieceText pieceKept
+piece-continues zero s piece q holds h = rw (drop-of-length-le piece {i = s .fed .used} (omega arith)) (stays _ q holds)
+piece-continues (suc k) s piece q holds h =
+    cases (ltb (s .fed .used) (length piece))
+    (λ e.
+    let next = keptAfter s piece in
+    rw (text-more k s piece e, kept-more k s piece e, sym (left-more k s piece e))
+    (goes-on q _ _ _ _ _ _ (answered-continues s piece q holds)
+    λ line held. piece-continues k next piece line held (fewer k s piece e h)))
+    λ e. let all = ltb-false _ _ e in
+    rw (text-done k s piece e, kept-done k s piece e, drop-of-length-le piece {i = s .fed .used} all) (stays _ q holds)
+
+-- ---- piece after piece
+
+next-holds : (s : Kept) (q : List ℕ) → Holds (heldOf (s .line) (s .fed)) q → Holds (heldOf (nextKept s .line) (nextKept s .fed)) q
+unfolding nextKept
+next-holds s q holds = holds
+
+pub pieces-output : (pieces : List (List ℕ)) (s : Kept) (q : List ℕ) → Holds (heldOf (s .line) (s .fed)) q
+    → textOfPieces s pieces ≡ output (q ++ joined pieces)
+unfolding textOfPieces joined nextKept
+pieces-output [] s q holds = last-line (heldOf (s .line) (s .fed)) q holds ∙ ap output (sym (append-nil q))
+pieces-output (piece ∷ pieces) s q holds =
+    let one = piece-continues (length piece) (nextKept s) piece q (next-holds s q holds) (omega arith) in
+    let kept = pieceKept (length piece) (nextKept s) piece in
+    ap (λ (l : List ℕ). pieceText (length piece) (nextKept s) piece ++ l) (pieces-output pieces kept (one .line) (one .holds))
+    ∙ sym (one .prints (joined pieces))
