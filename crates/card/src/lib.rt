@@ -19,9 +19,9 @@ fn put_no(buffer: &mut [u8; 1042], number: u32) -> usize
         (now (buffer .exit) ≡ placed (now (buffer .entry)) 0 (withNewline (noText number))) ⌝ }
 {
     text::copy(buffer, 0, b"(no ");
-    let end = text::put_decimal(buffer, 4, number as u64);
-    text::copy(buffer, end, b")\n");
-    end + 2
+    let number_end = text::put_decimal(buffer, 4, number as u64);
+    text::copy(buffer, number_end, b")\n");
+    number_end + 2
 }
 
 // Writes "(ok TAG COUNT)" for a tag string, and a newline.
@@ -33,9 +33,9 @@ fn put_ok(buffer: &mut [u8; 1042], string: &[u8], permutations: u64) -> usize
     text::copy(buffer, 0, b"(ok ");
     let tag_end = text::put_hex(buffer, 4, string);
     text::copy(buffer, tag_end, b" ");
-    let end = text::put_decimal(buffer, tag_end + 1, permutations);
-    text::copy(buffer, end, b")\n");
-    end + 2
+    let count_end = text::put_decimal(buffer, tag_end + 1, permutations);
+    text::copy(buffer, count_end, b")\n");
+    count_end + 2
 }
 
 // Writes the answer to a card of these words and this separator, and a newline.

@@ -12,7 +12,7 @@ use lib.Seq.{drop-drop}
 use Rattle.basics.proofs.Cases.{cases, if-true, if-false}
 use Rattle.card_lines.specs.Lines.{output}
 use Rattle.card_lines.specs.Stream.{takes}
-use Rattle.card_lines.specs.Calls.{after, takesAll, outputPlaces, feedings, heldOf, feedingsOf, answeredText, answeredLine, answeredFed}
+use Rattle.card_lines.specs.Calls.{leaves, takesAll, outputPlaces, feedings, heldOf, feedingsOf, answeredText, answeredLine, answeredFed}
 use Rattle.card_lines.specs.Calls.{Kept, nextKept, keptAfter, pieceText, pieceKept, textOfPieces, joined}
 use Rattle.card_lines.specs.declared.Fed.{Fed}
 use Rattle.card_lines.proofs.Progress.{takes-some}
@@ -21,42 +21,42 @@ use Rattle.card_lines.proofs.Feedings.{feedings-step, feedings-front, f
 
 -- ---- one call
 
-module _ (line : List ℕ) (fed : Fed) (piece : List ℕ) where
+module _ (line : List ℕ) (last : Fed) (piece : List ℕ) where
   abbrev taken : List ℕ
-  taken = takesAll (feedingsOf line fed piece)
+  taken = takesAll (feedingsOf line last piece)
 
   -- its front, and what is left
-  taken-front : taken ++ drop (length taken) (drop (fed .used) piece) ≡ drop (fed .used) piece
+  taken-front : taken ++ drop (length taken) (drop (last .used) piece) ≡ drop (last .used) piece
   unfolding feedingsOf
-  taken-front = let rest = drop (fed .used) piece in feedings-front (length rest) outputPlaces (heldOf line fed) rest
+  taken-front = let rest = drop (last .used) piece in feedings-front (length rest) outputPlaces (heldOf line last) rest
 
-  taken-some : fed .used < length piece → 0 < length taken
+  taken-some : last .used < length piece → 0 < length taken
   unfolding feedingsOf takesAll
   taken-some h =
-      let rest = drop (fed .used) piece in
-      let some : 0 < length rest = omega (arith, length-drop (fed .used) piece) in
-      let later = takesAll (feedings (length (restAfter rest)) (roomAfter outputPlaces (heldOf line fed) rest) (after (heldOf line fed) rest) (restAfter rest)) in
-      rw (feedings-step outputPlaces (heldOf line fed) rest some (omega arith)) (omega (arith, length-append (takes rest) later, takes-some rest some))
+      let rest = drop (last .used) piece in
+      let some : 0 < length rest = omega (arith, length-drop (last .used) piece) in
+      let later = takesAll (feedings (length (restAfter rest)) (roomAfter outputPlaces (heldOf line last) rest) (leaves (heldOf line last) rest) (restAfter rest)) in
+      rw (feedings-step outputPlaces (heldOf line last) rest some (omega arith)) (omega (arith, length-append (takes rest) later, takes-some rest some))
 
-  pub answered-some : fed .used < length piece → fed .used < answeredFed line fed piece .used
+  pub answered-some : last .used < length piece → last .used < answeredFed line last piece .used
   unfolding answeredFed
   answered-some h = omega (arith, taken-some h)
 
-  pub answered-fits : answeredFed line fed piece .written ≤ outputPlaces
+  pub answered-fits : answeredFed line last piece .written ≤ outputPlaces
   unfolding answeredFed answeredText feedingsOf
-  answered-fits = let rest = drop (fed .used) piece in feedings-fit (length rest) outputPlaces (heldOf line fed) rest
+  answered-fits = let rest = drop (last .used) piece in feedings-fit (length rest) outputPlaces (heldOf line last) rest
 
 -- the calls of `feed` behind it, as one step
-pub answered-continues : (s : Kept) (piece q : List ℕ) → Holds (heldOf (s .line) (s .fed)) q
-    → Continues q (answeredText (s .line) (s .fed) piece) (taken (s .line) (s .fed) piece) (heldOf (keptAfter s piece .line) (keptAfter s piece .fed))
+pub answered-continues : (s : Kept) (piece q : List ℕ) → Holds (heldOf (s .line) (s .last)) q
+    → Continues q (answeredText (s .line) (s .last) piece) (taken (s .line) (s .last) piece) (heldOf (keptAfter s piece .line) (keptAfter s piece .last))
 unfolding answeredText keptAfter answeredLine answeredFed
-answered-continues s piece q holds = all-continue (feedingsOf (s .line) (s .fed) piece) (heldOf (s .line) (s .fed)) q holds
+answered-continues s piece q holds = all-continue (feedingsOf (s .line) (s .last) piece) (heldOf (s .line) (s .last)) q holds
 
 -- ---- a piece
 
 module _ (k : ℕ) (s : Kept) (piece : List ℕ) where
-  module _ (e : ltb (s .fed .used) (length piece) ≡ true) where
-    text-more : pieceText (suc k) s piece ≡ answeredText (s .line) (s .fed) piece ++ pieceText k (keptAfter s piece) piece
+  module _ (e : ltb (s .last .used) (length piece) ≡ true) where
+    text-more : pieceText (suc k) s piece ≡ answeredText (s .line) (s .last) piece ++ pieceText k (keptAfter s piece) piece
     unfolding pieceText
     text-more = if-true _ _ _ e
 
@@ -65,17 +65,17 @@ module _ (k : ℕ) (s : Kept) (piece : List ℕ) where
     kept-more = if-true _ _ _ e
 
     -- what the calls behind the first one have left to take
-    left-more : taken (s .line) (s .fed) piece ++ drop (keptAfter s piece .fed .used) piece ≡ drop (s .fed .used) piece
+    left-more : taken (s .line) (s .last) piece ++ drop (keptAfter s piece .last .used) piece ≡ drop (s .last .used) piece
     unfolding keptAfter answeredFed
     left-more =
-        let front = taken (s .line) (s .fed) piece in
-        ap (λ (l : List ℕ). front ++ l) (sym (drop-drop (length front) (s .fed .used) piece)) ∙ taken-front (s .line) (s .fed) piece
+        let front = taken (s .line) (s .last) piece in
+        ap (λ (l : List ℕ). front ++ l) (sym (drop-drop (length front) (s .last .used) piece)) ∙ taken-front (s .line) (s .last) piece
 
-    fewer : length piece ≤ suc k + s .fed .used → length piece ≤ k + keptAfter s piece .fed .used
+    fewer : length piece ≤ suc k + s .last .used → length piece ≤ k + keptAfter s piece .last .used
     unfolding keptAfter
-    fewer h = omega (arith, answered-some (s .line) (s .fed) piece (ltb-true _ _ e))
+    fewer h = omega (arith, answered-some (s .line) (s .last) piece (ltb-true _ _ e))
 
-  module _ (e : ltb (s .fed .used) (length piece) ≡ false) where
+  module _ (e : ltb (s .last .used) (length piece) ≡ false) where
     text-done : pieceText (suc k) s piece ≡ []
     unfolding pieceText
     text-done = if-false _ _ _ e
@@ -84,30 +84,30 @@ module _ (k : ℕ) (s : Kept) (piece : List ℕ) where
     unfolding pieceKept
     kept-done = if-false _ _ _ e
 
-pub piece-continues : (k : ℕ) (s : Kept) (piece q : List ℕ) → Holds (heldOf (s .line) (s .fed)) q → length piece ≤ k + s .fed .used
-    → Continues q (pieceText k s piece) (drop (s .fed .used) piece) (heldOf (pieceKept k s piece .line) (pieceKept k s piece .fed))
+pub piece-continues : (k : ℕ) (s : Kept) (piece q : List ℕ) → Holds (heldOf (s .line) (s .last)) q → length piece ≤ k + s .last .used
+    → Continues q (pieceText k s piece) (drop (s .last .used) piece) (heldOf (pieceKept k s piece .line) (pieceKept k s piece .last))
 unfolding pieceText pieceKept
-piece-continues zero s piece q holds h = rw (drop-of-length-le piece {i = s .fed .used} (omega arith)) (stays _ q holds)
+piece-continues zero s piece q holds h = rw (drop-of-length-le piece {i = s .last .used} (omega arith)) (stays _ q holds)
 piece-continues (suc k) s piece q holds h =
-    cases (ltb (s .fed .used) (length piece))
+    cases (ltb (s .last .used) (length piece))
     (λ e.
     let next = keptAfter s piece in
     rw (text-more k s piece e, kept-more k s piece e, sym (left-more k s piece e))
     (goes-on q _ _ _ _ _ _ (answered-continues s piece q holds)
     λ line held. piece-continues k next piece line held (fewer k s piece e h)))
     λ e. let all = ltb-false _ _ e in
-    rw (text-done k s piece e, kept-done k s piece e, drop-of-length-le piece {i = s .fed .used} all) (stays _ q holds)
+    rw (text-done k s piece e, kept-done k s piece e, drop-of-length-le piece {i = s .last .used} all) (stays _ q holds)
 
 -- ---- piece after piece
 
-next-holds : (s : Kept) (q : List ℕ) → Holds (heldOf (s .line) (s .fed)) q → Holds (heldOf (nextKept s .line) (nextKept s .fed)) q
+next-holds : (s : Kept) (q : List ℕ) → Holds (heldOf (s .line) (s .last)) q → Holds (heldOf (nextKept s .line) (nextKept s .last)) q
 unfolding nextKept
 next-holds s q holds = holds
 
-pub pieces-output : (pieces : List (List ℕ)) (s : Kept) (q : List ℕ) → Holds (heldOf (s .line) (s .fed)) q
+pub pieces-output : (pieces : List (List ℕ)) (s : Kept) (q : List ℕ) → Holds (heldOf (s .line) (s .last)) q
     → textOfPieces s pieces ≡ output (q ++ joined pieces)
 unfolding textOfPieces joined nextKept
-pieces-output [] s q holds = last-line (heldOf (s .line) (s .fed)) q holds ∙ ap output (sym (append-nil q))
+pieces-output [] s q holds = last-line (heldOf (s .line) (s .last)) q holds ∙ ap output (sym (append-nil q))
 pieces-output (piece ∷ pieces) s q holds =
     let one = piece-continues (length piece) (nextKept s) piece q (next-holds s q holds) (omega arith) in
     let kept = pieceKept (length piece) (nextKept s) piece in

@@ -16,7 +16,7 @@ use Rattle.card.specs.Answer.{answer, withNewline}
 use Rattle.card.proofs.Laws.{answer-long}
 use Rattle.card_lines.specs.Lines.{output}
 use Rattle.card_lines.specs.Stream.{firstLine, endsLine, extendedLength, extended, heldAnswer, writes, takes, lineAfter, lastAnswer}
-use Rattle.card_lines.specs.Calls.{Held, after, writesAll, takesAll, afterAll}
+use Rattle.card_lines.specs.Calls.{Held, leaves, writesAll, takesAll, leavesAll}
 use Rattle.card_lines.proofs.OutputLines.{NoNewline, join-no-newline, output-newline, output-none, output-last}
 use Rattle.card_lines.proofs.Pieces.{first-no-newline, all-first}
 use Rattle.card_lines.proofs.FeedCases.{open-held, open-writes, open-takes, newline-held, newline-writes, newline-takes}
@@ -103,12 +103,12 @@ module _ (h : Held) (piece q : List ℕ) (holds : Holds h q) where
   abbrev first : List ℕ
   first = firstLine piece
 
-  after-long : length (after h piece .line) ≡ 2049
-  unfolding after lineAfter extended
+  after-long : length (leaves h piece .line) ≡ 2049
+  unfolding leaves lineAfter extended
   after-long = longer h q holds first
 
-  open-holds : endsLine piece ≡ false → Holds (after h piece) (q ++ piece)
-  unfolding after lineAfter
+  open-holds : endsLine piece ≡ false → Holds (leaves h piece) (q ++ piece)
+  unfolding leaves lineAfter
   open-holds e =
       let all = all-first piece e in
       let count = open-held (h .line) (h .held) piece e in
@@ -122,16 +122,16 @@ module _ (h : Held) (piece q : List ℕ) (holds : Holds h q) where
         no-newline = join-no-newline q piece (holds .no-newline) (subst NoNewline all (first-no-newline piece));
       }
 
-  with-no-newline : endsLine piece ≡ false → Continues q (writes (h .line) (h .held) piece) (takes piece) (after h piece)
+  with-no-newline : endsLine piece ≡ false → Continues q (writes (h .line) (h .held) piece) (takes piece) (leaves h piece)
   with-no-newline e =
       rw (open-writes (h .line) (h .held) piece e, open-takes (h .line) (h .held) piece e)
       record { line = q ++ piece; holds = open-holds e; prints = λ rest. ap output (sym (append-assoc q piece rest)) }
 
-  newline-holds : endsLine piece ≡ true → Holds (after h piece) []
-  unfolding after NoNewline
+  newline-holds : endsLine piece ≡ true → Holds (leaves h piece) []
+  unfolding leaves NoNewline
   newline-holds e =
       let none = newline-held (h .line) (h .held) piece e in
-      record { long = after-long; count = none; bytes = ap (λ (n : ℕ). take n (after h piece .line)) none; no-newline = tt }
+      record { long = after-long; count = none; bytes = ap (λ (n : ℕ). take n (leaves h piece .line)) none; no-newline = tt }
 
   newline-answer : endsLine piece ≡ true → writes (h .line) (h .held) piece ≡ withNewline (answer (q ++ first))
   unfolding heldAnswer
@@ -140,7 +140,7 @@ module _ (h : Held) (piece q : List ℕ) (holds : Holds h q) where
       ∙ ap (λ (l : List ℕ). withNewline (answer l)) (more-bytes h q holds first)
       ∙ ap withNewline (answer-held (q ++ first))
 
-  with-newline : endsLine piece ≡ true → Continues q (writes (h .line) (h .held) piece) (takes piece) (after h piece)
+  with-newline : endsLine piece ≡ true → Continues q (writes (h .line) (h .held) piece) (takes piece) (leaves h piece)
   with-newline e =
       rw (newline-answer e, newline-takes (h .line) (h .held) piece e)
       record {
@@ -152,16 +152,16 @@ module _ (h : Held) (piece q : List ℕ) (holds : Holds h q) where
             ∙ output-newline (q ++ first) rest (join-no-newline q first (holds .no-newline) (first-no-newline piece));
       }
 
-  pub one-continues : Continues q (writes (h .line) (h .held) piece) (takes piece) (after h piece)
+  pub one-continues : Continues q (writes (h .line) (h .held) piece) (takes piece) (leaves h piece)
   one-continues = cases (endsLine piece) with-newline with-no-newline
 
 -- calls in turn
 pub all-continue : (pieces : List (List ℕ)) (h : Held) (q : List ℕ) → Holds h q
-    → Continues q (writesAll h pieces) (takesAll pieces) (afterAll h pieces)
-unfolding writesAll takesAll afterAll
+    → Continues q (writesAll h pieces) (takesAll pieces) (leavesAll h pieces)
+unfolding writesAll takesAll leavesAll
 all-continue [] h q holds = stays h q holds
 all-continue (piece ∷ pieces) h q holds =
-    goes-on q _ _ _ _ (after h piece) _ (one-continues h piece q holds) (all-continue pieces (after h piece))
+    goes-on q _ _ _ _ (leaves h piece) _ (one-continues h piece q holds) (all-continue pieces (leaves h piece))
 
 -- at the end of the input
 pub last-line : (h : Held) (q : List ℕ) → Holds h q → lastAnswer (h .line) (h .held) ≡ output q
@@ -175,10 +175,10 @@ last-line h (b ∷ q) holds =
 
 -- calls in turn, and then the end
 pub written-output : (pieces : List (List ℕ)) (h : Held) (q : List ℕ) → Holds h q
-    → writesAll h pieces ++ lastAnswer (afterAll h pieces .line) (afterAll h pieces .held) ≡ output (q ++ takesAll pieces)
+    → writesAll h pieces ++ lastAnswer (leavesAll h pieces .line) (leavesAll h pieces .held) ≡ output (q ++ takesAll pieces)
 written-output pieces h q holds =
     let calls = all-continue pieces h q holds in
-    ap (λ (l : List ℕ). writesAll h pieces ++ l) (last-line (afterAll h pieces) (calls .line) (calls .holds) ∙ ap output (sym (append-nil (calls .line))))
+    ap (λ (l : List ℕ). writesAll h pieces ++ l) (last-line (leavesAll h pieces) (calls .line) (calls .holds) ∙ ap output (sym (append-nil (calls .line))))
     ∙ sym (calls .prints [])
     ∙ ap (λ (l : List ℕ). output (q ++ l)) (append-nil (takesAll pieces))
 

@@ -11,7 +11,7 @@ use lib.Seq.{drop-drop}
 use Rattle.basics.proofs.Cases.{by, cases, if-true, if-false}
 use Rattle.card.specs.Answer.{longestAnswer}
 use Rattle.card_lines.specs.Stream.{writes, takes}
-use Rattle.card_lines.specs.Calls.{Held, after, writesAll, takesAll, feedings}
+use Rattle.card_lines.specs.Calls.{Held, leaves, writesAll, takesAll, feedings}
 use Rattle.card_lines.proofs.Progress.{takes-some, takes-first, writes-within}
 
 -- what a call leaves of its piece, and of the room
@@ -39,12 +39,12 @@ enough (suc k) (suc j) room h (b ∷ bs) l m =
     cases (ltb room longestAnswer)
     (λ e. if-true _ _ _ e ∙ sym (if-true _ _ _ e))
     λ e. if-false _ _ _ e
-    ∙ ap (λ (l : List (List ℕ)). rest ∷ l) (enough k j (roomAfter room h rest) (after h rest) (restAfter rest) (omega arith) (omega arith))
+    ∙ ap (λ (l : List (List ℕ)). rest ∷ l) (enough k j (roomAfter room h rest) (leaves h rest) (restAfter rest) (omega arith) (omega arith))
     ∙ sym (if-false _ _ _ e)
 
 -- one call, where there is a byte and room; none where there is not
 pub feedings-step : (room : ℕ) (h : Held) (rest : List ℕ) → 0 < length rest → longestAnswer ≤ room
-    → feedings (length rest) room h rest ≡ rest ∷ feedings (length (restAfter rest)) (roomAfter room h rest) (after h rest) (restAfter rest)
+    → feedings (length rest) room h rest ≡ rest ∷ feedings (length (restAfter rest)) (roomAfter room h rest) (leaves h rest) (restAfter rest)
 unfolding feedings
 feedings-step room h [] some fits = absurd (omega arith)
 feedings-step room h (b ∷ bs) some fits =
@@ -52,7 +52,7 @@ feedings-step room h (b ∷ bs) some fits =
     let less = shorter rest some in
     if-false _ _ _ (le-ltb room longestAnswer fits)
     ∙ ap (λ (l : List (List ℕ)). rest ∷ l)
-    (enough (length bs) (length (restAfter rest)) (roomAfter room h rest) (after h rest) (restAfter rest) (omega arith) (omega arith))
+    (enough (length bs) (length (restAfter rest)) (roomAfter room h rest) (leaves h rest) (restAfter rest) (omega arith) (omega arith))
 
 pub feedings-none : (room : ℕ) (h : Held) (rest : List ℕ) → length rest ≡ 0 → feedings (length rest) room h rest ≡ []
 unfolding feedings
@@ -82,7 +82,7 @@ feedings-front zero room h rest = refl
 feedings-front (suc k) room h [] = refl
 feedings-front (suc k) room h (b ∷ bs) =
     by (λ (l : List (List ℕ)). takesAll l ++ drop (length (takesAll l)) (b ∷ bs) ≡ b ∷ bs) (ltb room longestAnswer) _ _ (λ e. refl)
-    λ e. let rest = b ∷ bs in front-more rest _ (feedings-front k (roomAfter room h rest) (after h rest) (restAfter rest))
+    λ e. let rest = b ∷ bs in front-more rest _ (feedings-front k (roomAfter room h rest) (leaves h rest) (restAfter rest))
 
 -- no more is written than there is room for
 pub feedings-fit : (k room : ℕ) (h : Held) (rest : List ℕ) → length (writesAll h (feedings k room h rest)) ≤ room
@@ -94,7 +94,7 @@ feedings-fit (suc k) room h (b ∷ bs) =
     λ e.
     let rest = b ∷ bs in
     let text = writes (h .line) (h .held) rest in
-    let later = writesAll (after h rest) (feedings k (roomAfter room h rest) (after h rest) (restAfter rest)) in
+    let later = writesAll (leaves h rest) (feedings k (roomAfter room h rest) (leaves h rest) (restAfter rest)) in
     let fits = ltb-false room longestAnswer e in
-    let rest-fits = feedings-fit k (roomAfter room h rest) (after h rest) (restAfter rest) in
+    let rest-fits = feedings-fit k (roomAfter room h rest) (leaves h rest) (restAfter rest) in
     omega (arith, length-append text later, writes-within (h .line) (h .held) rest)

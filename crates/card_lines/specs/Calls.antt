@@ -17,13 +17,13 @@ pub record Held : Type 0 where
 -- ---- calls of `feed`, each with a piece
 
 -- the line in progress that a call leaves
-unfoldable pub after : Held → List ℕ → Held
-after h piece = record { line = lineAfter (h .line) (h .held) piece; held = heldAfter (h .held) piece }
+unfoldable pub leaves : Held → List ℕ → Held
+leaves h piece = record { line = lineAfter (h .line) (h .held) piece; held = heldAfter (h .held) piece }
 
 -- what the calls write, in order
 unfoldable pub writesAll : Held → List (List ℕ) → List ℕ
 writesAll h [] = []
-writesAll h (piece ∷ pieces) = writes (h .line) (h .held) piece ++ writesAll (after h piece) pieces
+writesAll h (piece ∷ pieces) = writes (h .line) (h .held) piece ++ writesAll (leaves h piece) pieces
 
 -- what the calls take of their pieces, in order
 unfoldable pub takesAll : List (List ℕ) → List ℕ
@@ -31,11 +31,11 @@ takesAll [] = []
 takesAll (piece ∷ pieces) = takes piece ++ takesAll pieces
 
 -- the line in progress that they leave
-unfoldable pub afterAll : Held → List (List ℕ) → Held
-afterAll h [] = h
-afterAll h (piece ∷ pieces) = afterAll (after h piece) pieces
+unfoldable pub leavesAll : Held → List (List ℕ) → Held
+leavesAll h [] = h
+leavesAll h (piece ∷ pieces) = leavesAll (leaves h piece) pieces
 
--- ---- a call of `answer_lines`
+-- ---- a call of `answer_lines`; `last` is what the last call gave
 
 -- how many places the output has
 abbrev pub outputPlaces : ℕ
@@ -48,67 +48,67 @@ feedings zero room h rest = []
 feedings (suc k) room h [] = []
 feedings (suc k) room h (b ∷ bs) =
     if ltb room longestAnswer then [] else
-    (b ∷ bs) ∷ feedings k (room - length (writes (h .line) (h .held) (b ∷ bs))) (after h (b ∷ bs)) (drop (length (takes (b ∷ bs))) (b ∷ bs))
+    (b ∷ bs) ∷ feedings k (room - length (writes (h .line) (h .held) (b ∷ bs))) (leaves h (b ∷ bs)) (drop (length (takes (b ∷ bs))) (b ∷ bs))
 
 -- what it begins with, and its calls of `feed`
 abbrev pub heldOf : List ℕ → Fed → Held
-heldOf line fed = record { line = line; held = fed .held }
+heldOf line last = record { line = line; held = last .held }
 
 unfoldable pub feedingsOf : List ℕ → Fed → List ℕ → List (List ℕ)
-feedingsOf line fed piece = let rest = drop (fed .used) piece in feedings (length rest) outputPlaces (heldOf line fed) rest
+feedingsOf line last piece = let rest = drop (last .used) piece in feedings (length rest) outputPlaces (heldOf line last) rest
 
 -- what it writes, the places of the line in progress that it leaves, and its numbers
 unfoldable pub answeredText : List ℕ → Fed → List ℕ → List ℕ
-answeredText line fed piece = writesAll (heldOf line fed) (feedingsOf line fed piece)
+answeredText line last piece = writesAll (heldOf line last) (feedingsOf line last piece)
 
 unfoldable pub answeredLine : List ℕ → Fed → List ℕ → List ℕ
-answeredLine line fed piece = afterAll (heldOf line fed) (feedingsOf line fed piece) .line
+answeredLine line last piece = leavesAll (heldOf line last) (feedingsOf line last piece) .line
 
 unfoldable pub answeredFed : List ℕ → Fed → List ℕ → Fed
-answeredFed line fed piece =
+answeredFed line last piece =
     record {
-      held = afterAll (heldOf line fed) (feedingsOf line fed piece) .held;
-      used = fed .used + length (takesAll (feedingsOf line fed piece));
-      written = length (answeredText line fed piece);
+      held = leavesAll (heldOf line last) (feedingsOf line last piece) .held;
+      used = last .used + length (takesAll (feedingsOf line last piece));
+      written = length (answeredText line last piece);
     }
 
 -- ---- a caller of `answer_lines`
 
--- the numbers at the start, and before each piece
+-- the numbers at the start, and before each piece: `start` and `next_piece`
 abbrev pub startFed : Fed
 startFed = record { held = 0; used = 0; written = 0 }
 
 abbrev pub nextFed : Fed → Fed
-nextFed fed = record { held = fed .held; used = 0; written = 0 }
+nextFed last = record { held = last .held; used = 0; written = 0 }
 
 -- what it keeps from call to call: at the start, before a piece, and after a call
 pub record Kept : Type 0 where
   pub line : List ℕ
-  pub fed : Fed
+  pub last : Fed
 
 abbrev pub startKept : List ℕ → Kept
-startKept line = record { line = line; fed = startFed }
+startKept line = record { line = line; last = startFed }
 
 unfoldable pub nextKept : Kept → Kept
-nextKept s = record { line = s .line; fed = nextFed (s .fed) }
+nextKept s = record { line = s .line; last = nextFed (s .last) }
 
 unfoldable pub keptAfter : Kept → List ℕ → Kept
-keptAfter s piece = record { line = answeredLine (s .line) (s .fed) piece; fed = answeredFed (s .line) (s .fed) piece }
+keptAfter s piece = record { line = answeredLine (s .line) (s .last) piece; last = answeredFed (s .line) (s .last) piece }
 
 -- It calls until its piece is used up: what these calls write, and what it then keeps. The first argument bounds how many calls there are; the
 -- length of the piece is enough.
 unfoldable pub pieceText : ℕ → Kept → List ℕ → List ℕ
 pieceText zero s piece = []
 pieceText (suc k) s piece =
-    if ltb (s .fed .used) (length piece) then answeredText (s .line) (s .fed) piece ++ pieceText k (keptAfter s piece) piece else []
+    if ltb (s .last .used) (length piece) then answeredText (s .line) (s .last) piece ++ pieceText k (keptAfter s piece) piece else []
 
 unfoldable pub pieceKept : ℕ → Kept → List ℕ → Kept
 pieceKept zero s piece = s
-pieceKept (suc k) s piece = if ltb (s .fed .used) (length piece) then pieceKept k (keptAfter s piece) piece else s
+pieceKept (suc k) s piece = if ltb (s .last .used) (length piece) then pieceKept k (keptAfter s piece) piece else s
 
 -- the same for piece after piece, and behind them what `end` writes
 unfoldable pub textOfPieces : Kept → List (List ℕ) → List ℕ
-textOfPieces s [] = lastAnswer (s .line) (s .fed .held)
+textOfPieces s [] = lastAnswer (s .line) (s .last .held)
 textOfPieces s (piece ∷ pieces) =
     pieceText (length piece) (nextKept s) piece ++ textOfPieces (pieceKept (length piece) (nextKept s) piece) pieces
 

@@ -88,39 +88,35 @@ pub fn feed(line: &mut [u8; 2049], held: usize, piece: &[u8], answer: &mut [u8; 
 pub fn start() -> Fed
     ensures { λ r. ⌜ r ≡ startFed ⌝ }
 {
+    let none: usize = 0;
     Fed {
-        held: 0,
-        used: 0,
-        written: 0,
+        held: none,
+        used: none,
+        written: none,
     }
 }
 
-// Before each piece: none of it is used.
-pub fn next_piece(before: Fed) -> Fed
-    ensures { λ r. ⌜ r ≡ nextFed before ⌝ }
+// Before each piece, from what the last call gave: none of it is used.
+pub fn next_piece(last: Fed) -> Fed
+    ensures { λ r. ⌜ r ≡ nextFed last ⌝ }
 {
     Fed {
-        held: before.held,
+        held: last.held,
         used: 0,
         written: 0,
     }
 }
 
-// Answers the lines of a piece from the place `before.used` on, until no byte of it is left, or the output has no room for another answer. The
-// answers stand one behind the other from the output's start on.
-pub fn answer_lines(
-    line: &mut [u8; 2049],
-    before: Fed,
-    piece: &[u8],
-    output: &mut [u8; 65536],
-) -> Fed
-    ensures { λ r. ⌜ (r ≡ answeredFed (now (line .entry)) before (now (piece .entry))) ×
-        (now (line .exit) ≡ answeredLine (now (line .entry)) before (now (piece .entry))) ×
-        (now (output .exit) ≡ placed (now (output .entry)) 0 (answeredText (now (line .entry)) before (now (piece .entry)))) ⌝ }
+// Answers the lines of a piece, from what the last call gave: from the place `last.used` on, until no byte is left, or the output has no room for
+// another answer. The answers stand one behind the other from the output's start on.
+pub fn answer_lines(line: &mut [u8; 2049], last: Fed, piece: &[u8], output: &mut [u8; 65536]) -> Fed
+    ensures { λ r. ⌜ (r ≡ answeredFed (now (line .entry)) last (now (piece .entry))) ×
+        (now (line .exit) ≡ answeredLine (now (line .entry)) last (now (piece .entry))) ×
+        (now (output .exit) ≡ placed (now (output .entry)) 0 (answeredText (now (line .entry)) last (now (piece .entry)))) ⌝ }
 {
     let mut answer = [0u8; 1042];
-    let mut held = before.held;
-    let mut used = before.used;
+    let mut held = last.held;
+    let mut used = last.used;
     let mut written: usize = 0;
     while used < piece.len() && OUTPUT - written >= LONGEST_ANSWER {
         let one = feed(line, held, &piece[used..], &mut answer);
@@ -137,13 +133,13 @@ pub fn answer_lines(
     }
 }
 
-// At the end of the input: writes the answer to the line in progress, if it has a byte, and gives the number of bytes written: 0 exactly if
-// no line is in progress.
-pub fn end(line: &[u8; 2049], before: Fed, answer: &mut [u8; 1042]) -> usize
-    ensures { λ r. ⌜ (r ≡ length (lastAnswer (now (line .entry)) (before .held))) ×
-        (now (answer .exit) ≡ placed (now (answer .entry)) 0 (lastAnswer (now (line .entry)) (before .held))) ⌝ }
+// At the end of the input, from what the last call gave: writes the answer to the line in progress, if it has a byte, and gives the number of
+// bytes written: 0 exactly if no line is in progress.
+pub fn end(line: &[u8; 2049], last: Fed, answer: &mut [u8; 1042]) -> usize
+    ensures { λ r. ⌜ (r ≡ length (lastAnswer (now (line .entry)) (last .held))) ×
+        (now (answer .exit) ≡ placed (now (answer .entry)) 0 (lastAnswer (now (line .entry)) (last .held))) ⌝ }
 {
-    let held = before.held;
+    let held = last.held;
     if held == 0 {
         return 0;
     }

@@ -24,13 +24,8 @@ fn write(output: &[u8], filled: usize) -> bool
 }
 
 // Answers the lines of a piece. Answers are written together, when there is no room for another, and at the end of the piece.
-fn answer_piece(
-    line: &mut [u8; 2049],
-    before: Fed,
-    piece: &[u8],
-    output: &mut [u8; 65536],
-) -> State {
-    let mut fed = card_lines::next_piece(before);
+fn answer_piece(line: &mut [u8; 2049], last: Fed, piece: &[u8], output: &mut [u8; 65536]) -> State {
+    let mut fed = card_lines::next_piece(last);
     while fed.used < piece.len() {
         let next = card_lines::answer_lines(line, fed, piece, output);
         fed = next;

@@ -28,7 +28,7 @@ use Rattle.card.proofs.Laws.{answer-card, answer-none, answer-long}
 use Rattle.card.proofs.CardAnswer.{accepted-answer}
 use Rattle.card_lines.specs.Lines.{before, lines, answers, output}
 use Rattle.card_lines.specs.Stream.{writes, takes, fed, lastAnswer}
-use Rattle.card_lines.specs.Calls.{writesAll, takesAll, afterAll, heldOf, answeredText, answeredFed, startFed, startKept, textOfPieces, joined}
+use Rattle.card_lines.specs.Calls.{writesAll, takesAll, leavesAll, heldOf, answeredText, answeredFed, startFed, startKept, textOfPieces, joined}
 use Rattle.card_lines.specs.declared.Fed.{Fed}
 use Rattle.card_lines.proofs.Progress.{takes-some, takes-first, last-none, last-some}
 use Rattle.card_lines.proofs.Callers.{answered-some, pieces-output}
@@ -83,10 +83,10 @@ unfolding fed
 written-and-used line n piece buffer = (placed-front buffer (writes line n piece), sym (takes-first piece))
 
 -- of `answer_lines` they are `answeredText`;
-pub written-answers : (line : List ℕ) (before : Fed) (piece buffer : List ℕ)
-    → take (answeredFed line before piece .written) (placed buffer 0 (answeredText line before piece)) ≡ answeredText line before piece
+pub written-answers : (line : List ℕ) (last : Fed) (piece buffer : List ℕ)
+    → take (answeredFed line last piece .written) (placed buffer 0 (answeredText line last piece)) ≡ answeredText line last piece
 unfolding answeredFed
-written-answers line before piece buffer = placed-front buffer (answeredText line before piece)
+written-answers line last piece buffer = placed-front buffer (answeredText line last piece)
 
 -- of `end` they are `lastAnswer`,
 pub written-at-end : (line : List ℕ) (n : ℕ) (buffer : List ℕ)
@@ -100,8 +100,8 @@ nothing-at-end line n = (last-none line n, last-some line n)
 -- However an input is cut: calls of `feed` in turn, each with any piece, and then `end`, write the output of what the calls took. `line` is the
 -- 2,049 places for the line in progress, which may hold anything at the start.
 pub output-however-cut : (line : List ℕ) (pieces : List (List ℕ)) → length line ≡ 2049
-    → let left = afterAll (heldOf line startFed) pieces in
-    writesAll (heldOf line startFed) pieces ++ lastAnswer (left .line) (left .held) ≡ output (takesAll pieces)
+    → let start = heldOf line startFed in
+    writesAll start pieces ++ lastAnswer (leavesAll start pieces .line) (leavesAll start pieces .held) ≡ output (takesAll pieces)
 output-however-cut line pieces long = written-output pieces (heldOf line startFed) [] (start-holds line long)
 
 -- A call takes at least one byte, if there is one: of `feed`,
@@ -109,8 +109,8 @@ pub something-is-taken : (piece : List ℕ) → 0 < length piece → 0 < length 
 something-is-taken = takes-some
 
 -- and of `answer_lines`.
-pub something-is-answered : (line : List ℕ) (before : Fed) (piece : List ℕ)
-    → before .used < length piece → before .used < answeredFed line before piece .used
+pub something-is-answered : (line : List ℕ) (last : Fed) (piece : List ℕ)
+    → last .used < length piece → last .used < answeredFed line last piece .used
 something-is-answered = answered-some
 
 -- So a caller that lends each piece to `answer_lines` until it is used up, and then calls `end`, has all of its input answered, whatever the

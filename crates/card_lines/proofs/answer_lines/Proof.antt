@@ -118,14 +118,14 @@ returns c =
     let at-loop = c .before .before .loop in
     let args = c .before .before .before .before .args in
     let full = no-room _ (at-loop .used) (at-loop .written) (args .piece .now) (search needs) in
-    done _ (args .before) _ _ _ _ _ (at-loop .inv) full
+    done _ (args .last) _ _ _ _ _ (at-loop .inv) full
 
 returns-2 : tie.Need-returns-2 Inv-loop μ-loop
 returns-2 c =
     let at-loop = c .before .loop in
     let args = c .before .before .before .args in
     let none = none-left _ (at-loop .used) (at-loop .written) (args .piece .now) (search needs) in
-    done _ (args .before) _ _ _ _ _ (at-loop .inv) none
+    done _ (args .last) _ _ _ _ _ (at-loop .inv) none
 
 pub answer-lines-spec : {M : Type 1} → statement M
 answer-lines-spec =

@@ -17,14 +17,14 @@ unfolding lastAnswer
 returns c =
     let args = c .before .args in
     let answer = now (args .answer) in
-    let none = if-true _ _ _ (eq-eqb (args .before .held) 0 (search needs)) in
+    let none = if-true _ _ _ (eq-eqb (args .last .held) 0 (search needs)) in
     (ap length (sym none), sym (placed-none answer 0) ∙ ap (placed answer 0) (sym none))
 
 returns-2 : tie.Need-returns-2
 unfolding lastAnswer
 returns-2 c =
     let args = c .before .before .before .before .args in
-    let some = if-false _ _ _ (ne-eqb (args .before .held) 0 (search needs)) in
+    let some = if-false _ _ _ (ne-eqb (args .last .held) 0 (search needs)) in
     let answered = c .answer-held .ensures in
     (answered .0 ∙ ap length (sym some), answered .1 ∙ ap (placed (now (args .answer)) 0) (sym some))
 
