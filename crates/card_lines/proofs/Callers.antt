@@ -47,7 +47,7 @@ module _ (line : List ℕ) (last : Fed) (piece : List ℕ) where
   answered-fits = let rest = drop (last .used) piece in feedings-fit (length rest) outputPlaces (heldOf line last) rest
 
 -- the calls of `feed` behind it, as one step
-pub answered-continues : (s : Kept) (piece q : List ℕ) → Holds (heldOf (s .line) (s .last)) q
+answered-continues : (s : Kept) (piece q : List ℕ) → Holds (heldOf (s .line) (s .last)) q
     → Continues q (answeredText (s .line) (s .last) piece) (taken (s .line) (s .last) piece) (heldOf (keptAfter s piece .line) (keptAfter s piece .last))
 unfolding answeredText keptAfter answeredLine answeredFed
 answered-continues s piece q holds = all-continue (feedingsOf (s .line) (s .last) piece) (heldOf (s .line) (s .last)) q holds
@@ -84,7 +84,7 @@ module _ (k : ℕ) (s : Kept) (piece : List ℕ) where
     unfolding pieceKept
     kept-done = if-false _ _ _ e
 
-pub piece-continues : (k : ℕ) (s : Kept) (piece q : List ℕ) → Holds (heldOf (s .line) (s .last)) q → length piece ≤ k + s .last .used
+piece-continues : (k : ℕ) (s : Kept) (piece q : List ℕ) → Holds (heldOf (s .line) (s .last)) q → length piece ≤ k + s .last .used
     → Continues q (pieceText k s piece) (drop (s .last .used) piece) (heldOf (pieceKept k s piece .line) (pieceKept k s piece .last))
 unfolding pieceText pieceKept
 piece-continues zero s piece q holds h = rw (drop-of-length-le piece {i = s .last .used} (omega arith)) (stays _ q holds)

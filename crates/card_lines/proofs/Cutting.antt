@@ -152,7 +152,7 @@ module _ (h : Held) (piece q : List ℕ) (holds : Holds h q) where
             ∙ output-newline (q ++ first) rest (join-no-newline q first (holds .no-newline) (first-no-newline piece));
       }
 
-  pub one-continues : Continues q (writes (h .line) (h .held) piece) (takes piece) (leaves h piece)
+  one-continues : Continues q (writes (h .line) (h .held) piece) (takes piece) (leaves h piece)
   one-continues = cases (endsLine piece) with-newline with-no-newline
 
 -- calls in turn

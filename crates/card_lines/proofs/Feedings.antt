@@ -21,7 +21,7 @@ restAfter rest = drop (length (takes rest)) rest
 abbrev pub roomAfter : ℕ → Held → List ℕ → ℕ
 roomAfter room h rest = room - length (writes (h .line) (h .held) rest)
 
-pub shorter : (rest : List ℕ) → 0 < length rest → length (restAfter rest) < length rest
+shorter : (rest : List ℕ) → 0 < length rest → length (restAfter rest) < length rest
 shorter rest h = omega (arith, length-drop (length (takes rest)) rest, takes-some rest h)
 
 -- any bound that is enough gives the same calls

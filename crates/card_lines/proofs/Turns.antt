@@ -17,7 +17,7 @@ use Rattle.card_lines.proofs.Progress.{writes-within}
 use Rattle.card_lines.proofs.Feedings.{restAfter, roomAfter, feedings-step, feedings-none, feedings-full}
 
 -- the calls of `feed` that are left
-abbrev pub calls : List ℕ → Held → ℕ → ℕ → List (List ℕ)
+abbrev calls : List ℕ → Held → ℕ → ℕ → List (List ℕ)
 calls piece h used written = feedings (length (drop used piece)) (outputPlaces - written) h (drop used piece)
 
 -- so much is written, and what is left does the rest
@@ -41,7 +41,7 @@ module _ (h : Held) (used written : ℕ) (piece : List ℕ) (some : used < lengt
   abbrev text : List ℕ
   text = writes (h .line) (h .held) rest
 
-  pub rest-some : 0 < length rest
+  rest-some : 0 < length rest
   rest-some = omega (arith, length-drop used piece)
 
   one-call : calls piece h used written ≡ rest ∷ calls piece (leaves h rest) (used + length (takes rest)) (written + length text)
