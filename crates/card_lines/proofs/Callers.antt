@@ -9,11 +9,12 @@ use borrow.Author.Tests.{ltb-true, ltb-false}
 use lib.Dec.{ltb}
 use lib.ListN.{length, drop, length-append, length-drop, drop-of-length-le}
 use lib.Seq.{drop-drop}
+use Rattle.basics.specs.Lists.{joined}
 use Rattle.basics.proofs.Cases.{cases, if-true, if-false}
 use Rattle.card_lines.specs.Lines.{output}
 use Rattle.card_lines.specs.Stream.{takes}
 use Rattle.card_lines.specs.Calls.{leaves, takesAll, outputPlaces, feedings, heldOf, feedingsOf, answeredText, answeredLine, answeredFed}
-use Rattle.card_lines.specs.Calls.{Kept, nextKept, keptAfter, pieceText, pieceKept, textOfPieces, joined}
+use Rattle.card_lines.specs.Calls.{Kept, nextKept, keptAfter, pieceText, pieceKept, textOfPieces}
 use Rattle.card_lines.specs.declared.Fed.{Fed}
 use Rattle.card_lines.proofs.Progress.{takes-some}
 use Rattle.card_lines.proofs.Cutting.{Holds, Continues, stays, goes-on, all-continue, last-line}

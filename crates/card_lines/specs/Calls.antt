@@ -111,8 +111,3 @@ unfoldable pub textOfPieces : Kept → List (List ℕ) → List ℕ
 textOfPieces s [] = lastAnswer (s .line) (s .last .held)
 textOfPieces s (piece ∷ pieces) =
     pieceText (length piece) (nextKept s) piece ++ textOfPieces (pieceKept (length piece) (nextKept s) piece) pieces
-
--- pieces one behind the other
-unfoldable pub joined : List (List ℕ) → List ℕ
-joined [] = []
-joined (piece ∷ pieces) = piece ++ joined pieces

@@ -8,7 +8,7 @@ use lib.Dec.{lit≤}
 use lib.ListN.{length, take}
 use Rattle.basics.specs.Logic.{if_then_else_, _and_, _or_, same, all, any}
 use Rattle.basics.specs.Digits.{digits}
-use Rattle.basics.specs.Lists.{sum, Below, placed}
+use Rattle.basics.specs.Lists.{sum, Below, placed, joined}
 use Rattle.basics.specs.Numbers.{notCard}
 use Rattle.basics.specs.Refusals.{firstNumber}
 use Rattle.basics.proofs.Placed.{placed-front}
@@ -28,7 +28,7 @@ use Rattle.card.proofs.Laws.{answer-card, answer-none, answer-long}
 use Rattle.card.proofs.CardAnswer.{accepted-answer}
 use Rattle.card_lines.specs.Lines.{before, lines, answers, output}
 use Rattle.card_lines.specs.Stream.{writes, takes, fed, lastAnswer}
-use Rattle.card_lines.specs.Calls.{writesAll, takesAll, leavesAll, heldOf, answeredText, answeredFed, startFed, startKept, textOfPieces, joined}
+use Rattle.card_lines.specs.Calls.{writesAll, takesAll, leavesAll, heldOf, answeredText, answeredFed, startFed, startKept, textOfPieces}
 use Rattle.card_lines.specs.declared.Fed.{Fed}
 use Rattle.card_lines.proofs.Progress.{takes-some, takes-first, last-none, last-some}
 use Rattle.card_lines.proofs.Callers.{answered-some, pieces-output}
