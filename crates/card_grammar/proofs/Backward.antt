@@ -16,7 +16,7 @@ use Rattle.basics.proofs.Cases.{by}
 use Rattle.basics.proofs.Below.{below-nil, below-push}
 use Rattle.words.specs.Words.{isAbsorb, lengthOf}
 use Rattle.card_grammar.specs.Text.{headText, middleText, hexDigit, hex, separatorText, decimal, callText, callsText, cardText}
-use Rattle.card_grammar.specs.Machine.{headAt, middleAt, hexValue, decimalValue, expected, moveOf, State, at, moved, stepped, run, fresh}
+use Rattle.card_grammar.specs.Machine.{headAt, middleAt, hexValue, decimalValue, expected, moveOf, State, at, stateAfter, stepped, run, fresh}
 use Rattle.card_grammar.proofs.Digits.{hex-append, hex-read, decimal-read, decimal-small, decimal-push}
 use Rattle.card_grammar.specs.declared.machine.Mode.{Mode}
 use Rattle.card_grammar.specs.declared.machine.Mode.the-variants.{Head, Domain, First, Half, More, Middle, Calls, Open}
@@ -67,7 +67,7 @@ abbrev ToldAt : State → List ℕ → Type 0
 ToldAt st l = Told (st .mode) (st .separator) (st .words) l
 
 abbrev ToldBy : List ℕ → List ℕ → List ℕ → Move → Type 0
-ToldBy s w l move = ToldAt (moved move s w) l
+ToldBy s w l move = ToldAt (stateAfter move s w) l
 
 told-expected : (s w l : List ℕ) (b wanted : ℕ) (next : Mode) → (b ≡ wanted → Told next s w l) → ToldBy s w l (expected b wanted next)
 unfolding expected

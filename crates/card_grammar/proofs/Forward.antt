@@ -12,7 +12,7 @@ use Rattle.basics.proofs.Cases.{cases}
 use Rattle.basics.proofs.Below.{below-head, below-tail}
 use Rattle.words.specs.Words.{isAbsorb, lengthOf}
 use Rattle.card_grammar.specs.Text.{headText, middleText, endText, hexDigit, hex, separatorText, decimal, callText, callsText, cardText}
-use Rattle.card_grammar.specs.Machine.{headAt, middleAt, expected, moveOf, State, at, moved, stepped, run, fresh}
+use Rattle.card_grammar.specs.Machine.{headAt, middleAt, expected, moveOf, State, at, stateAfter, stepped, run, fresh}
 use Rattle.card_grammar.proofs.Digits.{hex-printed, hex-no-bracket, decimal-printed, decimal-small, decimal-more}
 use Rattle.card_grammar.specs.declared.machine.Mode.{Mode}
 use Rattle.card_grammar.specs.declared.machine.Mode.the-variants.{Domain, First, Half, More, Middle, Calls, Kind, Space, Start, Length, End}
@@ -24,9 +24,9 @@ unfolding run
 run-append st [] b = refl
 run-append st (x ∷ a) b = run-append (stepped st x) a b
 
-run-one : (m : Mode) (s w : List ℕ) (b : ℕ) (l : List ℕ) (move : Move) → moveOf m b ≡ move → run (at m s w) (b ∷ l) ≡ run (moved move s w) l
+run-one : (m : Mode) (s w : List ℕ) (b : ℕ) (l : List ℕ) (move : Move) → moveOf m b ≡ move → run (at m s w) (b ∷ l) ≡ run (stateAfter move s w) l
 unfolding run
-run-one m s w b l move e = ap (λ (x : Move). run (moved x s w) l) e
+run-one m s w b l move e = ap (λ (x : Move). run (stateAfter x s w) l) e
 
 head-run : run fresh headText ≡ at Domain [] []
 unfolding run moveOf headAt expected if_then_else_

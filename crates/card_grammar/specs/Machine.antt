@@ -68,13 +68,13 @@ pub record State : Type 0 where
 abbrev pub at : Mode → List ℕ → List ℕ → State
 at m s w = record { mode = m; separator = s; words = w }
 
-abbrev pub moved : Move → List ℕ → List ℕ → State
-moved (To m) s w = at m s w
-moved (Byte x) s w = at More (s ++ (x ∷ [])) w
-moved (Word x) s w = at Calls s (w ++ (x ∷ []))
+abbrev pub stateAfter : Move → List ℕ → List ℕ → State
+stateAfter (To m) s w = at m s w
+stateAfter (Byte x) s w = at More (s ++ (x ∷ [])) w
+stateAfter (Word x) s w = at Calls s (w ++ (x ∷ []))
 
 abbrev pub stepped : State → ℕ → State
-stepped st b = moved (moveOf (st .mode) b) (st .separator) (st .words)
+stepped st b = stateAfter (moveOf (st .mode) b) (st .separator) (st .words)
 
 unfoldable pub run : State → List ℕ → State
 run st [] = st

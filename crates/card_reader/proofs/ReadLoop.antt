@@ -8,7 +8,7 @@ use native.Mathlib.Numerals.{add-one}
 use lib.ListN.{length, take, getD, replicate}
 use lib.Seq.{take-suc, take-all}
 use Rattle.card_grammar.specs.Grammar.{none}
-use Rattle.card_grammar.specs.Machine.{moveOf, State, at, moved, run, fresh}
+use Rattle.card_grammar.specs.Machine.{moveOf, State, at, stateAfter, run, fresh}
 use Rattle.card_grammar.proofs.Forward.{run-append}
 use Rattle.card_grammar.specs.Card.{cardOf}
 use Rattle.card_reader.specs.Reading.{reading}
@@ -34,7 +34,7 @@ module _ {line separator words : List ℕ} {separatorLength wordCount i : ℕ} {
     (h : Held line separator separatorLength words wordCount mode i) where
   -- the state after a move
   abbrev after : Move → State
-  after move = moved move (h .bytes) (h .calls)
+  after move = stateAfter move (h .bytes) (h .calls)
 
   -- one byte more, whose move leaves the lists kept in the arrays
   pub held-next : {separator′ words′ : List ℕ} {separatorLength′ wordCount′ : ℕ} (move : Move) → i < length line → moveOf mode (getD line i 0) ≡ move
