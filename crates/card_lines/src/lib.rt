@@ -88,11 +88,10 @@ pub fn feed(line: &mut [u8; 2049], held: usize, piece: &[u8], answer: &mut [u8; 
 pub fn start() -> Fed
     ensures { λ r. ⌜ r ≡ startFed ⌝ }
 {
-    let none: usize = 0;
     Fed {
-        held: none,
-        used: none,
-        written: none,
+        held: 0,
+        used: 0,
+        written: 0,
     }
 }
 
