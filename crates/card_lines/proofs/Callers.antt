@@ -1,11 +1,11 @@
 -- A caller of `answer_lines`: each call takes something, and all calls together print the output of the whole input.
 -- Assumes nothing.
-use mathlib.Core.Path.{_≡_, sym, ap, _∙_}
+use mathlib.Core.Path.{_≡_, refl, sym, ap, _∙_}
 use mathlib.Core.Bool.{true, false}
 use mathlib.Core.List.{List, [], _∷_, _++_, append-nil}
 use Prim.Native.Nat.{ℕ, zero, suc, _+_, _≤_, _<_}
 use native.Mathlib.Omega.{arith}
-use borrow.Author.Tests.{ltb-true, ltb-false}
+use borrow.Author.Tests.{ltb-true, ltb-false, lt-ltb, le-ltb}
 use lib.Dec.{ltb}
 use lib.ListN.{length, drop, length-append, length-drop, drop-of-length-le}
 use lib.Seq.{drop-drop}
@@ -84,6 +84,32 @@ module _ (k : ℕ) (s : Kept) (piece : List ℕ) where
     kept-done : pieceKept (suc k) s piece ≡ s
     unfolding pieceKept
     kept-done = if-false _ _ _ e
+
+-- what is left of the calls on a piece leads to the same as all of them
+pub record Reaches (whole s : Kept) (piece : List ℕ) : Type 0 where
+  calls : ℕ
+  enough : length piece ≤ calls + s .last .used
+  pub same : whole ≡ pieceKept calls s piece
+
+pub reaches-start : (s : Kept) (piece : List ℕ) → Reaches (pieceKept (length piece) s piece) s piece
+reaches-start s piece = record { calls = length piece; enough = omega arith; same = refl }
+
+pub reaches-next : {whole : Kept} (s : Kept) (piece : List ℕ) → Reaches whole s piece → s .last .used < length piece → Reaches whole (keptAfter s piece) piece
+reaches-next {whole} s piece r h = one-fewer (r .calls) (r .enough) (r .same)
+  where
+    one-fewer : (k : ℕ) → length piece ≤ k + s .last .used → whole ≡ pieceKept k s piece → Reaches whole (keptAfter s piece) piece
+    one-fewer zero l e = absurd (omega arith)
+    one-fewer (suc k) l e =
+        let more = lt-ltb (s .last .used) (length piece) h in
+        record { calls = k; enough = fewer k s piece more l; same = e ∙ kept-more k s piece more }
+
+pub reaches-end : {whole : Kept} (s : Kept) (piece : List ℕ) → Reaches whole s piece → length piece ≤ s .last .used → s ≡ whole
+unfolding pieceKept
+reaches-end {whole} s piece r h = sym (ended (r .calls) (r .same))
+  where
+    ended : (k : ℕ) → whole ≡ pieceKept k s piece → whole ≡ s
+    ended zero e = e
+    ended (suc k) e = e ∙ kept-done k s piece (le-ltb (s .last .used) (length piece) h)
 
 piece-continues : (k : ℕ) (s : Kept) (piece q : List ℕ) → Holds (heldOf (s .line) (s .last)) q → length piece ≤ k + s .last .used
     → Continues q (pieceText k s piece) (drop (s .last .used) piece) (heldOf (pieceKept k s piece .line) (pieceKept k s piece .last))

@@ -15,7 +15,7 @@ use Rattle.basics.proofs.Placed.{placed-length}
 use Rattle.card.specs.Answer.{answer, withNewline}
 use Rattle.card.proofs.Laws.{answer-long}
 use Rattle.card_lines.specs.Lines.{output}
-use Rattle.card_lines.specs.Stream.{firstLine, endsLine, extendedLength, extended, heldAnswer, writes, takes, lineAfter, lastAnswer}
+use Rattle.card_lines.specs.Stream.{firstLine, endsLine, extendedLength, extended, heldAnswer, writes, takes, lineAfter, lastAnswer, fed}
 use Rattle.card_lines.specs.Calls.{Held, leaves, writesAll, takesAll, leavesAll}
 use Rattle.card_lines.proofs.OutputLines.{NoNewline, join-no-newline, output-newline, output-none, output-last}
 use Rattle.card_lines.proofs.Pieces.{first-no-newline, all-first}
@@ -108,7 +108,7 @@ module _ (h : Held) (piece q : List ℕ) (holds : Holds h q) where
   after-long = longer h q holds first
 
   open-holds : endsLine piece ≡ false → Holds (leaves h piece) (q ++ piece)
-  unfolding leaves lineAfter
+  unfolding leaves lineAfter fed
   open-holds e =
       let all = all-first piece e in
       let count = open-held (h .line) (h .held) piece e in
@@ -128,7 +128,7 @@ module _ (h : Held) (piece q : List ℕ) (holds : Holds h q) where
       record { line = q ++ piece; holds = open-holds e; prints = λ rest. ap output (sym (append-assoc q piece rest)) }
 
   newline-holds : endsLine piece ≡ true → Holds (leaves h piece) []
-  unfolding leaves NoNewline
+  unfolding leaves fed NoNewline
   newline-holds e =
       let none = newline-held (h .line) (h .held) piece e in
       record { long = after-long; count = none; bytes = ap (λ (n : ℕ). take n (leaves h piece .line)) none; no-newline = tt }

@@ -6,7 +6,7 @@ use lib.Dec.{ltb}
 use lib.ListN.{length, drop}
 use Rattle.basics.specs.Logic.{if_then_else_}
 use Rattle.card.specs.Answer.{longestAnswer}
-use Rattle.card_lines.specs.Stream.{writes, takes, heldAfter, lineAfter, lastAnswer}
+use Rattle.card_lines.specs.Stream.{writes, takes, lineAfter, fed, lastAnswer}
 use Rattle.card_lines.specs.declared.Fed.{Fed}
 
 -- the line in progress: its places, and how many bytes it has
@@ -18,7 +18,7 @@ pub record Held : Type 0 where
 
 -- the line in progress that a call leaves
 unfoldable pub leaves : Held → List ℕ → Held
-leaves h piece = record { line = lineAfter (h .line) (h .held) piece; held = heldAfter (h .held) piece }
+leaves h piece = record { line = lineAfter (h .line) (h .held) piece; held = fed (h .line) (h .held) piece .held }
 
 -- what the calls write, in order
 unfoldable pub writesAll : Held → List (List ℕ) → List ℕ
@@ -86,8 +86,11 @@ pub record Kept : Type 0 where
   pub line : List ℕ
   pub last : Fed
 
+abbrev pub keptOf : List ℕ → Fed → Kept
+keptOf line last = record { line = line; last = last }
+
 abbrev pub startKept : List ℕ → Kept
-startKept line = record { line = line; last = startFed }
+startKept line = keptOf line startFed
 
 unfoldable pub nextKept : Kept → Kept
 nextKept s = record { line = s .line; last = nextFed (s .last) }

@@ -14,13 +14,14 @@ use Rattle.field.specs.Field.{isElement}
 use Rattle.words.specs.Words.{isAbsorb, lengthOf, phaseOf}
 use Rattle.pattern.specs.Pattern.{join, merge, phases}
 use Rattle.pattern.specs.Opening.{Opening}
+use Rattle.tag.specs.TagString.{tagString}
 use Rattle.counters.specs.Permutations.{blockCount}
 use Rattle.session.specs.Calls.{start, absorb, squeeze, squeezeBuffer, finish}
 use Rattle.session.specs.declared.Session.{Session}
 use Rattle.runs.specs.Calls.{Call, ABSORB, SQUEEZE, FINISH, answered, accepts, left, leftBy, absorbedIn, absorbed, squeezedIn, squeezed}
 use Rattle.runs.specs.Blocks.{eights, blocks, blockTotal, heldBy}
 use Rattle.runs.specs.Lengths.{absorbLength, squeezeLength}
-use Rattle.runs.specs.Runs.{Run, startedOf, patternOf, absorbedOf, squeezedOf, blocksOf}
+use Rattle.runs.specs.Runs.{Run, startedOf, tagOf, patternOf, absorbedOf, squeezedOf, blocksOf, permutationsOf}
 use Rattle.runs.proofs.Compared.{all-absorbed, all-squeezed}
 use Rattle.runs.proofs.BlockLists.{blocks-long, blocks-total, blocks-held}
 use Rattle.runs.proofs.EnclosedCalls.{enclosed, calls-inside, refused-first}
@@ -69,14 +70,35 @@ unfolding squeezeBuffer squeezedIn accepts answered
 accepted-is-squeezed r buffer =
     (λ e. if-true _ _ _ (eq-eqb _ _ e) ∙ sym (if-true _ _ _ (eq-eqb _ _ e)), λ n. if-false _ _ _ (ne-eqb _ _ n))
 
--- The first call of a list, and the others on the record that it leaves. An ABSORB squeezes nothing, a SQUEEZE absorbs nothing, and FINISH
--- does neither.
+-- The first call of a list, and the others on the record that it leaves.
 pub call-by-call : (r : Session) (c : Call) (cs : List Call)
     → (leftBy r (c ∷ cs) ≡ leftBy (answered r c .session) cs)
     × (absorbed r (c ∷ cs) ≡ absorbedIn r c ++ absorbed (answered r c .session) cs)
     × (squeezed r (c ∷ cs) ≡ squeezedIn r c ++ squeezed (answered r c .session) cs)
 unfolding leftBy absorbed squeezed left
 call-by-call r c cs = (refl, refl, refl)
+
+-- An ABSORB squeezes nothing, a SQUEEZE absorbs nothing, and FINISH does neither.
+pub other-calls-add-none : (r : Session) (xs : List ℕ) (n : ℕ)
+    → (squeezedIn r (ABSORB xs) ≡ []) × (absorbedIn r (SQUEEZE n) ≡ []) × (absorbedIn r FINISH ≡ []) × (squeezedIn r FINISH ≡ [])
+unfolding absorbedIn squeezedIn
+other-calls-add-none r xs n = (refl, refl, refl, refl)
+
+-- The record that a call leaves; and no call leaves the record, and adds nothing.
+pub no-call-adds-none : (r : Session) (c : Call)
+    → (left r c ≡ answered r c .session) × (leftBy r [] ≡ r) × (absorbed r [] ≡ []) × (squeezed r [] ≡ [])
+unfolding leftBy absorbed squeezed left
+no-call-adds-none r c = (refl, refl, refl, refl)
+
+-- What is compared of a run: its tag string and pattern, by what START got; and by the whole list of calls on the record that START gave, what is
+-- absorbed and squeezed, the blocks, and the count that FINISH finds.
+pub compared : (a : Run)
+    → let r = start (a .opening) .session in
+    let cs = a .before ++ (FINISH ∷ []) in
+    let ps = phases (a .opening .words) in
+    (tagOf a ≡ tagString (a .opening)) × (patternOf a ≡ ps) × (absorbedOf a ≡ absorbed r cs) × (squeezedOf a ≡ squeezed r cs)
+    × (blocksOf a ≡ blocks ps (absorbed r cs)) × (permutationsOf a ≡ leftBy r (a .before) .permutations)
+compared a = (refl, refl, refl, refl, refl, refl)
 
 -- ---- what is absorbed and squeezed
 

@@ -12,13 +12,13 @@ use Rattle.poseidon_tables.proofs.Entries as entries
 use Rattle.poseidon.specs.Permutation.{matrix, permutation, babyBear}
 use Rattle.poseidon.proofs.Bounds.{permutation-state}
 use Rattle.poseidon.proofs.Matrix as rows
-use Rattle.generator.specs.Generator.{generated}
+use Rattle.generator.specs.Generator.{firstRegister, found, generated}
 use Rattle.generated_table.specs.GeneratedTable as table
 use Rattle.keccak_tables.specs.Tables.{offsets, roundConstants}
 use Rattle.keccak_tables.specs.TableRules.{offsetsByRule, roundConstantsByRule}
 use Rattle.keccak_tables.proofs.TablesByRule as rules
-use Rattle.sha3.specs.Sponge.{padded}
-use Rattle.sha3.proofs.Padding.{padding, padded-bytes}
+use Rattle.sha3.specs.Sponge.{padded, padding}
+use Rattle.sha3.proofs.Padding.{padded-bytes}
 
 -- "p = 2013265921 = 15 × 2^27 + 1."
 pub p-by-power-of-two : p ≡ 15 * 2 ^ 27 + 1
@@ -45,7 +45,9 @@ pub constants-are-elements : (length constants ≡ 696) × Below p constants
 constants-are-elements = (entries.constants-length, entries.constants-reduced)
 
 -- "The 696 round constants come from Poseidon's Grain generator.": it finds 696, and leaves the table.
-pub table-generated : (length generated ≡ 696) × (zeroPadded 696 generated ≡ constants)
+pub table-generated : let constants-found = found (firstRegister 21) p 696 262144 in
+    (length constants-found ≡ 696) × (zeroPadded 696 constants-found ≡ constants)
+unfolding generated
 table-generated = table.table-generated
 
 -- FIPS 202, 3.2.2, algorithm 2: the rotation offsets; 3.2.5, algorithms 5 and 6: the round constants

@@ -22,7 +22,7 @@ use Rattle.session.specs.Calls.{start, absorb, squeeze}
 use Rattle.session.specs.declared.Session.{Session}
 use Rattle.session.proofs.SoundRecord.{parts}
 use Rattle.counters.proofs.Bounds.{positions-bound}
-use Rattle.runs.specs.Calls.{Call, left, leftBy, absorbed, squeezed, withState}
+use Rattle.runs.specs.Calls.{Call, left, leftBy, absorbed, squeezed}
 use Rattle.runs.specs.Lengths.{absorbLength}
 use Rattle.runs.specs.Runs.{Run, absorbedOf, permutationsOf}
 use Rattle.runs.proofs.SoundCalls.{sound-left}
@@ -83,7 +83,22 @@ every-end-is-reached o e =
 pub sound-records-are-reached : (r : Session) → Below 4294967296 (r .words) → length (r .words) ≡ 64
     → r .status ≡ opened → sound r ≡ true
     → let o = opening (take (r .count) (r .words)) [] in
-    (start o .number ≡ accepted) × ((cs : List Call) × (withState (r .state) (leftBy (start o .session) cs) ≡ r))
+    (start o .number ≡ accepted)
+    × ((cs : List Call)
+    × (let t = leftBy (start o .session) cs in
+    (_≡_ {A = Session}
+    (record {
+      status = t .status;
+      state = r .state;
+      words = t .words;
+      count = t .count;
+      phase = t .phase;
+      done = t .done;
+      «absorb_position» = t .«absorb_position»;
+      «squeeze_position» = t .«squeeze_position»;
+      permutations = t .permutations;
+    })
+    r)))
 sound-records-are-reached r fits long opens e = (pattern-opens r fits (parts r e), record-reached r fits (parts r e) opens long)
 
 -- "an absorb and a squeeze position (0 to 8)": neither position of a sound record is above 8.

@@ -35,7 +35,7 @@ padded-long xs =
 eights-long : (n : ℕ) (xs : List ℕ) → all (λ b. eqb (length b) 8) (eights n xs) ≡ true
 unfolding all eights
 eights-long zero xs = refl
-eights-long (suc n) xs = and-both _ _ (eq-eqb _ 8 (padded-long xs)) (eights-long n (drop 8 xs))
+eights-long (suc n) xs = and-both _ _ (eq-eqb _ 8 (padded-long xs)) (eights-long n _)
 
 -- the last block of a phase, and one that others follow
 last-held : (xs rest : List ℕ) → length xs ≤ 8 → take (length xs) (zeroPadded 8 (take 8 xs) ++ rest) ≡ xs

@@ -25,7 +25,7 @@ use Rattle.session.specs.Record.{opened}
 use Rattle.session.specs.Calls.{start}
 use Rattle.session.specs.declared.Session.{Session}
 use Rattle.session.proofs.SoundRecord.{Sound, parts, element-left, none-done}
-use Rattle.runs.specs.Calls.{Call, leftBy, withState}
+use Rattle.runs.specs.Calls.{Call, leftBy}
 use Rattle.runs.proofs.Opened.{accepted-start, sound-run}
 use Rattle.runs.proofs.SamePattern.{same-left-by}
 use Rattle.runs.proofs.Counted.{start-words, start-count}
@@ -75,8 +75,21 @@ module _ (r : Session) (fits : Below 4294967296 (r .words)) (s : Sound r) where
 
   module _ (opens : r .status ≡ opened) (places : length (r .words) ≡ 64) where
     -- the record that calls lead to, with the state of this one, is this one
-    pub record-reached : (cs : List Call) × (withState (r .state) (leftBy (start (opening pattern []) .session) cs) ≡ r)
-    unfolding withState
+    pub record-reached : (cs : List Call)
+        × (let t = leftBy (start (opening pattern []) .session) cs in
+        (_≡_ {A = Session}
+        (record {
+          status = t .status;
+          state = r .state;
+          words = t .words;
+          count = t .count;
+          phase = t .phase;
+          done = t .done;
+          «absorb_position» = t .«absorb_position»;
+          «squeeze_position» = t .«squeeze_position»;
+          permutations = t .permutations;
+        })
+        r))
     record-reached =
         let cs = reached .0 in
         let at = reached .1 in

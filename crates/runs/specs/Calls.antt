@@ -57,18 +57,3 @@ squeezedIn r FINISH = []
 unfoldable pub squeezed : Session → List Call → List ℕ
 squeezed r [] = []
 squeezed r (c ∷ cs) = squeezedIn r c ++ squeezed (left r c) cs
-
--- a record with another state, and all else as it was
-unfoldable pub withState : List ℕ → Session → Session
-withState state r =
-    record {
-      status = r .status;
-      state = state;
-      words = r .words;
-      count = r .count;
-      phase = r .phase;
-      done = r .done;
-      «absorb_position» = r .«absorb_position»;
-      «squeeze_position» = r .«squeeze_position»;
-      permutations = r .permutations;
-    }

@@ -12,13 +12,7 @@ use lib.Seq.{getD-append-add, getD-at}
 use Rattle.basics.specs.Lists.{tabulate, sum}
 use Rattle.basics.proofs.Fill.{tabulate-cons, tabulate-same}
 use Rattle.basics.proofs.Sums.{sum-same}
-use Rattle.sha3.specs.Sponge.{bytes, pad10*1, padded}
-
--- k bytes of padding, as table 6 of B.2 writes them
-unfoldable pub padding : ℕ → List ℕ
-padding zero = []
-padding (suc zero) = 0x86 ∷ []
-padding (suc (suc k)) = 0x06 ∷ replicate k 0 ++ (0x80 ∷ [])
+use Rattle.sha3.specs.Sponge.{bytes, pad10*1, padded, padding}
 
 -- past the first eight bits
 past-eight : (first bits : List ℕ) → length first ≡ 8 → (i k : ℕ) → getD (first ++ bits) (8 * suc i + k) 0 ≡ getD bits (8 * i + k) 0

@@ -17,6 +17,12 @@ pad10*1 x m = 1 ∷ replicate ((x - (m + 2) % x) % x) 0 ++ (1 ∷ [])
 unfoldable pub padded : List ℕ → List ℕ
 padded m = m ++ bytes (0 ∷ 1 ∷ pad10*1 1088 (8 * length m + 2))
 
+-- B.2, table 6: k bytes of padding. That `padded` ends in these is a theorem (`claims/Primitives.padding-by-bytes`).
+unfoldable pub padding : ℕ → List ℕ
+padding zero = []
+padding (suc zero) = 0x86 ∷ []
+padding (suc (suc k)) = 0x06 ∷ replicate k 0 ++ (0x80 ∷ [])
+
 -- 3.1.2, B.1: the lane that eight bytes from the byte k on make up, lowest byte first (little-endian)
 unfoldable pub laneAt : List ℕ → ℕ → ℕ
 laneAt s k = sum 8 (λ j. getD s (k + j) 0 * 2 ^ (8 * j))
