@@ -24,7 +24,7 @@ from collections import namedtuple
 import figures
 from figures import CLAIMS, letters
 from public import Unreadable, items
-from tree import crates, depends, files, read, report, trials, write
+from tree import crates, depends, files, not_listed, read, report, trials, write
 
 README, ARCHITECTURE = "README.md", "docs/ARCHITECTURE.md"
 DOCUMENTS = [README] + files("docs/*.md")
@@ -75,9 +75,16 @@ def public_functions():
     return [function for crate in crates() for function in functions(crate)]
 
 
+def promised(crate):
+    """The functions of a program that have an `ensures`: no contract is about the program, so these are what it rests on."""
+    program = files(f"crates/{crate}/src/main.rt")
+    return [item for item in items(crate) if program and item.kind == "fn" and "ensures" in item.words]
+
+
 def contracts():
-    """Public functions and statements, crate by crate."""
-    return list(dict.fromkeys(name for crate in crates() for name in [*(function.name for function in functions(crate)), *statements(crate)]))
+    """Public functions, those of a program that promise something, and statements, crate by crate."""
+    return list(dict.fromkeys(name for crate in crates()
+                              for name in [*(function.name for function in functions(crate) + promised(crate)), *statements(crate)]))
 
 
 # ---- what the documents have from the tree
@@ -199,7 +206,7 @@ def misplaced():
 
 def findings():
     try:
-        return [*untried()] or [*not_written(), *misplaced(), *not_found(), *figures.findings()]
+        return [*not_listed(), *untried()] or [*not_written(), *misplaced(), *not_found(), *figures.findings()]
     except Unreadable as error:
         return [str(error)]
 
@@ -221,7 +228,9 @@ def mistakes():
         ("crates/field/src/lib.rt", "\npub fn ", "\npub fn untold() {}\n\npub fn ", "fewer than two edits of field::untold"),
         *public_mistakes(),
         *figures.MISTAKES,
-        ("crates.txt", "field: basics\n", "", "passed, 0 failed"),
+        ("crates.txt", "field: basics\n", "", "not in crates.txt: field"),
+        ("crates.txt", "field: basics\n", " field: basics\n", "not read:  field: basics"),
+        ("crates.txt", "field: basics\n", "field : basics\n", "not read: field : basics"),
         ("crates.txt", "\nwords: basics\n", "\nwords: basics tag\n", "words depends on tag"),
         (ARCHITECTURE, "| `words` |", "| one word |", "no line or no place for words"),
         (ARCHITECTURE, "poseidon   keccak ", "keccak ", "no line or no place for poseidon"),
@@ -240,7 +249,9 @@ def public_mistakes():
         put(f"mod inner {{\n{export}{asks}{says}{{}}\n}}", "field::inner::untold is public and has a `requires`"),
         put(f"mod inner {{\npub fn untold()\n{asks}{says}{{}}\n}}\npub use inner::untold;", "field::inner::untold is public and has a `requires`"),
         put(f"pub fn untold()\n    ghost {{ ℕ }}\n{says}{{}}", "field::untold is public and has a `ghost`"),
-        put("mod inner {\npub fn untold() {}\n}\npub use inner::{untold as told};", "field::inner::untold is public and has no `ensures`"),
+        put("mod inner {\npub fn untold() {}\n}\npub use inner::{untold as told};", "a `use` under another name"),
+        put("pub use basics::ACCEPTED as MODULUS;", "a `use` under another name"),
+        put("pub enum Figure { Modulus = 17 }", "an enum whose cases have numbers: Figure"),
         put(f"mod inner {{\npub fn untold()\n{says}{{}}\n}}\npub use inner::untold;", "fewer than two edits of field::inner::untold"),
         put(f"{method}{asks}{says}{{}}\n}}", "field::Other::untold is public and has a `requires`"),
         put("pub use std::num::wrapping_add_u32;", "a `pub use` of something outside of the tree"),

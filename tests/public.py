@@ -4,7 +4,7 @@ Public is whatever has `pub`, in a private module too, since a `pub use` anywher
 function can give a value of that type. `pub(crate)` is not public, and no `pub use` brings it out. A function with `#[no_mangle]` or
 `extern "C"` is public whatever else it has. A program has no callers, so nothing in it is public.
 
-A form that is not read here is an error, so that nothing public is passed over. The word `fn` is an error too in every part that is skipped.
+A form that is not read here is an error, so that nothing public is passed over; so is a `use` under another name, by which a constant could have two. The word `fn` is an error too in every part that is skipped.
 """
 import functools
 import re
@@ -131,9 +131,13 @@ def items_of(words, prefix, module):
             begin = behind(words, here, {"="} if kind == "const" else {"use"}) + 1
             end = behind(words, begin, {";"})
             found, at = words[begin:end], end + 1
+            if kind == "use" and "as" in found:
+                raise Unreadable(f"a `use` under another name: {' '.join(found)}")
         elif kind in ("struct", "enum", "type"):
             end = behind(words, here, {";", "{"})
             found, at = [], behind_group(words, end)
+            if kind == "enum" and "=" in words[end:at]:
+                raise Unreadable(f"an enum whose cases have numbers: {name}")
         elif kind in ("mod", "impl"):
             begin = behind(words, here, {";", "{"})
             name, at = owner(words[here + 1:begin]), behind_group(words, begin, functions=True)

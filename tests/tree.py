@@ -34,6 +34,12 @@ def crates():
     return list(depends())
 
 
+def not_listed():
+    """Lines of crates.txt that are not read as a crate, and folders of crates that no line is of: the tests would pass these over."""
+    yield from (f"crates.txt: not read: {line}" for line in read("crates.txt").splitlines() if not re.fullmatch(r"(#.*)?|\w+:( \w+)*", line))
+    yield from (f"not in crates.txt: {crate}" for crate in sorted({path.split("/")[1] for path in files("crates/*/*")} - set(crates())))
+
+
 def replaced(path, old, new):
     text = read(path)
     assert old in text, f"{path} has no {old!r}"

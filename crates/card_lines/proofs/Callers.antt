@@ -1,6 +1,6 @@
 -- A caller of `answer_lines`: each call takes something, and all calls together print the output of the whole input.
 -- Assumes nothing.
-use mathlib.Core.Path.{_≡_, refl, sym, ap, _∙_}
+use mathlib.Core.Path.{_≡_, refl, sym, ap, subst, _∙_}
 use mathlib.Core.Bool.{true, false}
 use mathlib.Core.List.{List, [], _∷_, _++_, append-nil}
 use Prim.Native.Nat.{ℕ, zero, suc, _+_, _≤_, _<_}
@@ -14,7 +14,7 @@ use Rattle.basics.proofs.Cases.{cases, if-true, if-false}
 use Rattle.card_lines.specs.Lines.{output}
 use Rattle.card_lines.specs.Stream.{takes}
 use Rattle.card_lines.specs.Calls.{leaves, takesAll, outputPlaces, feedings, heldOf, feedingsOf, answeredText, answeredLine, answeredFed}
-use Rattle.card_lines.specs.Calls.{Kept, nextKept, keptAfter, pieceText, pieceKept, textOfPieces}
+use Rattle.card_lines.specs.Calls.{Kept, keptOf, nextKept, keptAfter, pieceText, pieceKept, textOfPieces}
 use Rattle.card_lines.specs.declared.Fed.{Fed}
 use Rattle.card_lines.proofs.Progress.{takes-some}
 use Rattle.card_lines.proofs.Cutting.{Holds, Continues, stays, goes-on, all-continue, last-line}
@@ -94,7 +94,7 @@ pub record Reaches (whole s : Kept) (piece : List ℕ) : Type 0 where
 pub reaches-start : (s : Kept) (piece : List ℕ) → Reaches (pieceKept (length piece) s piece) s piece
 reaches-start s piece = record { calls = length piece; enough = omega arith; same = refl }
 
-pub reaches-next : {whole : Kept} (s : Kept) (piece : List ℕ) → Reaches whole s piece → s .last .used < length piece → Reaches whole (keptAfter s piece) piece
+reaches-next : {whole : Kept} (s : Kept) (piece : List ℕ) → Reaches whole s piece → s .last .used < length piece → Reaches whole (keptAfter s piece) piece
 reaches-next {whole} s piece r h = one-fewer (r .calls) (r .enough) (r .same)
   where
     one-fewer : (k : ℕ) → length piece ≤ k + s .last .used → whole ≡ pieceKept k s piece → Reaches whole (keptAfter s piece) piece
@@ -102,6 +102,13 @@ reaches-next {whole} s piece r h = one-fewer (r .calls) (r .enough) (r .same)
     one-fewer (suc k) l e =
         let more = lt-ltb (s .last .used) (length piece) h in
         record { calls = k; enough = fewer k s piece more l; same = e ∙ kept-more k s piece more }
+
+-- the same from what a call gives and leaves
+pub reaches-answered : {whole : Kept} (line : List ℕ) (last : Fed) (piece line′ : List ℕ) (next : Fed) → Reaches whole (keptOf line last) piece
+    → last .used < length piece → next ≡ answeredFed line last piece → line′ ≡ answeredLine line last piece → Reaches whole (keptOf line′ next) piece
+unfolding keptAfter
+reaches-answered {whole} line last piece line′ next r h e f =
+    subst (λ (s : Kept). Reaches whole s piece) (λ i. keptOf (sym f i) (sym e i)) (reaches-next (keptOf line last) piece r h)
 
 pub reaches-end : {whole : Kept} (s : Kept) (piece : List ℕ) → Reaches whole s piece → length piece ≤ s .last .used → s ≡ whole
 unfolding pieceKept

@@ -107,7 +107,7 @@ pub fn next_piece(last: Fed) -> Fed
 }
 
 // Answers the lines of a piece, from what the last call gave: from the place `last.used` on, until no byte is left, or the output has no room for
-// another answer. The answers stand one behind the other from the output's start on.
+// the longest answer. The answers stand one behind the other from the output's start on. A piece is used up where `last.used` is its length or more.
 pub fn answer_lines(line: &mut [u8; 2049], last: Fed, piece: &[u8], output: &mut [u8; 65536]) -> Fed
     ensures { λ r. ⌜ (r ≡ answeredFed (now (line .entry)) last (now (piece .entry))) ×
         (now (line .exit) ≡ answeredLine (now (line .entry)) last (now (piece .entry))) ×

@@ -3,8 +3,11 @@ use card_lines::Fed;
 use libc::STDERR_FILENO;
 use libc::STDIN_FILENO;
 use libc::STDOUT_FILENO;
+ghost use mathlib.Core.Path.{_≡_};
+ghost use mathlib.Core.Bool.{true};
 ghost use Prim.Native.Nat.{_≤_};
 ghost use lib.ListN.{length};
+ghost use Rattle.card_lines.specs.Calls.{keptOf, nextKept, pieceKept};
 
 // What the next call goes on with, and whether all output could be written.
 struct State {
@@ -23,8 +26,12 @@ fn write(output: &[u8], filled: usize) -> bool
     is_written
 }
 
-// Answers the lines of a piece. Answers are written together, when there is no room for another, and at the end of the piece.
-fn answer_piece(line: &mut [u8; 2049], last: Fed, piece: &[u8], output: &mut [u8; 65536]) -> State {
+// Answers the lines of a piece. Answers are written together, when there is no room for the longest one, and at the end of the piece. If all could be
+// written, what is left is what the calls on the whole piece leave.
+fn answer_piece(line: &mut [u8; 2049], last: Fed, piece: &[u8], output: &mut [u8; 65536]) -> State
+    ensures { λ r. ⌜ (r .«is_written» ≡ true → keptOf (now (line .exit)) (r .fed) ≡
+        pieceKept (length (now (piece .entry))) (nextKept (keptOf (now (line .entry)) last)) (now (piece .entry))) ⌝ }
+{
     let mut fed = card_lines::next_piece(last);
     while fed.used < piece.len() {
         let next = card_lines::answer_lines(line, fed, piece, output);

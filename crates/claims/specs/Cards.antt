@@ -1,9 +1,9 @@
--- Cards. `cardOf`, `answer`, `withNewline`, `fed`, `lineAfter`, `writes`, `answeredFed`, `answeredLine`, `answeredText`, `startFed`, `nextFed` and
--- `lastAnswer` are those that the contracts of `card_reader`, `card` and `card_lines` cite; `output` is what document 01 has the card program print
--- for a whole input.
+-- Cards. `cardOf`, `answer`, `withNewline`, `fed`, `writes`, `answeredFed`, `answeredText`, `startFed` and `lastAnswer`, and those that `leavesAll` and
+-- `textOfPieces` are made of, are what the contracts of `card_reader`, `card` and `card_lines` cite; `output` is what document 01 has the card
+-- program print for a whole input.
 use mathlib.Core.Path.{_≡_, refl, sym, ap, ap₂, _∙_}
 use mathlib.Core.List.{List, [], _∷_, _++_}
-use Prim.Native.Nat.{ℕ, _<_}
+use Prim.Native.Nat.{ℕ, _≤_, _<_}
 use lib.Dec.{lit≤}
 use lib.ListN.{length, take}
 use Rattle.basics.specs.Logic.{if_then_else_, _and_, _or_, same, all, any}
@@ -56,7 +56,13 @@ answer-to-card line separator ws c = answer-card line separator ws (grammar.card
 pub answer-to-no-card : (line : List ℕ) → NoCard line → answer line ≡ noText notCard
 answer-to-no-card line n = answer-none line (grammar.none-of line n)
 
--- "a longer line gets 14"
+-- "at most 2,048 bytes before the newline": the text of a separator and words that has no more is read as their card,
+pub cards-of-2048-bytes-are-read : (separator ws : List ℕ) → Below 256 separator → Below 4294967296 ws → length (cardText separator ws) ≤ 2048
+    → cardOf (cardText separator ws) ≡ card separator ws
+cards-of-2048-bytes-are-read separator ws bytes words short =
+    grammar.card-of (cardText separator ws) separator ws (record { short = short; bytes = bytes; words = words; text = refl })
+
+-- and "a longer line gets 14".
 pub answer-to-long-line : (line : List ℕ) → 2048 < length line → answer line ≡ noText notCard
 answer-to-long-line = answer-long
 
@@ -113,8 +119,8 @@ pub something-is-answered : (line : List ℕ) (last : Fed) (piece : List ℕ)
     → last .used < length piece → last .used < answeredFed line last piece .used
 something-is-answered = answered-some
 
--- So a caller that lends each piece to `answer_lines` until it is used up, and then calls `end`, has all of its input answered, whatever the
--- pieces;
+-- So a caller has all of its input answered, whatever the pieces, that begins with `start`, calls `next_piece` before each piece and `answer_lines`
+-- until the piece is used up, and at the end calls `end`, each with what the last call gave;
 pub output-of-pieces : (line : List ℕ) (pieces : List (List ℕ)) → length line ≡ 2049
     → textOfPieces (startKept line) pieces ≡ output (joined pieces)
 output-of-pieces line pieces long = pieces-output pieces (startKept line) [] (start-holds line long)

@@ -4,7 +4,7 @@ use mathlib.Core.Bool.{Bool, true, false}
 use mathlib.Core.List.{List, [], _∷_, _++_}
 use Prim.Native.Nat.{ℕ, _-_, _*_, _%_}
 use lib.Dec.{eqb}
-use lib.ListN.{getD, replicate}
+use lib.ListN.{length, getD, replicate}
 use Rattle.basics.specs.Logic.{if_then_else_, _and_, _or_, same, all, any}
 use Rattle.basics.specs.Lists.{tabulate, sum}
 use Rattle.basics.specs.Digits.{digits, number, numberAfter}
@@ -142,7 +142,7 @@ unfolding samplesWith b1 b2 b3 b4 b5 b6 b7 b8 b9 b10 sameList fullPermutations b
     giving inPattern recordRows callRows absorbRows finishRows wipes answerOf absorb squeeze finish answered left leftBy
 computed = refl
 
--- Every test of every sample passes.
-pub samples-hold : all (λ sample. sample) samples ≡ true
-unfolding samples started words4 words5 words6 words7
-samples-hold = (λ i. all (λ sample. sample) (samplesWith (started4 i) (started5 i) (started6 i) (started7 i))) ∙ computed
+-- Every test of every sample passes, and there are 22: two of B1, three of B2, two each of B3 to B7, four of B8, two of B9 and one of B10.
+pub samples-hold : (length samples ≡ 22) × (all (λ sample. sample) samples ≡ true)
+unfolding samples samplesWith b1 b2 b3 b4 b5 b6 b7 b8 b9 b10 started words4 words5 words6 words7
+samples-hold = (refl, (λ i. all (λ sample. sample) (samplesWith (started4 i) (started5 i) (started6 i) (started7 i))) ∙ computed)
