@@ -3,15 +3,16 @@ use mathlib.Core.Path.{_≡_, refl, sym, _∙_}
 use mathlib.Core.Bool.{true, false}
 use mathlib.Core.List.{List, [], _∷_, _++_}
 use mathlib.Core.Logic.{_≢_, _⊎_}
-use Prim.Native.Nat.{ℕ}
+use Prim.Native.Nat.{ℕ, suc}
 use borrow.Author.Tests.{eq-eqb, ne-eqb}
 use lib.Dec.{eqb}
-use lib.ListN.{length}
+use lib.ListN.{length, take, drop}
 use Rattle.basics.specs.Logic.{if_then_else_, same, all}
+use Rattle.basics.specs.Lists.{zeroPadded}
 use Rattle.basics.specs.Numbers.{accepted, elementNotReduced}
 use Rattle.basics.proofs.Cases.{if-true, if-false}
 use Rattle.field.specs.Field.{isElement}
-use Rattle.words.specs.Words.{isAbsorb, lengthOf, phaseOf}
+use Rattle.words.specs.Words.{Phase, isAbsorb, lengthOf, phaseOf}
 use Rattle.pattern.specs.Pattern.{join, merge, phases}
 use Rattle.pattern.specs.Opening.{Opening}
 use Rattle.tag.specs.TagString.{tagString}
@@ -116,6 +117,17 @@ unfolding phases merge join phaseOf isAbsorb lengthOf absorbLength squeezeLength
 lengths-of-a-pattern = (refl, refl)
 
 -- ---- blocks
+
+-- "cut the absorbed elements into the lengths of the ABSORB phases in turn, and each of those into eights from its start, its last filled up with
+-- zeros": the first phase and the others; the first block and the others.
+pub blocks-in-turn : (a : Phase) (ps : List Phase) (n : ℕ) (xs : List ℕ)
+    → (blocks [] xs ≡ [])
+    × (blocks (a ∷ ps) xs
+    ≡ (if a .absorbs then eights (blockCount (a .elements)) (take (a .elements) xs) ++ blocks ps (drop (a .elements) xs) else blocks ps xs))
+    × (eights 0 xs ≡ [])
+    × (eights (suc n) xs ≡ zeroPadded 8 (take 8 xs) ∷ eights n (drop 8 xs))
+unfolding blocks eights
+blocks-in-turn a ps n xs = (refl, refl, refl, refl)
 
 -- "A block is eight neighbouring absorbed elements": each has eight,
 pub blocks-have-eight : (a : Run) → all (λ block. eqb (length block) 8) (blocksOf a) ≡ true
