@@ -18,8 +18,8 @@
  *
  * - A pointer is aligned for its type and valid: a list's for as many items as the length after it says, every other one for its object.
  *   With length 0 a list's pointer may have any value, NULL among them: nothing is read or written through it. No other one may be NULL.
- * - What a function writes (the record, the state, out, written, words and count of tuilarder_read_tag, digest) overlaps nothing else that
- *   the call was lent. Nobody else reads or writes that, and nobody writes what the function reads, until the call returns.
+ * - What a function writes (the record, the state, out, written, words and count of tuilarder_read_tag) overlaps nothing else that the
+ *   call was lent. Nobody else reads or writes that, and nobody writes what the function reads, until the call returns.
  *
  * What a function only writes need not be set before. The library has no state of its own, so distinct records may be used by distinct
  * threads at once. The time that a call takes depends on what it is lent, and copies of a record may stay behind on the stack: nothing is
@@ -182,7 +182,7 @@ TUILARDER_ANSWER tuilarder_read_tag(const uint8_t *string, size_t length, size_t
 TUILARDER_ANSWER tuilarder_permute(uint32_t state[TUILARDER_WIDTH]);
 
 /* The SHA3-256 digest of a string of bytes. It turns nothing away. */
-void tuilarder_sha3_256(const uint8_t *data, size_t length, uint8_t digest[TUILARDER_DIGEST_LENGTH]);
+void tuilarder_sha3_256(const uint8_t *data, size_t length, uint8_t out[TUILARDER_DIGEST_LENGTH]);
 
 #undef TUILARDER_ANSWER
 

@@ -1,5 +1,5 @@
 /*
- * Calls the static library through tuilarder.h: sessions, an example of each number, empty lists, and bad records.
+ * Calls the static library through tuilarder.h: sessions, the record's fields, an example of each number, empty lists, and bad records.
  * It is meant for valgrind: most of what is lent ends where its block ends.
  */
 #include "tuilarder.h"
@@ -183,6 +183,82 @@ static void test_sample(const struct sample *sample)
     give_back(&record);
 }
 
+/* ---- the record's fields, by name */
+
+#define FIELD_WORDS {A | 3, 33, A | 13, 15}
+
+/* Calls of a session, and the place behind each by document 01's steps. Behind the fifth call, and behind the seventh, status, count and these
+   are seven different numbers. */
+static const struct place {
+    uint32_t call;
+    uint32_t phase, done, absorb_position, squeeze_position;
+    uint64_t permutations;
+} places[] = {
+    {A | 2, 0, 2, 2, 8, 0},
+    {A | 1, 1, 0, 3, 8, 0},
+    {20, 1, 20, 0, 4, 3},
+    {13, 2, 0, 0, 1, 5},
+    {A | 11, 2, 11, 3, 8, 6},
+    {A | 2, 3, 0, 5, 8, 6},
+    {13, 3, 13, 0, 5, 8},
+    {2, 4, 0, 0, 7, 8},
+};
+
+static void check_place(const struct tuilarder_session *session, const struct place *place)
+{
+    const uint32_t words[TUILARDER_MAX_WORDS] = FIELD_WORDS;
+    CHECK(session->status == 1);
+    CHECK(memcmp(session->words, words, sizeof words) == 0);
+    CHECK(session->count == 4);
+    CHECK(session->phase == place->phase);
+    CHECK(session->done == place->done);
+    CHECK(session->absorb_position == place->absorb_position);
+    CHECK(session->squeeze_position == place->squeeze_position);
+    CHECK(session->permutations == place->permutations);
+}
+
+/* The state that START gives: the eight words of the tag string's digest, of 30 bits each, behind eight zeros. The digest is that of
+   Python's hashlib. */
+static void check_first_state(const struct tuilarder_session *session)
+{
+    const uint32_t state[TUILARDER_WIDTH] = {
+        0, 0, 0, 0, 0, 0, 0, 0,
+        623774289, 539521011, 351027650, 984081605, 326586652, 53903310, 842546509, 409758037};
+    CHECK(memcmp(session->state, state, sizeof state) == 0);
+}
+
+/* Absorbs 101, 102 .. or squeezes, and compares with the state: nothing else lies there before the first permutation, and squeezed elements
+   are copies of it. */
+static void call_of_place(struct tuilarder_session *session, const struct place *place)
+{
+    uint32_t elements[20];
+    size_t length = place->call & ~A;
+    for (size_t i = 0; i < length; i++)
+        elements[i] = 101 + (uint32_t)i;
+    if (place->call & A) {
+        CHECK(tuilarder_absorb(session, elements, length) == TUILARDER_ACCEPTED);
+        CHECK(place != places || (session->state[0] == 101 && session->state[1] == 102 && session->state[2] == 0));
+    } else {
+        CHECK(tuilarder_squeeze(session, elements, length) == TUILARDER_ACCEPTED);
+        CHECK(session->state[session->squeeze_position - 1] == elements[length - 1]);
+    }
+}
+
+static void test_fields(void)
+{
+    const uint32_t words[] = FIELD_WORDS;
+    const struct place start = {0, 0, 0, 0, 0, 0};
+    struct tuilarder_session session;
+    CHECK(tuilarder_start(&session, words, 4, (const uint8_t *)"fields", 6) == TUILARDER_ACCEPTED);
+    check_place(&session, &start);
+    check_first_state(&session);
+    for (size_t i = 0; i < sizeof places / sizeof *places; i++) {
+        call_of_place(&session, &places[i]);
+        check_place(&session, &places[i]);
+    }
+    CHECK(tuilarder_finish(&session) == TUILARDER_ACCEPTED);
+}
+
 /* ---- an example of each number */
 
 /* Document 01's examples for 1 to 6, 65 words, and what is just accepted. */
@@ -352,6 +428,33 @@ static void test_read_tag(void)
     give_back(&whole);
 }
 
+/* The longest tag string, 64 words that do not merge and 256 bytes: written into as many bytes and not into one less, and read back. */
+static void test_longest_tag_string(void)
+{
+    uint32_t declared[64];
+    uint8_t wanted[512];
+    for (uint32_t k = 0; k < 64; k++) {
+        const uint8_t bytes[4] = {k % 2 ? 0x01 : 0x81, 0x02, 0x03, (uint8_t)k};
+        declared[k] = (k % 2 ? 0x01020300u : 0x81020300u) + k;
+        memcpy(wanted + 4 * k, bytes, 4);
+    }
+    for (size_t i = 0; i < 256; i++)
+        wanted[256 + i] = (uint8_t)(i * 7 + 1);
+    struct lent words = lend_copy(declared, sizeof declared), separator = lend_copy(wanted + 256, TUILARDER_MAX_SEPARATOR);
+    struct lent string = lend(TUILARDER_MAX_TAG_STRING, 0), merged = lend(TUILARDER_MAX_WORDS * sizeof(uint32_t), 0);
+    size_t number = 1;
+    CHECK(tuilarder_write_tag(words.part, 64, separator.part, 256, string.part, 511, &number) == TUILARDER_BUFFER_TOO_SHORT);
+    CHECK(number == 0);
+    CHECK(tuilarder_write_tag(words.part, 64, separator.part, 256, string.part, 512, &number) == TUILARDER_ACCEPTED);
+    CHECK(number == 512 && holds(&string, wanted) && same(&words) && same(&separator));
+    CHECK(tuilarder_read_tag(string.part, 512, 256, merged.part, &number) == TUILARDER_ACCEPTED);
+    CHECK(number == 64 && holds(&merged, declared) && same(&string));
+    give_back(&merged);
+    give_back(&string);
+    give_back(&separator);
+    give_back(&words);
+}
+
 /* The permutation of 0 to 23 is from the second implementation, in Python. */
 static void test_permute(void)
 {
@@ -503,6 +606,7 @@ int main(void)
     struct lent empty = lend(0, 0);
     for (size_t i = 0; i < sizeof samples / sizeof *samples; i++)
         test_sample(&samples[i]);
+    test_fields();
     for (size_t i = 0; i < sizeof start_examples / sizeof *start_examples; i++)
         test_start(&start_examples[i]);
     test_bad_record();
@@ -510,6 +614,7 @@ int main(void)
     test_element_and_finish();
     test_write_tag();
     test_read_tag();
+    test_longest_tag_string();
     test_permute();
     test_empty(NULL);
     test_empty(empty.part);

@@ -1,0 +1,68 @@
+/*
+ * What tuilarder.h declares, as a caller sees it: the figures of document 01 as literals, and the type of every field and function. It is
+ * only compiled. The header is taken in twice, as a program may.
+ */
+#include "tuilarder.h"
+#include "tuilarder.h"
+
+#define IS(constant, literal) _Static_assert((constant) == (literal), #constant)
+#define HAS_TYPE(expression, type) _Static_assert(_Generic((expression), type: 1, default: 0), #expression)
+
+/* "p = 2013265921 = 15 × 2^27 + 1", "rate 8, capacity 16, width 24" */
+IS(TUILARDER_PRIME, 2013265921);
+IS(TUILARDER_RATE, 8);
+IS(TUILARDER_CAPACITY, 16);
+IS(TUILARDER_WIDTH, 24);
+/* "A word has its top bit set for ABSORB"; the longest pattern, separator and tag string; FIPS 202's 256 bits */
+IS(TUILARDER_ABSORB_BIT, 2147483648);
+IS(TUILARDER_MAX_WORDS, 64);
+IS(TUILARDER_MAX_SEPARATOR, 256);
+IS(TUILARDER_MAX_TAG_STRING, 512);
+IS(TUILARDER_DIGEST_LENGTH, 32);
+/* these two are compared with and put into words and elements, so they are unsigned as those are */
+HAS_TYPE(TUILARDER_PRIME, uint32_t);
+HAS_TYPE(TUILARDER_ABSORB_BIT, uint32_t);
+
+/* "Calls turned away" */
+IS(TUILARDER_ACCEPTED, 0);
+IS(TUILARDER_WORD_COUNT_OUT_OF_RANGE, 1);
+IS(TUILARDER_WORD_LENGTH_ZERO, 2);
+IS(TUILARDER_FIRST_WORD_SQUEEZE, 3);
+IS(TUILARDER_LAST_WORD_ABSORB, 4);
+IS(TUILARDER_MERGED_LENGTH_TOO_LONG, 5);
+IS(TUILARDER_SEPARATOR_TOO_LONG, 6);
+IS(TUILARDER_RECORD_NOT_OPEN, 7);
+IS(TUILARDER_RECORD_NOT_SOUND, 8);
+IS(TUILARDER_CALL_NOT_IN_PATTERN, 9);
+IS(TUILARDER_ELEMENT_NOT_REDUCED, 10);
+IS(TUILARDER_PATTERN_NOT_DONE, 11);
+IS(TUILARDER_BUFFER_TOO_SHORT, 12);
+IS(TUILARDER_NOT_TAG_STRING, 13);
+
+#define RECORD ((struct tuilarder_session *)0)
+HAS_TYPE(RECORD->status, uint32_t);
+HAS_TYPE(&RECORD->state, uint32_t (*)[24]);
+HAS_TYPE(&RECORD->words, uint32_t (*)[64]);
+HAS_TYPE(RECORD->count, uint32_t);
+HAS_TYPE(RECORD->phase, uint32_t);
+HAS_TYPE(RECORD->done, uint32_t);
+HAS_TYPE(RECORD->absorb_position, uint32_t);
+HAS_TYPE(RECORD->squeeze_position, uint32_t);
+HAS_TYPE(RECORD->permutations, uint64_t);
+
+/* what is only read is const */
+typedef struct tuilarder_session record;
+HAS_TYPE(&tuilarder_start, uint32_t (*)(record *, const uint32_t *, size_t, const uint8_t *, size_t));
+HAS_TYPE(&tuilarder_absorb, uint32_t (*)(record *, const uint32_t *, size_t));
+HAS_TYPE(&tuilarder_squeeze, uint32_t (*)(record *, uint32_t *, size_t));
+HAS_TYPE(&tuilarder_finish, uint32_t (*)(record *));
+HAS_TYPE(&tuilarder_write_tag,
+         uint32_t (*)(const uint32_t *, size_t, const uint8_t *, size_t, uint8_t *, size_t, size_t *));
+HAS_TYPE(&tuilarder_read_tag, uint32_t (*)(const uint8_t *, size_t, size_t, uint32_t *, size_t *));
+HAS_TYPE(&tuilarder_permute, uint32_t (*)(uint32_t *));
+HAS_TYPE(&tuilarder_sha3_256, void (*)(const uint8_t *, size_t, uint8_t *));
+
+/* macros that only the header itself needs */
+#if defined TUILARDER_ANSWER || defined TUILARDER_ASSERT || defined TUILARDER_FIELD_AT
+#error "tuilarder.h leaves a macro of its own behind"
+#endif

@@ -1,0 +1,63 @@
+// Calls every function of the static library from C++: a program links only where the header gives them C's names.
+#include "tuilarder.h"
+
+#include <cstdio>
+#include <cstring>
+
+static bool failed = false;
+
+#define CHECK(condition) check(condition, __LINE__, #condition)
+
+static void check(bool holds, int line, const char *what)
+{
+    if (!holds) {
+        failed = true;
+        std::printf("%s:%d: %s\n", __FILE__, line, what);
+    }
+}
+
+// Sample B4, with 1 to 8 absorbed. The element squeezed is from the second implementation, in Python.
+static void test_session()
+{
+    const uint32_t words[2] = {TUILARDER_ABSORB_BIT | 8, 1}, elements[8] = {1, 2, 3, 4, 5, 6, 7, 8};
+    tuilarder_session session;
+    uint32_t challenge = 0;
+    CHECK(tuilarder_start(&session, words, 2, nullptr, 0) == TUILARDER_ACCEPTED);
+    CHECK(tuilarder_absorb(&session, elements, 8) == TUILARDER_ACCEPTED);
+    CHECK(tuilarder_squeeze(&session, &challenge, 1) == TUILARDER_ACCEPTED);
+    CHECK(challenge == 1413794352 && session.permutations == 1);
+    CHECK(tuilarder_finish(&session) == TUILARDER_ACCEPTED);
+    CHECK(session.status == 0);
+}
+
+// Sample B1.
+static void test_tag_string()
+{
+    const uint32_t words[3] = {0x80000003, 0x80000003, 0x00000003};
+    const uint8_t separator[2] = {0x41, 0x42}, wanted[10] = {0x80, 0, 0, 6, 0, 0, 0, 3, 0x41, 0x42};
+    uint8_t string[TUILARDER_MAX_TAG_STRING];
+    uint32_t merged[TUILARDER_MAX_WORDS];
+    std::size_t length = 0, count = 0;
+    CHECK(tuilarder_write_tag(words, 3, separator, 2, string, sizeof string, &length) == TUILARDER_ACCEPTED);
+    CHECK(length == 10 && std::memcmp(string, wanted, 10) == 0);
+    CHECK(tuilarder_read_tag(string, length, 2, merged, &count) == TUILARDER_ACCEPTED);
+    CHECK(count == 2 && merged[0] == 0x80000006 && merged[1] == 0x00000003 && merged[2] == 0);
+}
+
+// 10 for p, and the first bytes of the digest of nothing that NIST publishes.
+static void test_permutation_and_hash()
+{
+    uint32_t state[TUILARDER_WIDTH] = {2013265921};
+    uint8_t digest[TUILARDER_DIGEST_LENGTH];
+    CHECK(tuilarder_permute(state) == TUILARDER_ELEMENT_NOT_REDUCED);
+    tuilarder_sha3_256(nullptr, 0, digest);
+    CHECK(digest[0] == 0xa7 && digest[1] == 0xff && digest[2] == 0xc6);
+}
+
+int main()
+{
+    test_session();
+    test_tag_string();
+    test_permutation_and_hash();
+    return failed;
+}
