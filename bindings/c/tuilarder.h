@@ -139,6 +139,14 @@ TUILARDER_ASSERT(sizeof(size_t) == 8 && sizeof(void *) == 8);
 #undef TUILARDER_ASSERT
 
 /*
+ * What the library was compiled for: the version of its functions and of the record from bit 32 on, and below that the bytes of a record. This
+ * header is for TUILARDER_LAYOUT. A library of another version has no function of this name, so a program that compares the two links only
+ * with one of this version.
+ */
+#define TUILARDER_LAYOUT (UINT64_C(1) << 32 | 384)
+uint64_t tuilarder_layout_1(void);
+
+/*
  * START: opens a session for a pattern and a separator in the record, whatever that held. Checks 1 to 6 in number order, whichever word is
  * at fault. Refused, it leaves a wiped record. The separator names the protocol: no two of a verifier have the same, and all of them have
  * one length.

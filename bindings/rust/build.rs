@@ -1,4 +1,5 @@
-//! Links the static library: the one in `TUILARDER_ARCHIVE_DIR`, or else the one that `rt staticlib tuilarder` makes of this checkout.
+//! Links the static library: the one in `TUILARDER_ARCHIVE_DIR`, or else the one that `rt staticlib tuilarder` makes of this checkout. Either
+//! has to be of the version that the crate is written for.
 
 use std::env;
 use std::fs;
@@ -6,13 +7,21 @@ use std::io::ErrorKind;
 use std::path::{Path, PathBuf};
 use std::process::{exit, Command};
 
+/// The directory of an archive to link; empty is as not set.
+const DIRECTORY: &str = "TUILARDER_ARCHIVE_DIR";
+
+/// The function whose name says the archive's version. `src/ffi.rs` declares it.
+const LAYOUT: &str = "tuilarder_layout_1";
+
 fn main() {
-    println!("cargo:rerun-if-env-changed=TUILARDER_ARCHIVE_DIR");
+    println!("cargo:rerun-if-env-changed={DIRECTORY}");
     check_target();
-    let archive = match env::var_os("TUILARDER_ARCHIVE_DIR") {
-        Some(directory) => given(Path::new(&directory)),
-        None => built(),
+    let directory = env::var_os(DIRECTORY).filter(|directory| !directory.is_empty());
+    let (archive, origin) = match &directory {
+        Some(directory) => (given(Path::new(directory)), DIRECTORY),
+        None => (built(), "rt staticlib tuilarder"),
     };
+    check_version(&archive, origin);
     // rt removes its own output when it starts from nothing, so cargo keeps a copy with what it builds
     let kept = variable("OUT_DIR");
     let copy = Path::new(&kept).join("libtuilarder.a");
@@ -42,6 +51,19 @@ fn check_target() {
                 "the library is for x86-64 Linux only, and the target is {target}"
             ));
         }
+    }
+}
+
+/// Fails here for an archive of another version, whose functions or record may be others under the same names. `origin` says whose it is.
+fn check_version(archive: &Path, origin: &str) {
+    let path = archive.display();
+    let bytes = fs::read(archive).unwrap_or_else(|error| fail(&format!("{origin}: {path}: {error}")));
+    // in the archive's index and in an object's table of names a zero byte ends each
+    let name = format!("{LAYOUT}\0");
+    if !bytes.windows(name.len()).any(|part| part == name.as_bytes()) {
+        fail(&format!(
+            "{origin}: {path} is not of this crate's version: it has no {LAYOUT}"
+        ));
     }
 }
 

@@ -19,6 +19,9 @@ IS(TUILARDER_MAX_WORDS, 64);
 IS(TUILARDER_MAX_SEPARATOR, 256);
 IS(TUILARDER_MAX_TAG_STRING, 512);
 IS(TUILARDER_DIGEST_LENGTH, 32);
+/* version 1, and a record of 94 numbers of four bytes and one of eight */
+IS(TUILARDER_LAYOUT, 4294967296 + 94 * 4 + 8);
+HAS_TYPE(TUILARDER_LAYOUT, uint64_t);
 /* these two are compared with and put into words and elements, so they are unsigned as those are */
 HAS_TYPE(TUILARDER_PRIME, uint32_t);
 HAS_TYPE(TUILARDER_ABSORB_BIT, uint32_t);
@@ -60,6 +63,7 @@ HAS_TYPE(&tuilarder_write_tag,
          uint32_t (*)(const uint32_t *, size_t, const uint8_t *, size_t, uint8_t *, size_t, size_t *));
 HAS_TYPE(&tuilarder_read_tag, uint32_t (*)(const uint8_t *, size_t, size_t, uint32_t *, size_t *));
 HAS_TYPE(&tuilarder_permute, uint32_t (*)(uint32_t *));
+HAS_TYPE(&tuilarder_layout_1, uint64_t (*)(void));
 HAS_TYPE(&tuilarder_sha3_256, void (*)(const uint8_t *, size_t, uint8_t *));
 
 /* macros that only the header itself needs */

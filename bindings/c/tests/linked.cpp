@@ -56,6 +56,7 @@ static void test_permutation_and_hash()
 
 int main()
 {
+    CHECK(tuilarder_layout_1() == TUILARDER_LAYOUT);
     test_session();
     test_tag_string();
     test_permutation_and_hash();

@@ -240,7 +240,7 @@ static void call_of_place(struct tuilarder_session *session, const struct place 
         CHECK(place != places || (session->state[0] == 101 && session->state[1] == 102 && session->state[2] == 0));
     } else {
         CHECK(tuilarder_squeeze(session, elements, length) == TUILARDER_ACCEPTED);
-        CHECK(session->state[session->squeeze_position - 1] == elements[length - 1]);
+        CHECK(session->state[place->squeeze_position - 1] == elements[length - 1]);
     }
 }
 
@@ -604,6 +604,7 @@ static void test_bad_records(void)
 int main(void)
 {
     struct lent empty = lend(0, 0);
+    CHECK(tuilarder_layout_1() == TUILARDER_LAYOUT);
     for (size_t i = 0; i < sizeof samples / sizeof *samples; i++)
         test_sample(&samples[i]);
     test_fields();

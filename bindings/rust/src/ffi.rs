@@ -65,7 +65,15 @@ const _: () = {
     assert!(size_of::<usize>() == 8);
 };
 
+/// The version of the functions and of the record, from bit 32 on, and below it the bytes of a record: what [`tuilarder_layout_1`] answers in the
+/// library that this crate is written for.
+pub const LAYOUT: u64 = (1 << 32) | 384;
+
 extern "C" {
+    /// What the library was compiled for: [`LAYOUT`]. A library of another version has no function of this name, and the build of this crate
+    /// turns it away.
+    pub fn tuilarder_layout_1() -> u64;
+
     /// START: opens a session in the record, whatever that held. Checks 1 to 6 in number order. Refused, it leaves a wiped record.
     pub fn tuilarder_start(
         record: *mut Record,

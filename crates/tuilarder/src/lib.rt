@@ -8,6 +8,7 @@ ghost use Rattle.pattern.specs.Opening.{opening};
 ghost use Rattle.tag.specs.TagString.{written as writing, bufferAfter, readWords};
 ghost use Rattle.poseidon.specs.Permutation.{permuted};
 ghost use Rattle.session.specs.Calls.{giving, start, absorb, squeeze, squeezeBuffer, finish};
+ghost use Rattle.tuilarder.specs.Layout.{layout};
 
 // START into a lent record, whatever that held.
 #[no_mangle]
@@ -106,4 +107,19 @@ pub extern "C" fn tuilarder_sha3_256(data: &[u8], out: &mut [u8; 32])
 {
     let hashed = sha3::sha3_256(data);
     *out = hashed;
+}
+
+// The version of these functions. It rises whenever one of them, or the record, changes for a caller.
+const VERSION: u64 = 1;
+
+// The bytes of a record.
+const RECORD_BYTES: u64 = 384;
+
+// What the library was compiled for, to be compared with what its caller was. The version is in the name too, so that a caller of another one is
+// not linked.
+#[no_mangle]
+pub extern "C" fn tuilarder_layout_1() -> u64
+    ensures { λ r. ⌜ r ≡ layout ⌝ }
+{
+    VERSION * 4294967296 + RECORD_BYTES
 }
