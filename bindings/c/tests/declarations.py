@@ -2,7 +2,7 @@
 """Whether the header and Rust's declarations name the parameters of each function as the library's source does, in its order.
 
 A list of the source is a pointer and a length here: the list's name; then `length`, or with several lists `NAME_length`. Two lengths that are
-exchanged have one type, so no compiler sees it.
+exchanged have one type, so no compiler sees it. Also whether the version in the name of `tuilarder_layout_VERSION` is the one that it answers.
 """
 import re
 import sys
@@ -35,17 +35,23 @@ def rust():
     return {function: re.findall(r"(\w+): ", re.sub(r"len: ", "length: ", parameters)) for function, parameters in declarations}
 
 
-def main():
-    wanted, unequal = source(), 0
+def unequal_parameters():
+    wanted = source()
     for path, declared in ((HEADER, header()), (RUST, rust())):
         for function in sorted(wanted.keys() | declared.keys()):
             names, names_wanted = declared.get(function), wanted.get(function)
             if names != names_wanted:
-                unequal += 1
-                print(f"{path}: {function} has parameters {names}, and in {SOURCE} {names_wanted}")
-    # a source that is not read has no function to compare
-    sys.exit(unequal > 0 or not wanted)
+                yield f"{path}: {function} has parameters {names}, and in {SOURCE} {names_wanted}"
+
+
+def unequal_versions():
+    text = (ROOT / SOURCE).read_text()
+    named, answered = re.findall(r"fn tuilarder_layout_(\d+)\(", text), re.findall(r"const VERSION: u64 = (\d+);", text)
+    if len(named) != 1 or named != answered:
+        yield f"{SOURCE}: the version is {named} in a function's name, and {answered} in what it answers"
 
 
 if __name__ == "__main__":
-    main()
+    found = [*unequal_parameters(), *unequal_versions()]
+    print(*found, sep="\n", end="\n" * bool(found))
+    sys.exit(bool(found))
