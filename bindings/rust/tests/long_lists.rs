@@ -1,10 +1,12 @@
-//! Lists longer than 32 bits can count: up to 16 GiB of address space, of which hardly a page is touched.
+//! Lists longer than 32 bits can count, by the functions of `ffi` and by the crate's types: up to 32 GiB of address space, of which hardly
+//! a page is touched.
 
 use std::ffi::{c_int, c_void};
 use std::ops::{Deref, DerefMut};
 use std::{ptr, slice};
 
 use tuilarder::ffi::{self, Record};
+use tuilarder::{Call, Pattern, Refusal, Session};
 
 const LENGTH: usize = (1 << 32) + 5;
 
@@ -40,7 +42,7 @@ impl<T> Zeros<T> {
 impl<T> Deref for Zeros<T> {
     type Target = [T];
     fn deref(&self) -> &[T] {
-        // SAFETY: so many zeros are there until this is dropped, and they are integers.
+        // SAFETY: so many items of zero bytes are there until this is dropped: integers, or calls (`zeros_are_calls`).
         unsafe { slice::from_raw_parts(self.place, self.length) }
     }
 }
@@ -142,4 +144,81 @@ fn string_of_more_than_32_bits_is_no_tag_string() {
     // SAFETY: the pointers are to that many cells, and the lists are apart.
     let number = unsafe { ffi::tuilarder_read_tag(string.as_ptr(), string.len(), 0, &mut words, &mut count) };
     assert_eq!((number, words, count), (13, [0; 64], 0));
+}
+
+// By the types
+
+fn pattern() -> Pattern {
+    Pattern::from_words(&WORDS).unwrap()
+}
+
+fn session() -> Session {
+    Session::start(&pattern(), &[]).unwrap()
+}
+
+#[test]
+fn types_refuse_an_absorb_of_more_than_32_bits() {
+    let (elements, mut session) = (Zeros::<u32>::of(LENGTH), session());
+    assert_eq!(session.absorb(&elements), Err(Refusal::CallNotInPattern));
+    assert_eq!(*session.record(), Record::WIPED);
+}
+
+#[test]
+fn types_refuse_a_squeeze_of_more_than_32_bits() {
+    let (mut buffer, mut session) = (Zeros::<u32>::of(LENGTH), session());
+    session.absorb(&[1; 9]).unwrap();
+    assert_eq!(session.squeeze(&mut buffer), Err(Refusal::CallNotInPattern));
+    assert_eq!(*session.record(), Record::WIPED);
+    assert_eq!(buffer[..100], [0; 100]);
+}
+
+#[test]
+fn types_refuse_a_pattern_of_more_than_32_bits() {
+    let mut words = Zeros::<u32>::of((1 << 32) + 2);
+    words[..2].copy_from_slice(&WORDS);
+    assert_eq!(Pattern::from_words(&words), Err(Refusal::WordCountOutOfRange));
+}
+
+/// That zero bytes are a call, as a list of them has it.
+fn zeros_are_calls() {
+    assert_eq!(size_of::<Call>(), 8);
+    // SAFETY: eight bytes for eight, and a call has no padding between two numbers of four bytes.
+    let bytes: [u8; 8] = unsafe { std::mem::transmute(Call::Absorb(0)) };
+    assert_eq!(bytes, [0; 8]);
+}
+
+#[test]
+fn types_refuse_more_calls_than_32_bits() {
+    zeros_are_calls();
+    let mut calls = Zeros::<Call>::of((1 << 32) + 2);
+    calls[..2].copy_from_slice(&[Call::Absorb(9), Call::Squeeze(9)]);
+    assert_eq!(Pattern::new(&calls), Err(Refusal::WordCountOutOfRange));
+}
+
+#[test]
+fn types_refuse_a_separator_of_more_than_32_bits() {
+    let separator = Zeros::<u8>::of(LENGTH);
+    let refused = Session::start(&pattern(), &separator).map(drop);
+    assert_eq!(refused, Err(Refusal::SeparatorTooLong));
+    let mut buffer = [7; 600];
+    assert_eq!(
+        pattern().tag_string(&separator, &mut buffer),
+        Err(Refusal::SeparatorTooLong)
+    );
+    assert_eq!(buffer, [7; 600]);
+}
+
+#[test]
+fn types_write_to_a_buffer_of_more_than_32_bits() {
+    let mut out = Zeros::<u8>::of(LENGTH);
+    let string = [0x80, 0, 0, 9, 0, 0, 0, 9];
+    assert_eq!(pattern().tag_string(&[], &mut out), Ok(&string[..]));
+    assert_eq!((&out[..8], &out[8..10]), (&string[..], &[0, 0][..]));
+}
+
+#[test]
+fn types_read_no_string_of_more_than_32_bits() {
+    let mut string = Zeros::<u8>::of((1 << 32) + 8);
+    string[..8].copy_from_slice(&[0x80, 0, 0, 9, 0, 0, 0, 9]);
+    assert_eq!(Pattern::read(&string, 0), Err(Refusal::NotTagString));
 }

@@ -94,7 +94,7 @@ impl Any for Record {
 }
 
 /// A list lent to the library, between two guards of 1 to 4 cells.
-struct Lent<T> {
+pub struct Lent<T> {
     before: Vec<T>,
     cells: Vec<T>,
     front: usize,
@@ -102,7 +102,7 @@ struct Lent<T> {
 }
 
 impl<T: Any + Copy + PartialEq + Debug> Lent<T> {
-    fn new(contents: &[T], random: &mut Random) -> Lent<T> {
+    pub fn new(contents: &[T], random: &mut Random) -> Lent<T> {
         let front = 1 + random.below(4) as usize;
         let back = 1 + random.below(4) as usize;
         let mut before = random.list(front);
@@ -120,8 +120,18 @@ impl<T: Any + Copy + PartialEq + Debug> Lent<T> {
         self.cells.as_mut_ptr().wrapping_add(self.front)
     }
 
+    /// The contents, for a call that may only read.
+    pub fn part(&self) -> &[T] {
+        &self.cells[self.front..self.front + self.len]
+    }
+
+    /// The contents, for a call that may write.
+    pub fn part_mut(&mut self) -> &mut [T] {
+        &mut self.cells[self.front..self.front + self.len]
+    }
+
     /// The contents after the call.
-    fn returned(&self) -> &[T] {
+    pub fn returned(&self) -> &[T] {
         let end = self.front + self.len;
         assert_eq!(
             self.cells[..self.front],
@@ -137,7 +147,7 @@ impl<T: Any + Copy + PartialEq + Debug> Lent<T> {
     }
 
     /// After a call that may only read.
-    fn only_read(&self) {
+    pub fn only_read(&self) {
         assert_eq!(self.cells, self.before, "a list that may only be read was written");
     }
 }

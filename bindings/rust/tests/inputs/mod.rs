@@ -1,0 +1,380 @@
+//! Random inputs, most of them good and others damaged: patterns, separators, elements, calls, records and strings.
+
+// Each program that takes this file in uses only a part of it.
+#![allow(dead_code)]
+
+use crate::guarded::{Any, Random};
+use crate::independent::{self, length, ABSORB, LONGEST, MOST_WORDS, P};
+use tuilarder::ffi::Record;
+
+// Patterns and separators
+
+pub fn any_length(random: &mut Random) -> u32 {
+    match random.below(8) {
+        0 => 1,
+        1 => random.pick(&[7, 8, 9, 16, 17, 24]),
+        2 => LONGEST - random.below(20) as u32,
+        3 => 1 + random.below(u64::from(LONGEST)) as u32,
+        _ => short_length(random),
+    }
+}
+
+pub fn short_length(random: &mut Random) -> u32 {
+    1 + random.below(20) as u32
+}
+
+/// Words that alternate from ABSORB, `pairs` of each kind.
+pub fn merged_words(random: &mut Random, pairs: usize, length: fn(&mut Random) -> u32) -> Vec<u32> {
+    (0..2 * pairs)
+        .map(|k| length(random) + if k % 2 == 0 { ABSORB } else { 0 })
+        .collect()
+}
+
+pub fn pairs(random: &mut Random) -> usize {
+    random.pick(&[1, 1, 1, 2, 2, 3, 4, 8, 31, 32])
+}
+
+/// The words with some of them cut in two, up to 64 in all, which merge to the same.
+pub fn cut_words(random: &mut Random, merged: &[u32]) -> Vec<u32> {
+    let mut words = merged.to_vec();
+    for _ in 0..random.below(8) {
+        let k = random.below(words.len() as u64) as usize;
+        if words.len() < MOST_WORDS && length(words[k]) > 1 {
+            let first = 1 + random.below(u64::from(length(words[k])) - 1) as u32;
+            words.insert(k, words[k] & ABSORB | first);
+            words[k + 1] -= first;
+        }
+    }
+    words
+}
+
+/// Two words of a kind in the place of one, of a merged length at the largest or just over it.
+fn near_largest_sum(random: &mut Random, words: &mut Vec<u32>, k: usize) {
+    let first = 1 + random.below(u64::from(LONGEST)) as u32;
+    let second = LONGEST - first + random.pick(&[0, 0, 1, 2]);
+    if second > 0 {
+        words[k] = words[k] & ABSORB | first;
+        words.insert(k, words[k] & ABSORB | second.min(LONGEST));
+    }
+}
+
+fn damage_pattern(random: &mut Random, words: &mut Vec<u32>) {
+    if words.is_empty() {
+        return words.extend(random.list::<u32>(2));
+    }
+    let last = words.len() - 1;
+    let k = random.below(words.len() as u64) as usize;
+    match random.below(10) {
+        0 => words[k] &= ABSORB,
+        1 => words[0] ^= ABSORB,
+        2 => words[last] ^= ABSORB,
+        3 | 4 => near_largest_sum(random, words, k),
+        5 => words[k] = u32::any(random),
+        6 => {
+            *words = words
+                .repeat(66)
+                .split_off(66 * (last + 1) - random.pick(&[0, 1, 2, 63, 64, 65, 66]))
+        }
+        7 => {
+            let size = random.pick(&[1, 2, 3, 63, 64, 65, 66, 200]);
+            *words = random.list(size);
+        }
+        8 => drop(words.remove(k)),
+        _ => words.insert(k, words[k]),
+    }
+}
+
+/// Any pattern: most of them good, others damaged in one or several ways.
+pub fn any_pattern(random: &mut Random) -> Vec<u32> {
+    let pairs = pairs(random);
+    let merged = merged_words(random, pairs, any_length);
+    let mut words = cut_words(random, &merged);
+    for _ in 0..random.pick(&[0, 0, 0, 1, 1, 2, 3]) {
+        damage_pattern(random, &mut words);
+    }
+    words
+}
+
+pub fn any_separator(random: &mut Random) -> Vec<u8> {
+    let size = match random.below(4) {
+        0 => random.pick(&[0, 0, 1, 2, 4, 255, 256]),
+        1 => random.pick(&[0, 255, 256, 257]),
+        _ => random.below(301) as usize,
+    };
+    random.list(size)
+}
+
+pub fn good_separator(random: &mut Random) -> Vec<u8> {
+    let size = random.pick(&[0, 1, 8, 255, 256]);
+    random.list(size)
+}
+
+// Elements and calls
+
+#[derive(Clone, Debug)]
+pub enum Call {
+    Start(Vec<u32>, Vec<u8>),
+    Absorb(Vec<u32>),
+    Squeeze(Vec<u32>),
+    Finish,
+}
+
+pub fn good_element(random: &mut Random) -> u32 {
+    match random.below(8) {
+        0 => 0,
+        1 => 1,
+        2 => P - 1,
+        _ => random.below(u64::from(P)) as u32,
+    }
+}
+
+pub fn bad_element(random: &mut Random) -> u32 {
+    let any = P + random.below((1 << 32) - u64::from(P)) as u32;
+    random.pick(&[P, P + 1, u32::MAX, ABSORB, any])
+}
+
+/// Elements to absorb, at times with one or several of p or more.
+pub fn elements(random: &mut Random, size: usize) -> Vec<u32> {
+    let mut list: Vec<u32> = (0..size).map(|_| good_element(random)).collect();
+    if size > 0 && random.once_in(10) {
+        for _ in 0..random.pick(&[1, 1, 1, 2, 20]) {
+            list[random.below(size as u64) as usize] = bad_element(random);
+        }
+    }
+    list
+}
+
+pub fn call_of(random: &mut Random, absorbing: bool, size: usize) -> Call {
+    if absorbing {
+        Call::Absorb(elements(random, size))
+    } else {
+        Call::Squeeze(random.list(size))
+    }
+}
+
+/// Of the phase where a record is: whether it absorbs, and how many elements are left. None where there is no phase.
+pub fn phase_of(record: &Record) -> Option<(bool, u32)> {
+    let word = record.words.get(record.phase as usize)?;
+    let left = length(*word).saturating_sub(record.done);
+    (record.phase < record.count && left > 0).then_some((word & ABSORB != 0, left))
+}
+
+/// A call that the phase has room for.
+pub fn fitting_call(random: &mut Random, absorbing: bool, left: u32) -> Call {
+    let most = left.min(40);
+    let any = random.below(u64::from(most) + 1) as u32;
+    let size = random
+        .pick(&[0, 1, 7, 8, 9, 16, most, most, most, any, any, any])
+        .min(most);
+    call_of(random, absorbing, size as usize)
+}
+
+/// Any call: of the wrong kind, one past the phase's end, of any length, or FINISH.
+pub fn any_call(random: &mut Random, record: &Record) -> Call {
+    let (absorbing, left) = phase_of(record).unwrap_or((random.once_in(2), 3));
+    let size = random.pick(&[0, 1, 7, 8, 9, 16, left.min(100) as usize]);
+    match random.below(5) {
+        0 => Call::Finish,
+        1 => call_of(random, !absorbing, size),
+        2 => call_of(random, absorbing, left.min(100) as usize + 1),
+        3 => call_of(random, absorbing, size),
+        _ => fitting_call(random, absorbing, left),
+    }
+}
+
+/// A call that goes on with the session, or, once in so many times and on a closed record, any.
+pub fn next_call(random: &mut Random, record: &Record, any_once_in: u64) -> Call {
+    if record.status != 1 || random.once_in(any_once_in) {
+        return any_call(random, record);
+    }
+    match phase_of(record) {
+        Some((absorbing, left)) => fitting_call(random, absorbing, left),
+        None => Call::Finish,
+    }
+}
+
+// Records
+
+/// A record with any state at a place of a word list, with the positions and the count that the steps give there.
+pub fn record_at(random: &mut Random, words: &[u32], phase: usize, done: u32) -> Record {
+    let place = independent::place(words, phase, done);
+    Record {
+        status: 1,
+        state: std::array::from_fn(|_| good_element(random)),
+        words: std::array::from_fn(|k| words.get(k).copied().unwrap_or(0)),
+        count: words.len() as u32,
+        phase: phase as u32,
+        done,
+        absorb_position: place.absorb_position,
+        squeeze_position: place.squeeze_position,
+        permutations: place.permutations,
+    }
+}
+
+/// A place of a word list: a phase and the elements done in it. Near either end of the phase, or anywhere.
+fn any_place(random: &mut Random, words: &[u32]) -> (usize, u32) {
+    let phase = match random.below(6) {
+        0 => 0,
+        1 => words.len(),
+        _ => random.below(words.len() as u64 + 1) as usize,
+    };
+    let Some(size) = words.get(phase).map(|word| length(*word)).filter(|size| *size > 0) else {
+        return (phase, 0);
+    };
+    let near = random.below(40) as u32;
+    let anywhere = random.below(u64::from(size)) as u32;
+    (
+        phase,
+        random
+            .pick(&[0, near, size - 1 - near.min(size - 1), anywhere])
+            .min(size - 1),
+    )
+}
+
+pub fn sound_record(random: &mut Random) -> Record {
+    let pairs = pairs(random);
+    let words = merged_words(random, pairs, any_length);
+    let (phase, done) = any_place(random, &words);
+    record_at(random, &words, phase, done)
+}
+
+/// A number near another one, or far off.
+fn changed(random: &mut Random, number: u32) -> u32 {
+    let any = u32::any(random);
+    let flipped = number ^ 1 << random.below(32);
+    let step = random.pick(&[1, 2, 8]);
+    random.pick(&[
+        number.wrapping_add(step),
+        number.wrapping_sub(step),
+        flipped,
+        any,
+        0,
+        u32::MAX,
+    ])
+}
+
+pub type Damage = (&'static str, fn(&mut Random, &mut Record));
+
+/// Ways to change one field.
+pub const FIELD_DAMAGES: [Damage; 10] = [
+    ("status", |random, record| {
+        record.status = random.pick(&[0, 2, 3, ABSORB + 1, u32::MAX])
+    }),
+    ("state", |random, record| {
+        record.state[random.below(24) as usize] = bad_element(random)
+    }),
+    ("any word", |random, record| {
+        let k = random.below(64) as usize;
+        record.words[k] = changed(random, record.words[k]);
+    }),
+    ("unused word", |random, record| {
+        let k = random.pick(&[record.count as usize % 64, 63]);
+        record.words[k] = record.words[k].wrapping_add(random.pick(&[1, ABSORB, ABSORB + 1]));
+    }),
+    ("count", |random, record| {
+        let near = changed(random, record.count);
+        record.count = random.pick(&[near, near, 0, 1, 2, 62, 63, 64, 65, 66]);
+    }),
+    ("phase", |random, record| record.phase = changed(random, record.phase)),
+    ("done", |random, record| record.done = changed(random, record.done)),
+    ("absorb position", |random, record| {
+        let near = changed(random, record.absorb_position);
+        record.absorb_position = random.pick(&[near, near, 0, 7, 8, 9]);
+    }),
+    ("squeeze position", |random, record| {
+        let near = changed(random, record.squeeze_position);
+        record.squeeze_position = random.pick(&[near, near, 0, 7, 8, 9]);
+    }),
+    ("permutations", |random, record| {
+        let (any, bit) = (u64::any(random), 1 << random.below(64));
+        let (more, fewer) = (record.permutations.wrapping_add(1), record.permutations.wrapping_sub(1));
+        record.permutations = random.pick(&[more, fewer, record.permutations ^ bit, any, u64::MAX]);
+    }),
+];
+
+/// Moves a record to a place of other words, so that all but the words or the place itself is as it should be.
+fn put_at(random: &mut Random, record: &mut Record, words: &[u32]) {
+    let (phase, done) = any_place(random, words);
+    *record = record_at(random, words, phase, done);
+}
+
+fn used_words(record: &Record) -> Vec<u32> {
+    record.words[..record.count as usize].to_vec()
+}
+
+/// Ways to break a condition of soundness and to keep the positions and the count that the steps give at the place.
+/// None of them leaves a sound record.
+pub const CONDITION_DAMAGES: [Damage; 9] = [
+    ("no words", |random, record| put_at(random, record, &[])),
+    ("first word missing", |random, record| {
+        put_at(random, record, &used_words(record)[1..])
+    }),
+    ("last word missing", |random, record| {
+        put_at(random, record, &used_words(record)[..record.count as usize - 1])
+    }),
+    ("all kinds exchanged", |random, record| {
+        let words: Vec<u32> = used_words(record).iter().map(|word| word ^ ABSORB).collect();
+        put_at(random, record, &words);
+    }),
+    ("one kind exchanged", |random, record| {
+        let mut words = used_words(record);
+        words[random.below(u64::from(record.count)) as usize] ^= ABSORB;
+        put_at(random, record, &words);
+    }),
+    ("length 0", |random, record| {
+        let mut words = used_words(record);
+        words[random.below(u64::from(record.count)) as usize] &= ABSORB;
+        put_at(random, record, &words);
+    }),
+    ("phase past the count", |random, record| {
+        let words = used_words(record);
+        *record = record_at(random, &words, words.len(), 0);
+        record.phase += random.pick(&[1, 2, 64]);
+    }),
+    ("done at the phase's end", |random, record| {
+        let words = used_words(record);
+        let phase = random.below(words.len() as u64) as usize;
+        *record = record_at(random, &words, phase, length(words[phase]));
+    }),
+    ("done after the last phase", |random, record| {
+        let words = used_words(record);
+        *record = record_at(random, &words, words.len(), 0);
+        record.done = random.pick(&[1, 8, LONGEST, u32::MAX]);
+    }),
+];
+
+pub fn damage_fields(random: &mut Random, record: &mut Record) {
+    for _ in 0..random.pick(&[1, 1, 1, 2, 3]) {
+        random.pick(&FIELD_DAMAGES).1(random, record);
+    }
+}
+
+/// Any contents, at times with some fields of likely sizes.
+pub fn any_record(random: &mut Random) -> Record {
+    let mut record = Record::any(random);
+    record.status = random.pick(&[1, 1, 1, 1, record.status]);
+    if random.once_in(2) {
+        record.state = std::array::from_fn(|_| good_element(random));
+        record.count = 2 + random.below(64) as u32;
+        record.phase = random.below(u64::from(record.count)) as u32;
+        record.absorb_position = random.below(10) as u32;
+        record.squeeze_position = random.below(10) as u32;
+    }
+    record
+}
+
+// Strings
+
+pub fn damage_string(random: &mut Random, string: &mut Vec<u8>) {
+    let k = random.below(string.len() as u64 + 1) as usize;
+    match random.below(5) {
+        0 => string.truncate(k),
+        1 => string.insert(k, u8::any(random)),
+        2 if k < string.len() => string[k] ^= 1 << random.below(8),
+        3 if k < string.len() => string[k] = 0,
+        _ => {
+            let size = random.below(10) as usize;
+            string.extend(random.list::<u8>(size));
+        }
+    }
+}

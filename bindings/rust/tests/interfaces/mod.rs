@@ -1,0 +1,250 @@
+//! The same calls by three: the functions of `ffi`, the crate's types, and the independent implementation.
+
+// Each program that takes this file in uses only a part of it.
+#![allow(dead_code)]
+
+use crate::guarded::{self, Lent, Random};
+use crate::independent::{self, Session as Other};
+use crate::inputs::Call;
+use std::ptr;
+use tuilarder::ffi::Record;
+use tuilarder::{Pattern, Refusal, Session};
+
+/// What takes calls, and answers each with a number. The random numbers are for what surrounds the lent lists.
+pub trait Interface {
+    fn start(&self, noise: &mut Random, record: &mut Record, words: &[u32], separator: &[u8]) -> u32;
+    fn absorb(&self, noise: &mut Random, record: &mut Record, elements: &[u32]) -> u32;
+    fn squeeze(&self, noise: &mut Random, record: &mut Record, buffer: &mut [u32]) -> u32;
+    fn finish(&self, noise: &mut Random, record: &mut Record) -> u32;
+    fn permute(&self, noise: &mut Random, state: &mut [u32; 24]) -> u32;
+    /// The number, and how many bytes were written.
+    fn write_tag(&self, noise: &mut Random, words: &[u32], separator: &[u8], out: &mut [u8]) -> (u32, usize);
+    /// The number, the words and their count.
+    fn read_tag(&self, noise: &mut Random, string: &[u8], separator_length: usize) -> (u32, [u32; 64], usize);
+    fn sha3_256(&self, noise: &mut Random, data: &[u8]) -> [u8; 32];
+}
+
+/// Does a session's call: its name, the number, and the buffer it left.
+pub fn perform(
+    interface: &dyn Interface,
+    noise: &mut Random,
+    record: &mut Record,
+    call: &Call,
+) -> (&'static str, u32, Vec<u32>) {
+    match call {
+        Call::Start(words, separator) => ("START", interface.start(noise, record, words, separator), vec![]),
+        Call::Absorb(elements) => ("ABSORB", interface.absorb(noise, record, elements), vec![]),
+        Call::Squeeze(buffer) => {
+            let mut buffer = buffer.clone();
+            ("SQUEEZE", interface.squeeze(noise, record, &mut buffer), buffer)
+        }
+        Call::Finish => ("FINISH", interface.finish(noise, record), vec![]),
+    }
+}
+
+// The functions
+
+pub struct Functions;
+
+impl Interface for Functions {
+    fn start(&self, noise: &mut Random, record: &mut Record, words: &[u32], separator: &[u8]) -> u32 {
+        guarded::start(noise, record, words, separator)
+    }
+    fn absorb(&self, noise: &mut Random, record: &mut Record, elements: &[u32]) -> u32 {
+        guarded::absorb(noise, record, elements)
+    }
+    fn squeeze(&self, noise: &mut Random, record: &mut Record, buffer: &mut [u32]) -> u32 {
+        guarded::squeeze(noise, record, buffer)
+    }
+    fn finish(&self, noise: &mut Random, record: &mut Record) -> u32 {
+        guarded::finish(noise, record)
+    }
+    fn permute(&self, noise: &mut Random, state: &mut [u32; 24]) -> u32 {
+        guarded::permute(noise, state)
+    }
+    fn write_tag(&self, noise: &mut Random, words: &[u32], separator: &[u8], out: &mut [u8]) -> (u32, usize) {
+        guarded::write_tag(noise, words, separator, out)
+    }
+    fn read_tag(&self, noise: &mut Random, string: &[u8], separator_length: usize) -> (u32, [u32; 64], usize) {
+        guarded::read_tag(noise, string, separator_length)
+    }
+    fn sha3_256(&self, noise: &mut Random, data: &[u8]) -> [u8; 32] {
+        guarded::sha3_256(noise, data)
+    }
+}
+
+// The types
+
+/// The refusals in the order of document 01's numbers, from 1 on.
+const REFUSALS: [Refusal; 13] = [
+    Refusal::WordCountOutOfRange,
+    Refusal::WordLengthZero,
+    Refusal::FirstWordSqueeze,
+    Refusal::LastWordAbsorb,
+    Refusal::MergedLengthTooLong,
+    Refusal::SeparatorTooLong,
+    Refusal::RecordNotOpen,
+    Refusal::RecordNotSound,
+    Refusal::CallNotInPattern,
+    Refusal::ElementNotReduced,
+    Refusal::PatternNotDone,
+    Refusal::BufferTooShort,
+    Refusal::NotTagString,
+];
+
+/// The number of an answer by its variant, which has to be the one that the crate gives it.
+pub fn number_of<T>(answer: &Result<T, Refusal>) -> u32 {
+    let Err(refusal) = answer else {
+        return 0;
+    };
+    let place = REFUSALS.iter().position(|other| other == refusal);
+    let number = place.expect("one of the 13") as u32 + 1;
+    assert_eq!(refusal.number(), number, "the number of {refusal:?}");
+    assert_eq!(Refusal::from_number(number), Some(*refusal));
+    number
+}
+
+/// The record of a session, which has to be what is seen of it otherwise, and in its fork.
+pub fn record_of(session: &Session) -> Record {
+    let record = *session.record();
+    assert_eq!(session.permutations(), record.permutations, "the permutations");
+    let (open, phase, done, permutations) = (record.status == 1, record.phase, record.done, record.permutations);
+    assert_eq!(
+        format!("{session:?}"),
+        format!("Session {{ open: {open}, phase: {phase}, done: {done}, permutations: {permutations}, .. }}")
+    );
+    assert_eq!(*session.fork().record(), record, "the fork's record");
+    record
+}
+
+/// The session of a record, which holds just that.
+fn session_of(record: &Record) -> Session {
+    let session = Session::from_record(*record);
+    assert_eq!(record_of(&session), *record, "the record put in");
+    session
+}
+
+pub struct Types;
+
+impl Interface for Types {
+    /// Numbers 1 to 5 are those of the pattern, 6 is START's. Refused, it gives no record.
+    fn start(&self, noise: &mut Random, record: &mut Record, words: &[u32], separator: &[u8]) -> u32 {
+        let (words, separator) = (Lent::new(words, noise), Lent::new(separator, noise));
+        let answer = Pattern::from_words(words.part()).and_then(|pattern| Session::start(&pattern, separator.part()));
+        *record = answer.as_ref().map_or(Record::WIPED, record_of);
+        number_of(&answer)
+    }
+
+    fn absorb(&self, noise: &mut Random, record: &mut Record, elements: &[u32]) -> u32 {
+        let (mut session, elements) = (session_of(record), Lent::new(elements, noise));
+        let number = number_of(&session.absorb(elements.part()));
+        elements.only_read();
+        *record = record_of(&session);
+        number
+    }
+
+    fn squeeze(&self, noise: &mut Random, record: &mut Record, buffer: &mut [u32]) -> u32 {
+        let (mut session, mut out) = (session_of(record), Lent::new(buffer, noise));
+        let number = number_of(&session.squeeze(out.part_mut()));
+        buffer.copy_from_slice(out.returned());
+        *record = record_of(&session);
+        number
+    }
+
+    /// The session is over and shows no record: here is left what document 01 leaves.
+    fn finish(&self, _: &mut Random, record: &mut Record) -> u32 {
+        let number = number_of(&session_of(record).finish());
+        if !matches!(number, 7 | 8) {
+            *record = Record::WIPED;
+        }
+        number
+    }
+
+    fn permute(&self, noise: &mut Random, state: &mut [u32; 24]) -> u32 {
+        let mut lent = Lent::new(&[*state], noise);
+        let number = number_of(&tuilarder::permute(&mut lent.part_mut()[0]));
+        *state = lent.returned()[0];
+        number
+    }
+
+    /// Numbers 1 to 5 are those of the pattern.
+    fn write_tag(&self, noise: &mut Random, words: &[u32], separator: &[u8], out: &mut [u8]) -> (u32, usize) {
+        let mut lent = Lent::new(out, noise);
+        let start = lent.part().as_ptr();
+        let answer = Pattern::from_words(words).and_then(|pattern| {
+            let string = pattern.tag_string(separator, lent.part_mut())?;
+            assert!(ptr::eq(string.as_ptr(), start), "not the buffer's start");
+            Ok(string.len())
+        });
+        out.copy_from_slice(lent.returned());
+        (number_of(&answer), answer.unwrap_or(0))
+    }
+
+    /// Refused, it gives no words.
+    fn read_tag(&self, noise: &mut Random, string: &[u8], separator_length: usize) -> (u32, [u32; 64], usize) {
+        let string = Lent::new(string, noise);
+        let answer = Pattern::read(string.part(), separator_length);
+        let number = number_of(&answer);
+        string.only_read();
+        let Ok((pattern, separator)) = answer else {
+            return (number, [0; 64], 0);
+        };
+        let expected = independent::read_separator(string.part(), separator_length);
+        assert!(ptr::eq(separator, expected), "not that part of the string");
+        let words = pattern.words();
+        assert_eq!(pattern, Pattern::from_words(words).expect("words of a tag string"));
+        (
+            number,
+            std::array::from_fn(|k| words.get(k).copied().unwrap_or(0)),
+            words.len(),
+        )
+    }
+
+    fn sha3_256(&self, noise: &mut Random, data: &[u8]) -> [u8; 32] {
+        tuilarder::sha3_256(Lent::new(data, noise).part())
+    }
+}
+
+// The independent implementation
+
+pub struct Independent;
+
+/// A call on the record as the independent implementation has it.
+fn on_other<T>(record: &mut Record, call: impl FnOnce(&mut Other) -> T) -> T {
+    let mut other = same_fields!(Other, record);
+    let answer = call(&mut other);
+    *record = same_fields!(Record, other);
+    answer
+}
+
+impl Interface for Independent {
+    fn start(&self, _: &mut Random, record: &mut Record, words: &[u32], separator: &[u8]) -> u32 {
+        let (number, started) = independent::start(words, separator);
+        *record = same_fields!(Record, started);
+        number
+    }
+    fn absorb(&self, _: &mut Random, record: &mut Record, elements: &[u32]) -> u32 {
+        on_other(record, |other| independent::absorb(other, elements))
+    }
+    fn squeeze(&self, _: &mut Random, record: &mut Record, buffer: &mut [u32]) -> u32 {
+        on_other(record, |other| independent::squeeze(other, buffer))
+    }
+    fn finish(&self, _: &mut Random, record: &mut Record) -> u32 {
+        on_other(record, independent::finish)
+    }
+    fn permute(&self, _: &mut Random, state: &mut [u32; 24]) -> u32 {
+        independent::permute(state)
+    }
+    fn write_tag(&self, _: &mut Random, words: &[u32], separator: &[u8], out: &mut [u8]) -> (u32, usize) {
+        match independent::write_tag(words, separator, out) {
+            Ok(written) => (0, written),
+            Err(number) => (number, 0),
+        }
+    }
+    fn read_tag(&self, _: &mut Random, string: &[u8], separator_length: usize) -> (u32, [u32; 64], usize) {
+        independent::read_tag(string, separator_length)
+    }
+    fn sha3_256(&self, _: &mut Random, data: &[u8]) -> [u8; 32] {
+        independent::sha3_256(data)
+    }
+}

@@ -1,0 +1,505 @@
+//! The crate's types against the independent implementation, where `differential.rs` does not reach: patterns by their calls, each length of
+//! a separator and of a hashed string, sessions that live through all of their calls, forks, challenges, and records of every status.
+
+mod guarded;
+mod independent;
+#[macro_use]
+mod same_fields;
+mod inputs;
+mod interfaces;
+mod run;
+
+use independent::{ABSORB, LONGEST};
+use inputs::*;
+use interfaces::{number_of, perform, record_of, Independent, Interface, Types};
+use run::Run;
+use std::hash::{DefaultHasher, Hash, Hasher};
+use std::mem::ManuallyDrop;
+use std::ptr;
+use tuilarder::ffi::Record;
+use tuilarder::Call::{Absorb, Squeeze};
+use tuilarder::{Pattern, Refusal, Session, CAPACITY, PRIME, RATE, WIDTH};
+
+/// A call that a pattern declares; `Call` here is one of a session.
+type Declared = tuilarder::Call;
+
+// Figures
+
+/// The figures of document 01; the longest tag string is 64 words of four bytes and 256 bytes.
+#[test]
+fn figures_are_document_01s() {
+    assert_eq!((RATE, CAPACITY, WIDTH, PRIME), (8, 16, 24, 2013265921));
+    assert_eq!(
+        (Pattern::MAX_WORDS, Pattern::MAX_SEPARATOR, Pattern::MAX_TAG_STRING),
+        (64, 256, 512)
+    );
+    let wiped = independent::WIPED;
+    assert_eq!(Record::WIPED, same_fields!(Record, wiped));
+}
+
+#[test]
+fn refusals_have_the_numbers_1_to_13() {
+    for number in 1..=13 {
+        let refusal = Refusal::from_number(number).expect("a refusal");
+        assert_eq!(number_of::<()>(&Err(refusal)), number);
+    }
+    let others = (14..1 << 20).chain((0..32).map(|k| (1 << k) + 16)).chain([0, u32::MAX]);
+    for number in others {
+        assert_eq!(Refusal::from_number(number), None, "{number}");
+    }
+}
+
+// That a session is no `Clone`, and so no `Copy`: if it were, there would be two candidates for `_`, and this would not compile.
+const _: fn() = || {
+    trait OneCandidate<A> {
+        fn candidate() {}
+    }
+    impl<T> OneCandidate<()> for T {}
+    impl<T: Clone> OneCandidate<u8> for T {}
+    let _ = <Session as OneCandidate<_>>::candidate;
+};
+
+// Patterns
+
+fn length_of(call: Declared) -> u32 {
+    match call {
+        Absorb(length) | Squeeze(length) => length,
+    }
+}
+
+/// The word of a call, with the longest length in the place of one that no word can hold.
+fn word_of(call: Declared) -> u32 {
+    match call {
+        Absorb(length) => ABSORB + length.min(LONGEST),
+        Squeeze(length) => length.min(LONGEST),
+    }
+}
+
+fn call_of_kind(absorbing: bool, length: u32) -> Declared {
+    if absorbing {
+        Absorb(length)
+    } else {
+        Squeeze(length)
+    }
+}
+
+/// The merged words, or the number.
+fn merged(words: &[u32]) -> Result<Vec<u32>, u32> {
+    let mut string = [0; 256];
+    let size = independent::write_tag(words, &[], &mut string)?;
+    let (number, merged, count) = independent::read_tag(&string[..size], 0);
+    assert_eq!(number, 0);
+    Ok(merged[..count].to_vec())
+}
+
+/// The merged words of calls, or the number. A length that no word can hold is a merged length above the largest, so it is 5 after 1 to 4.
+fn merged_calls(calls: &[Declared]) -> Result<Vec<u32>, u32> {
+    let words: Vec<u32> = calls.iter().map(|call| word_of(*call)).collect();
+    let merged = merged(&words)?;
+    if calls.iter().any(|call| length_of(*call) > LONGEST) {
+        return Err(5);
+    }
+    Ok(merged)
+}
+
+fn hash_of(pattern: &Pattern) -> u64 {
+    let mut hasher = DefaultHasher::new();
+    pattern.hash(&mut hasher);
+    hasher.finish()
+}
+
+fn assert_equal(pattern: &Pattern, other: &Pattern) {
+    assert_eq!(pattern, other);
+    assert_eq!(hash_of(pattern), hash_of(other));
+}
+
+/// That a pattern differs from each that has one of its words one longer.
+fn assert_differs_by_each_word(pattern: &Pattern, words: &[u32]) {
+    for k in 0..words.len() {
+        let mut longer = words.to_vec();
+        longer[k] = words[k].wrapping_add(1);
+        if let Ok(other) = Pattern::from_words(&longer) {
+            assert_ne!(*pattern, other, "word {k}");
+        }
+    }
+}
+
+fn compare_accepted(pattern: &Pattern, calls: &[Declared], merged: &[u32]) {
+    let words: Vec<u32> = calls.iter().map(|call| word_of(*call)).collect();
+    assert_eq!(pattern.words(), words, "the words");
+    assert_eq!(pattern.calls().collect::<Vec<_>>(), calls, "the calls");
+    assert_eq!(format!("{pattern:?}"), format!("Pattern {calls:?}"));
+    assert_eq!(pattern.merged().words(), merged, "the merged words");
+    assert_equal(&pattern.clone(), pattern);
+    assert_equal(&Pattern::from_words(&words).expect("accepted calls"), pattern);
+    let of_merged = Pattern::from_words(merged).expect("accepted calls");
+    assert_equal(&pattern.merged(), &of_merged);
+    assert_eq!(*pattern == of_merged, words == merged);
+    assert_differs_by_each_word(pattern, &words);
+}
+
+/// Makes a pattern of calls by both and compares all that it shows.
+fn compare_pattern(run: &mut Run, calls: &[Declared]) {
+    run.last = Box::new(calls.to_vec());
+    let (answer, expected) = (Pattern::new(calls), merged_calls(calls));
+    let number = number_of(&answer);
+    assert_eq!(number, expected.as_ref().err().copied().unwrap_or(0), "the number");
+    if let (Ok(pattern), Ok(merged)) = (answer, expected) {
+        compare_accepted(&pattern, calls, &merged);
+    }
+    run.answered("Pattern::new", number);
+}
+
+/// Lengths at and above each limit of a call's.
+const LIMITS: [u32; 5] = [0, 1, 2147483647, 2147483648, u32::MAX];
+
+/// Whether call k of so many absorbs.
+const KINDS: [fn(usize, usize) -> bool; 5] = [
+    |_, k| k % 2 == 0,
+    |count, k| k + 1 < count,
+    |_, k| k == 0,
+    |_, _| true,
+    |_, _| false,
+];
+
+#[test]
+fn patterns_of_up_to_66_calls_with_each_limit_in_every_place() {
+    let run = Run::of(
+        "patterns_of_up_to_66_calls_with_each_limit_in_every_place",
+        &Types,
+        67,
+        |run| {
+            let count = run.case as usize;
+            for absorbs in KINDS {
+                let calls: Vec<Declared> = (0..count)
+                    .map(|k| call_of_kind(absorbs(count, k), 1 + k as u32))
+                    .collect();
+                compare_pattern(run, &calls);
+                for (k, limit) in (0..count).flat_map(|k| LIMITS.map(|limit| (k, limit))) {
+                    let mut changed = calls.clone();
+                    changed[k] = call_of_kind(absorbs(count, k), limit);
+                    compare_pattern(run, &changed);
+                }
+            }
+        },
+    );
+    run.assert_numbers("Pattern::new", &[0, 1, 2, 3, 4, 5]);
+}
+
+#[test]
+fn patterns_of_any_calls() {
+    let run = Run::of("patterns_of_any_calls", &Types, 20_000, |run| {
+        let words = any_pattern(&mut run.random);
+        let mut calls: Vec<Declared> = words
+            .iter()
+            .map(|word| call_of_kind(word & ABSORB != 0, word & LONGEST))
+            .collect();
+        if !calls.is_empty() && run.random.once_in(4) {
+            let k = run.random.below(calls.len() as u64) as usize;
+            calls[k] = call_of_kind(words[k] & ABSORB != 0, run.random.pick(&LIMITS));
+        }
+        compare_pattern(run, &calls);
+    });
+    run.assert_numbers("Pattern::new", &[0, 1, 2, 3, 4, 5]);
+}
+
+#[test]
+fn patterns_of_far_too_many_calls() {
+    for count in [65, 66, 128, 130, 256, 258, 65536, 65538] {
+        let calls: Vec<Declared> = (0..count).map(|k| call_of_kind(k % 2 == 0, 1)).collect();
+        let words: Vec<u32> = calls.iter().map(|call| word_of(*call)).collect();
+        assert_eq!(number_of(&Pattern::new(&calls)), 1, "{count}");
+        assert_eq!(number_of(&Pattern::from_words(&words)), 1, "{count}");
+    }
+}
+
+// Separators and hashes
+
+/// The case's separator length: each up to 257, then some far above.
+fn separator_length(case: u64) -> usize {
+    const FAR: [usize; 6] = [258, 512, 513, 65536, 65538, 1 << 20];
+    match case {
+        0..=257 => case as usize,
+        _ => FAR[case as usize - 258],
+    }
+}
+
+#[test]
+fn separators_of_every_length() {
+    let run = Run::of("separators_of_every_length", &Types, 264, |run| {
+        let length = separator_length(run.case);
+        for pairs in [1, 2, 32] {
+            let merged = merged_words(&mut run.random, pairs, short_length);
+            let words = cut_words(&mut run.random, &merged);
+            let separator: Vec<u8> = run.random.list(length);
+            let mut record = Record::WIPED;
+            let number = run.call(&mut record, Call::Start(words.clone(), separator.clone()));
+            assert_eq!(number, if length <= 256 { 0 } else { 6 });
+            let needed = 8 * pairs + length;
+            for size in [needed, needed - 1, needed + 3, 0] {
+                run.write_tag(&words, &separator, size);
+            }
+            let bytes = merged.iter().flat_map(|word| word.to_be_bytes());
+            let string: Vec<u8> = bytes.chain(separator).collect();
+            run.read_tag(&string, length);
+        }
+    });
+    run.assert_reached("write_tag", &[0, 12]);
+}
+
+#[test]
+fn hashes_of_every_length_up_to_2000() {
+    Run::of("hashes_of_every_length_up_to_2000", &Types, 2003, |run| {
+        let size = match run.case {
+            2001 => 70_000,
+            2002 => (1 << 20) + 1,
+            case => case,
+        };
+        let data: Vec<u8> = run.random.list(size as usize);
+        run.sha3_256(&data);
+    });
+}
+
+// Sessions that live through all of their calls
+
+/// A session, and the record that the independent implementation has.
+struct Live {
+    session: Session,
+    expected: Record,
+}
+
+/// A squeeze as an array, for some lengths.
+fn challenge(session: &mut Session, length: usize) -> Option<Result<Vec<u32>, Refusal>> {
+    macro_rules! of_length {
+        ($($n:literal)*) => {
+            match length {
+                $($n => Some(session.challenge::<$n>().map(Vec::from)),)*
+                _ => None,
+            }
+        };
+    }
+    of_length!(0 1 2 3 4 5 7 8 9 10 15 16 17 18 20 24 25 33 40 3000)
+}
+
+impl Live {
+    fn start(run: &mut Run, words: &[u32], separator: &[u8]) -> Live {
+        let mut expected = Record::WIPED;
+        assert_eq!(Independent.start(&mut run.noise, &mut expected, words, separator), 0);
+        let pattern = Pattern::from_words(words).expect("an accepted pattern");
+        let session = Session::start(&pattern, separator).expect("an accepted separator");
+        let live = Live { session, expected };
+        live.compare();
+        live
+    }
+
+    fn compare(&self) {
+        assert_eq!(record_of(&self.session), self.expected, "the record");
+    }
+
+    fn fork(&self) -> Live {
+        Live {
+            session: self.session.fork(),
+            expected: self.expected,
+        }
+    }
+
+    fn squeeze(&mut self, buffer: &[u32], expected: &[u32]) -> u32 {
+        let mut left = buffer.to_vec();
+        let number = number_of(&self.session.squeeze(&mut left));
+        assert_eq!(left, expected, "the buffer");
+        number
+    }
+
+    /// Squeezes as an array, or gives nothing where no array is of that length.
+    fn challenge(&mut self, expected: &[u32]) -> Option<u32> {
+        let answer = challenge(&mut self.session, expected.len())?;
+        let number = number_of(&answer);
+        if let Ok(elements) = answer {
+            assert_eq!(elements, expected, "the challenge");
+        }
+        Some(number)
+    }
+
+    /// Does a call by both and compares all that it left. Gives nothing after FINISH.
+    fn call(mut self, run: &mut Run, call: &Call) -> Option<Live> {
+        run.last = Box::new((call.clone(), self.expected));
+        let (name, number, expected_buffer) = perform(&Independent, &mut run.noise, &mut self.expected, call);
+        run.answered(name, number);
+        let answer = match call {
+            Call::Finish => {
+                assert_eq!(number_of(&self.session.finish()), number, "the number");
+                return None;
+            }
+            Call::Absorb(elements) => number_of(&self.session.absorb(elements)),
+            Call::Squeeze(buffer) if run.random.once_in(2) => self.squeeze(buffer, &expected_buffer),
+            Call::Squeeze(buffer) => match self.challenge(&expected_buffer) {
+                Some(number) => number,
+                None => self.squeeze(buffer, &expected_buffer),
+            },
+            Call::Start(..) => unreachable!("a session starts once"),
+        };
+        assert_eq!(answer, number, "the number");
+        self.compare();
+        Some(self)
+    }
+}
+
+/// START on a short pattern.
+fn any_live(run: &mut Run) -> Live {
+    let pairs = pairs(&mut run.random).min(4);
+    let merged = merged_words(&mut run.random, pairs, short_length);
+    let words = cut_words(&mut run.random, &merged);
+    let size = run.random.below(257) as usize;
+    let separator: Vec<u8> = run.random.list(size);
+    Live::start(run, &words, &separator)
+}
+
+/// A fork, or the next call, of one of the sessions.
+fn live_step(run: &mut Run, lives: &mut Vec<Live>, any_once_in: u64) {
+    let live = lives.swap_remove(run.random.below(lives.len() as u64) as usize);
+    if lives.len() < 5 && run.random.once_in(8) {
+        let name = if live.expected.status == 1 {
+            "fork"
+        } else {
+            "fork of a wiped one"
+        };
+        run.answered(name, live.expected.phase);
+        lives.push(live.fork());
+        lives.push(live);
+        return;
+    }
+    let call = next_call(&mut run.random, &live.expected, any_once_in);
+    lives.extend(live.call(run, &call));
+}
+
+#[test]
+fn sessions_of_all_calls_with_forks_in_each_phase() {
+    let run = Run::of("sessions_of_all_calls_with_forks_in_each_phase", &Types, 2_000, |run| {
+        let mut lives = vec![any_live(run)];
+        let any_once_in = run.random.pick(&[5, 30, 1000]);
+        for _ in 0..40 {
+            if lives.is_empty() {
+                lives.push(any_live(run));
+            }
+            live_step(run, &mut lives, any_once_in);
+            // each goes on by itself
+            lives.iter().for_each(Live::compare);
+        }
+    });
+    run.assert_reached("fork", &[0, 1, 2, 3, 4, 5, 6, 7, 8]);
+    run.assert_reached("fork of a wiped one", &[0]);
+    run.assert_numbers("ABSORB", &[0, 7, 9, 10]);
+    run.assert_numbers("SQUEEZE", &[0, 7, 9]);
+    run.assert_numbers("FINISH", &[0, 7, 11]);
+}
+
+/// Goes on to the pattern's end and finishes. `any_once_in` is so large that no call is refused but for an element.
+fn to_the_end(run: &mut Run, mut live: Live) {
+    loop {
+        let call = next_call(&mut run.random, &live.expected, u64::MAX);
+        match live.call(run, &call) {
+            Some(next) => live = next,
+            None => return,
+        }
+    }
+}
+
+#[test]
+fn forks_at_every_element() {
+    let words = [ABSORB + 9, 17, ABSORB + 1, 1, ABSORB + 8, 8];
+    let elements: u32 = 9 + 17 + 1 + 1 + 8 + 8;
+    let run = Run::of("forks_at_every_element", &Types, 3, |run| {
+        let mut live = Live::start(run, &words, b"forked");
+        for _ in 0..elements {
+            to_the_end(run, live.fork());
+            live.compare();
+            let absorbing = phase_of(&live.expected).expect("a phase").0;
+            let call = if absorbing {
+                Call::Absorb(vec![good_element(&mut run.random)])
+            } else {
+                Call::Squeeze(vec![7])
+            };
+            live = live.call(run, &call).expect("no FINISH");
+        }
+        to_the_end(run, live.fork());
+        to_the_end(run, live);
+    });
+    run.assert_numbers("FINISH", &[0]);
+}
+
+#[test]
+fn lists_of_70000_elements() {
+    const LENGTH: usize = 70_000;
+    let run = Run::of("lists_of_70000_elements", &Types, 1, |run| {
+        let words = [ABSORB + LENGTH as u32, LENGTH as u32, ABSORB + 1, 3000];
+        let elements = (0..LENGTH).map(|_| good_element(&mut run.random)).collect();
+        let calls = [
+            Call::Absorb(elements),
+            Call::Squeeze(run.random.list(LENGTH)),
+            Call::Absorb(vec![1]),
+        ];
+        let mut live = Live::start(run, &words, b"long");
+        for call in calls {
+            live = live.call(run, &call).expect("no FINISH");
+        }
+        let mut left = vec![0; 3000];
+        Independent.squeeze(&mut run.noise, &mut live.expected, &mut left);
+        assert_eq!(live.challenge(&left), Some(0));
+        live.compare();
+        assert!(live.call(run, &Call::Finish).is_none());
+    });
+    assert_eq!(run.session_calls(), 4);
+}
+
+// Records of every status
+
+/// Small ones, each bit alone and beside bit 0, and all.
+fn statuses() -> Vec<u32> {
+    let bits = (0..32).flat_map(|k| [1 << k, 1 | 1 << k]);
+    (0..300).chain(bits).chain([u32::MAX, u32::MAX - 1]).collect()
+}
+
+#[test]
+fn records_of_every_status() {
+    let statuses = statuses();
+    let run = Run::of("records_of_every_status", &Types, 4 * statuses.len() as u64, |run| {
+        let mut record = match run.case % 4 {
+            0 => any_record(&mut run.random),
+            _ => sound_record(&mut run.random),
+        };
+        record.status = statuses[run.case as usize / 4];
+        for size in [0, 1, 9] {
+            run.call(&mut record.clone(), Call::Squeeze(vec![7; size]));
+            run.call(&mut record.clone(), Call::Absorb(vec![7; size]));
+        }
+        run.call(&mut record.clone(), Call::Finish);
+    });
+    for call in ["ABSORB", "SQUEEZE", "FINISH"] {
+        run.assert_reached(call, &[7]);
+    }
+}
+
+/// The bytes that dropping leaves of a session.
+fn dropped(session: Session) -> [u8; 384] {
+    let mut session = ManuallyDrop::new(session);
+    let place: *mut Session = &mut *session;
+    // SAFETY: the bytes are those of a session in this function, which is dropped once; a session has integers only, and no padding.
+    unsafe {
+        ptr::drop_in_place(place);
+        ptr::read_volatile(place.cast::<[u8; 384]>())
+    }
+}
+
+#[test]
+fn dropping_wipes_any_record() {
+    let run = Run::of("dropping_wipes_any_record", &Types, 2_000, |run| {
+        let record = match run.case % 2 {
+            0 => any_record(&mut run.random),
+            _ => sound_record(&mut run.random),
+        };
+        assert_eq!(dropped(Session::from_record(record)), [0; 384]);
+        assert_eq!(dropped(Session::from_record(record).fork()), [0; 384]);
+        run.answered("open", u32::from(record.status == 1));
+    });
+    run.assert_numbers("open", &[0, 1]);
+}
