@@ -13,8 +13,9 @@ use independent::{ABSORB, LONGEST};
 use inputs::*;
 use interfaces::{number_of, perform, record_of, Independent, Interface, Types};
 use run::Run;
+use std::fmt::Debug;
 use std::hash::{DefaultHasher, Hash, Hasher};
-use std::mem::ManuallyDrop;
+use std::mem::{transmute, ManuallyDrop};
 use std::ptr;
 use tuilarder::ffi::Record;
 use tuilarder::Call::{Absorb, Squeeze};
@@ -48,6 +49,33 @@ fn refusals_have_the_numbers_1_to_13() {
         assert_eq!(Refusal::from_number(number), None, "{number}");
     }
 }
+
+// The numbers are known at compile time too.
+const _: () = assert!(Refusal::NotTagString.number() == 13 && Refusal::from_number(14).is_none());
+
+/// A `match` needs an arm for other refusals: if it did not, `_` would be unreachable, and this would not compile.
+#[deny(unreachable_patterns)]
+#[allow(dead_code)]
+fn others_are_possible(refusal: Refusal) -> bool {
+    use Refusal::*;
+    match refusal {
+        WordCountOutOfRange | WordLengthZero | FirstWordSqueeze | LastWordAbsorb | MergedLengthTooLong => false,
+        SeparatorTooLong | RecordNotOpen | RecordNotSound | CallNotInPattern | ElementNotReduced => false,
+        PatternNotDone | BufferTooShort | NotTagString => false,
+        _ => true,
+    }
+}
+
+// What callers may do with the types.
+const fn plain<T: Copy + Eq + Hash + Debug>() {}
+const fn cloned<T: Clone + Eq + Hash + Debug>() {}
+const fn printed<T: Debug>() {}
+const _: () = {
+    plain::<Refusal>();
+    plain::<Declared>();
+    cloned::<Pattern>();
+    printed::<Session>();
+};
 
 // That a session is no `Clone`, and so no `Copy`: if it were, there would be two candidates for `_`, and this would not compile.
 const _: fn() = || {
@@ -451,7 +479,37 @@ fn lists_of_70000_elements() {
     assert_eq!(run.session_calls(), 4);
 }
 
-// Records of every status
+// Records
+
+/// What the other tests compare with has to tell any two records apart.
+#[test]
+fn records_differ_by_each_byte() {
+    let run = Run::of("records_differ_by_each_byte", &Types, 20, |run| {
+        let record = sound_record(&mut run.random);
+        for k in 0..384 {
+            // SAFETY: a record has 384 bytes of integers, and any bytes are a record.
+            let other: Record = unsafe {
+                let mut bytes: [u8; 384] = transmute(record);
+                bytes[k] ^= 1 << run.random.below(8);
+                transmute(bytes)
+            };
+            assert_ne!(record, other, "byte {k}");
+            run.answered("changed", 0);
+        }
+        assert_eq!(record, record.clone());
+    });
+    run.assert_numbers("changed", &[0]);
+}
+
+/// So with the calls.
+#[test]
+fn calls_differ_by_kind_and_length() {
+    let calls = LIMITS.map(Absorb).into_iter().chain(LIMITS.map(Squeeze));
+    let calls: Vec<Declared> = calls.collect();
+    for (k, l) in (0..calls.len()).flat_map(|k| (0..calls.len()).map(move |l| (k, l))) {
+        assert_eq!(calls[k] == calls[l], k == l, "{:?} and {:?}", calls[k], calls[l]);
+    }
+}
 
 /// Small ones, each bit alone and beside bit 0, and all.
 fn statuses() -> Vec<u32> {

@@ -1,11 +1,26 @@
 //! That a session's memory is wiped when it is given back. Nothing reads it any more, so a compiler leaves out a wiping that it may leave out.
+//! It sees that only where it has the crate's code before it together with the caller's, so that code is part of this program.
+
+// Only sessions are used here.
+#![allow(dead_code)]
+
+#[path = "../src/ffi.rs"]
+mod ffi;
+#[path = "../src/pattern.rs"]
+mod pattern;
+#[path = "../src/refusal.rs"]
+mod refusal;
+#[path = "../src/session.rs"]
+mod session;
 
 use std::alloc::{GlobalAlloc, Layout, System};
 use std::cell::Cell;
 use std::hint::black_box;
 
-use tuilarder::ffi::Record;
-use tuilarder::Session;
+use ffi::Record;
+use session::Session;
+// for the static library
+use tuilarder as _;
 
 thread_local! {
     /// How many bytes other than 0 the last block of a session's size had when this thread gave it back.
