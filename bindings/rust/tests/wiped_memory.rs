@@ -1,5 +1,5 @@
-//! That a session's memory is wiped when it is given back. Nothing reads it any more, so a compiler leaves out a wiping that it may leave out.
-//! It sees that only where it has the crate's code before it together with the caller's, so that code is part of this program.
+//! That a session's memory is wiped when it is dropped. Nothing reads it any more, so a compiler leaves out a wiping that it may leave out.
+//! It sees that only where it compiles the crate's code together with the caller's, so that code is part of this program.
 
 // Only sessions are used here.
 #![allow(dead_code)]
@@ -10,75 +10,81 @@ mod ffi;
 mod pattern;
 #[path = "../src/refusal.rs"]
 mod refusal;
-#[path = "../src/session.rs"]
-mod session;
 
-use std::alloc::{GlobalAlloc, Layout, System};
-use std::cell::Cell;
-use std::hint::black_box;
+/// The crate's sessions with callers in the same module, which is what the compiler takes at a time.
+mod session {
+    include!("../src/session.rs");
+
+    use std::hint::black_box;
+
+    /// Drops a session, and gives the place on the stack where it was.
+    #[inline(never)]
+    pub fn session_was_at(record: &Record) -> usize {
+        let session = Session::from_record(*record);
+        black_box(&session);
+        &session as *const Session as usize
+    }
+
+    #[inline(never)]
+    pub fn fork_was_at(record: &Record) -> usize {
+        let session = Session::from_record(*record);
+        let fork = session.fork();
+        black_box(&fork);
+        &fork as *const Session as usize
+    }
+
+    /// For the looking itself: a record without a session around it is left.
+    #[inline(never)]
+    pub fn record_was_at(record: &Record) -> usize {
+        let copy = *record;
+        black_box(&copy);
+        &copy as *const Record as usize
+    }
+}
 
 use ffi::Record;
-use session::Session;
+use std::hint::black_box;
 // for the static library
 use tuilarder as _;
 
-thread_local! {
-    /// How many bytes other than 0 the last block of a session's size had when this thread gave it back.
-    static LEFT: Cell<Option<usize>> = const { Cell::new(None) };
-}
-
-struct Watched;
-
-// SAFETY: all is the system's allocator.
-unsafe impl GlobalAlloc for Watched {
-    unsafe fn alloc(&self, layout: Layout) -> *mut u8 {
-        System.alloc(layout)
-    }
-
-    unsafe fn dealloc(&self, place: *mut u8, layout: Layout) {
-        if layout == Layout::new::<Session>() {
-            let left = (0..layout.size()).filter(|&k| place.add(k).read_volatile() != 0);
-            LEFT.set(Some(left.count()));
-        }
-        System.dealloc(place, layout)
-    }
-}
-
-#[global_allocator]
-static ALLOCATOR: Watched = Watched;
-
-/// How many bytes other than 0 were in the memory that a value gave back.
-fn left_by<T>(value: T) -> Option<usize> {
-    let boxed = Box::new(value);
-    black_box(&boxed);
-    LEFT.set(None);
-    drop(boxed);
-    LEFT.get()
-}
+/// What every word of the record is, but for the status.
+const MARK: u32 = 0x5a5a5a5a;
 
 fn record(status: u32) -> Record {
     Record {
         status,
-        state: [u32::MAX; 24],
-        words: [u32::MAX; 64],
-        count: u32::MAX,
-        phase: u32::MAX,
-        done: u32::MAX,
-        absorb_position: u32::MAX,
-        squeeze_position: u32::MAX,
-        permutations: u64::MAX,
+        state: [MARK; 24],
+        words: [MARK; 64],
+        count: MARK,
+        phase: MARK,
+        done: MARK,
+        absorb_position: MARK,
+        squeeze_position: MARK,
+        permutations: u64::from(MARK) << 32 | u64::from(MARK),
     }
+}
+
+/// How many words of the record are left at the place where a function had it.
+fn left(was_at: fn(&Record) -> usize, status: u32) -> usize {
+    let record = record(status);
+    let place = black_box(was_at(black_box(&record))) as *const u32;
+    let mut left = 0;
+    for k in 0..96 {
+        // SAFETY: the place is on this thread's stack, below what is in use; nothing was called that could use it again.
+        left += usize::from(unsafe { place.add(k).read_volatile() } == MARK);
+    }
+    left
 }
 
 #[test]
 fn a_session_leaves_nothing() {
-    assert_eq!(left_by(Session::from_record(record(1))), Some(0));
-    assert_eq!(left_by(Session::from_record(record(u32::MAX))), Some(0));
-    assert_eq!(left_by(Session::from_record(record(1)).fork()), Some(0));
+    for status in [0, 1, MARK] {
+        assert_eq!(left(session::session_was_at, status), 0);
+        assert_eq!(left(session::fork_was_at, status), 0);
+    }
 }
 
-/// The watching itself: a record without a session around it is left as it was.
 #[test]
 fn a_record_is_left() {
-    assert_eq!(left_by(record(u32::MAX)), Some(384));
+    assert_eq!(left(session::record_was_at, MARK), 96);
 }
