@@ -3,8 +3,8 @@
 -- program print for a whole input.
 use mathlib.Core.Path.{_≡_, refl, sym, ap, ap₂, _∙_}
 use mathlib.Core.List.{List, [], _∷_, _++_}
-use Prim.Native.Nat.{ℕ, _≤_, _<_}
-use lib.Dec.{lit≤}
+use Prim.Native.Nat.{ℕ, suc, _≤_, _<_}
+use lib.Dec.{lit≤, ltb}
 use lib.ListN.{length, take}
 use Rattle.basics.specs.Logic.{if_then_else_, _and_, _or_, same, all, any}
 use Rattle.basics.specs.Digits.{digits}
@@ -27,8 +27,9 @@ use Rattle.card.specs.Answer.{okText, noText, cardAnswer, answer, withNewline}
 use Rattle.card.proofs.Laws.{answer-card, answer-none, answer-long}
 use Rattle.card.proofs.CardAnswer.{accepted-answer}
 use Rattle.card_lines.specs.Lines.{before, lines, answers, output}
-use Rattle.card_lines.specs.Stream.{writes, takes, fed, lastAnswer}
-use Rattle.card_lines.specs.Calls.{writesAll, takesAll, leavesAll, heldOf, answeredText, answeredFed, startFed, startKept, textOfPieces}
+use Rattle.card_lines.specs.Stream.{writes, takes, lineAfter, fed, lastAnswer}
+use Rattle.card_lines.specs.Calls.{Held, leaves, writesAll, takesAll, leavesAll, heldOf, answeredText, answeredLine, answeredFed, startFed, nextFed}
+use Rattle.card_lines.specs.Calls.{Kept, keptOf, startKept, nextKept, keptAfter, pieceText, pieceKept, textOfPieces}
 use Rattle.card_lines.specs.declared.Fed.{Fed}
 use Rattle.card_lines.proofs.Progress.{takes-some, takes-first, last-none, last-some}
 use Rattle.card_lines.proofs.Callers.{answered-some, pieces-output}
@@ -109,6 +110,35 @@ pub output-however-cut : (line : List ℕ) (pieces : List (List ℕ)) → length
     → let start = heldOf line startFed in
     writesAll start pieces ++ lastAnswer (leavesAll start pieces .line) (leavesAll start pieces .held) ≡ output (takesAll pieces)
 output-however-cut line pieces long = written-output pieces (heldOf line startFed) [] (start-holds line long)
+
+-- Calls of `feed` in turn, by the definitions that its contract cites: each gets the places and the number that the one before left.
+pub feed-after-feed : (h : Held) (piece : List ℕ) (pieces : List (List ℕ))
+    → let next : Held = record { line = lineAfter (h .line) (h .held) piece; held = fed (h .line) (h .held) piece .held } in
+    (writesAll h [] ≡ []) × (takesAll [] ≡ []) × (leavesAll h [] ≡ h)
+    × (writesAll h (piece ∷ pieces) ≡ writes (h .line) (h .held) piece ++ writesAll next pieces)
+    × (takesAll (piece ∷ pieces) ≡ takes piece ++ takesAll pieces)
+    × (leavesAll h (piece ∷ pieces) ≡ leavesAll next pieces)
+unfolding writesAll takesAll leavesAll leaves
+feed-after-feed h piece pieces = (refl, refl, refl, refl, refl, refl)
+
+-- A caller of `answer_lines`: call after call on a piece,
+pub call-after-call : (k : ℕ) (line : List ℕ) (last : Fed) (piece : List ℕ)
+    → let next = keptOf (answeredLine line last piece) (answeredFed line last piece) in
+    (pieceText 0 (keptOf line last) piece ≡ []) × (pieceKept 0 (keptOf line last) piece ≡ keptOf line last)
+    × (pieceText (suc k) (keptOf line last) piece
+    ≡ (if ltb (last .used) (length piece) then answeredText line last piece ++ pieceText k next piece else []))
+    × (pieceKept (suc k) (keptOf line last) piece ≡ (if ltb (last .used) (length piece) then pieceKept k next piece else keptOf line last))
+unfolding pieceText pieceKept keptAfter
+call-after-call k line last piece = (refl, refl, refl, refl)
+
+-- and piece after piece, with `next_piece` before each and `end` behind the last.
+pub piece-after-piece : (line : List ℕ) (last : Fed) (piece : List ℕ) (pieces : List (List ℕ))
+    → let next = keptOf line (nextFed last) in
+    (textOfPieces (keptOf line last) [] ≡ lastAnswer line (last .held))
+    × (textOfPieces (keptOf line last) (piece ∷ pieces)
+    ≡ pieceText (length piece) next piece ++ textOfPieces (pieceKept (length piece) next piece) pieces)
+unfolding textOfPieces nextKept
+piece-after-piece line last piece pieces = (refl, refl)
 
 -- A call takes at least one byte, if there is one: of `feed`,
 pub something-is-taken : (piece : List ℕ) → 0 < length piece → 0 < length (takes piece)

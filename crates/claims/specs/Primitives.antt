@@ -1,9 +1,9 @@
 -- The field, the permutation and its tables, and the hash: what the papers say of them beyond what their definitions say.
-use mathlib.Core.Path.{_≡_}
-use mathlib.Core.List.{List, _++_}
-use Prim.Native.Nat.{ℕ, _+_, _-_, _*_, _%_, _^_, _<_}
+use mathlib.Core.Path.{_≡_, refl}
+use mathlib.Core.List.{List, [], _∷_, _++_}
+use Prim.Native.Nat.{ℕ, suc, _+_, _-_, _*_, _%_, _^_, _<_}
 use lib.Dec.{lit<}
-use lib.ListN.{length, getD}
+use lib.ListN.{length, getD, replicate}
 use Rattle.basics.specs.Lists.{Below, zeroPadded}
 use Rattle.field.specs.Field.{p}
 use Rattle.field.proofs.Modulus as modulus
@@ -45,10 +45,9 @@ pub constants-are-elements : (length constants ≡ 696) × Below p constants
 constants-are-elements = (entries.constants-length, entries.constants-reduced)
 
 -- "The 696 round constants come from Poseidon's Grain generator.": it finds 696, and leaves the table.
-pub table-generated : let constants-found = found (firstRegister 21) p 696 262144 in
-    (length constants-found ≡ 696) × (zeroPadded 696 constants-found ≡ constants)
+pub table-generated : (generated ≡ found (firstRegister 21) p 696 262144) × (length generated ≡ 696) × (zeroPadded 696 generated ≡ constants)
 unfolding generated
-table-generated = table.table-generated
+table-generated = (refl, table.table-generated .0, table.table-generated .1)
 
 -- FIPS 202, 3.2.2, algorithm 2: the rotation offsets; 3.2.5, algorithms 5 and 6: the round constants
 pub offsets-by-rule : offsets ≡ offsetsByRule
@@ -60,3 +59,8 @@ round-constants-by-rule = rules.round-constants-by-rule
 -- FIPS 202, B.2: the bytes of the padding are 0x06, zeros and 0x80, or 0x86 alone.
 pub padding-by-bytes : (m : List ℕ) → padded m ≡ m ++ padding (136 - length m % 136)
 padding-by-bytes = padded-bytes
+
+-- Table 6 itself: one byte, and two or more.
+pub padding-of-table-6 : (k : ℕ) → (padding 1 ≡ 0x86 ∷ []) × (padding (suc (suc k)) ≡ 0x06 ∷ replicate k 0 ++ (0x80 ∷ []))
+unfolding padding
+padding-of-table-6 k = (refl, refl)
