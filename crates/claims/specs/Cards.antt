@@ -1,6 +1,6 @@
--- Cards. `cardOf`, `answer`, `withNewline`, `fed`, `writes`, `answeredFed`, `answeredText`, `startFed` and `lastAnswer`, and those that `leavesAll` and
--- `textOfPieces` are made of, are what the contracts of `card_reader`, `card` and `card_lines` cite; `output` is what document 01 has the card
--- program print for a whole input.
+-- Cards. `cardOf`, `answer`, `withNewline`, `fed`, `lineAfter`, `writes`, `answeredFed`, `answeredLine`, `answeredText`, `startFed`, `nextFed` and
+-- `lastAnswer` are what the contracts of `card_reader`, `card` and `card_lines` cite; `output` is what document 01 has the card program print for a
+-- whole input.
 use mathlib.Core.Path.{_≡_, refl, sym, ap, ap₂, _∙_}
 use mathlib.Core.List.{List, [], _∷_, _++_}
 use Prim.Native.Nat.{ℕ, suc, _≤_, _<_}

@@ -85,21 +85,21 @@ pub other-calls-add-none : (r : Session) (xs : List ℕ) (n : ℕ)
 unfolding absorbedIn squeezedIn
 other-calls-add-none r xs n = (refl, refl, refl, refl)
 
--- The record that a call leaves; and no call leaves the record, and adds nothing.
+-- The record that a call leaves; and an empty list of calls leaves the record as it is, and adds nothing.
 pub no-call-adds-none : (r : Session) (c : Call)
     → (left r c ≡ answered r c .session) × (leftBy r [] ≡ r) × (absorbed r [] ≡ []) × (squeezed r [] ≡ [])
 unfolding leftBy absorbed squeezed left
 no-call-adds-none r c = (refl, refl, refl, refl)
 
--- What is compared of a run: its tag string and pattern, by what START got; and by the whole list of calls on the record that START gave, what is
--- absorbed and squeezed, the blocks, and the count that FINISH finds.
+-- What is compared of a run: its tag string and pattern, by what START got; by the whole list of calls on the record that START gave, what is
+-- absorbed and squeezed, and the blocks; and the count in the record that the last call, FINISH, gets.
 pub compared : (a : Run)
     → let r = start (a .opening) .session in
     let cs = a .before ++ (FINISH ∷ []) in
     let ps = phases (a .opening .words) in
-    (tagOf a ≡ tagString (a .opening)) × (patternOf a ≡ ps) × (absorbedOf a ≡ absorbed r cs) × (squeezedOf a ≡ squeezed r cs)
+    (startedOf a ≡ r) × (tagOf a ≡ tagString (a .opening)) × (patternOf a ≡ ps) × (absorbedOf a ≡ absorbed r cs) × (squeezedOf a ≡ squeezed r cs)
     × (blocksOf a ≡ blocks ps (absorbed r cs)) × (permutationsOf a ≡ leftBy r (a .before) .permutations)
-compared a = (refl, refl, refl, refl, refl, refl)
+compared a = (refl, refl, refl, refl, refl, refl, refl)
 
 -- ---- what is absorbed and squeezed
 
