@@ -1,8 +1,9 @@
-//! The library that is linked is of the version and has the record that this crate declares.
+//! The library that is linked is of the version and has the record that this crate declares, and its functions are declared with the types of
+//! the C header.
 
 use std::mem::size_of;
 
-use tuilarder::ffi::{tuilarder_layout_1, Record, LAYOUT};
+use tuilarder::ffi::{self, tuilarder_layout_1, Record, LAYOUT};
 
 /// Version 1, and document 01's record: 94 numbers of four bytes, and the permutations, which have eight.
 const VERSION: u64 = 1;
@@ -16,3 +17,14 @@ fn library_answers_the_layout_that_is_declared() {
     assert_eq!(LAYOUT, answered);
     assert_eq!(LAYOUT % 4_294_967_296, size_of::<Record>() as u64);
 }
+
+// A call alone shows less: a pointer to what is written can be passed as one to what is only read, and an answer can be passed over.
+const _: unsafe extern "C" fn(*mut Record, *const u32, usize, *const u8, usize) -> u32 = ffi::tuilarder_start;
+const _: unsafe extern "C" fn(*mut Record, *const u32, usize) -> u32 = ffi::tuilarder_absorb;
+const _: unsafe extern "C" fn(*mut Record, *mut u32, usize) -> u32 = ffi::tuilarder_squeeze;
+const _: unsafe extern "C" fn(*mut Record) -> u32 = ffi::tuilarder_finish;
+const _: unsafe extern "C" fn(*mut [u32; 24]) -> u32 = ffi::tuilarder_permute;
+const _: unsafe extern "C" fn(*const u32, usize, *const u8, usize, *mut u8, usize, *mut usize) -> u32 =
+    ffi::tuilarder_write_tag;
+const _: unsafe extern "C" fn(*const u8, usize, usize, *mut [u32; 64], *mut usize) -> u32 = ffi::tuilarder_read_tag;
+const _: unsafe extern "C" fn(*const u8, usize, *mut [u8; 32]) = ffi::tuilarder_sha3_256;

@@ -1,0 +1,498 @@
+#!/usr/bin/env python3
+"""Faults for the Rust crate and the C header, each of which has to be noticed by a test or by the compiler.
+
+  tests/mutants.py list
+  tests/mutants.py test
+  tests/mutants.py NAME..
+
+The proofs end at the library's functions, so what stands over them is only tested; this says what those tests notice. `test` puts one fault at a
+time into a copy of bindings/ under target/mutants, two at once, and runs the tests there, against the archive that `rt staticlib tuilarder` made in
+target/staticlib, until one fails. NAME.. tries only these, and `list` says what each fault does. A fault that is none is in `NONE` with the reason.
+Fails where a fault survives, or one in `NONE` does not; where the crate or the header alone does not compile with a fault that is not in `COMPILER`,
+since a slip in the fault's own text would look like one that is noticed; where a text to replace does not stand once in its file; and where a
+function has fewer than two faults.
+"""
+import os
+import queue
+import re
+import shutil
+import signal
+import subprocess
+import sys
+import threading
+import time
+from collections import namedtuple
+
+from tree import ROOT, read
+
+LIB, REFUSAL, PATTERN, SESSION, FFI = (f"bindings/rust/src/{name}.rs" for name in ("lib", "refusal", "pattern", "session", "ffi"))
+HEADER = "bindings/c/tuilarder.h"
+WORK = os.path.join(ROOT, "target", "mutants")
+ARCHIVE = os.path.join(ROOT, "target", "staticlib", "libtuilarder.a")
+# seconds for one command; a fault that makes a test run on is noticed
+LIMIT = 180
+# what a trial says of a fault that the compiler notices with no test's help
+COMPILED = "the compiler"
+
+CARGO = ["--offline", "--locked", "-q"]
+# name and command, the quick ones first
+CRATE_STEPS = [(COMPILED, ["cargo", "build", *CARGO])] + [
+    (test, ["cargo", "test", *CARGO, "--test", test, *only]) for test, *only in (
+        ("types",), ("api",), ("layout",), ("wiped_memory",), ("differential", "types::"), ("long_lists", "types_"), ("oracle_sessions", "types_"),
+        ("published_values",))] + [
+    ("parameters", ["../c/tests/parameters.py"]), ("differential", ["cargo", "test", *CARGO, "--test", "differential", "functions::"]),
+    ("doc tests", ["cargo", "test", *CARGO, "--doc"])]
+HEADER_STEPS = [(COMPILED, ["cc", "-std=c11", "-Wall", "-Wextra", "-Werror", "-pedantic", "-fsyntax-only", "-x", "c", "tuilarder.h"]),
+                ("run-tests", ["./run-tests"])]
+
+Fault = namedtuple("Fault", "name file old new what")
+
+
+def of(file, *rows):
+    """Rows of a name, the old text, the new text, and what that does."""
+    return [Fault(row[0], file, *row[1:]) for row in rows]
+
+
+def before(text, line):
+    """Old and new text, to put a line before one that stands once."""
+    return text, f"{line}\n{text}"
+
+
+def called_for(function, other):
+    """Old and new text, with which a declaration of src/ffi.rs is of another function of the library."""
+    return before(f"pub fn {function}(", f'#[link_name = "{other}"]')
+
+
+CRATE = of(
+    LIB,
+    ("permute_accepts", "refusal::result(unsafe { ffi::tuilarder_permute(state) })",
+     "let _ = refusal::result(unsafe { ffi::tuilarder_permute(state) });\n    Ok(())", "a refused permutation is given as done"),
+    ("permute_copy", "ffi::tuilarder_permute(state)", "ffi::tuilarder_permute(&mut state.clone())", "a copy of the state is permuted"),
+    ("permute_reduces", *before("    // SAFETY: the state is lent", "    state[23] %= PRIME;"), "the last element is reduced, not refused"),
+    ("hash_cut", "data.as_ptr(), data.len(), ", "data.as_ptr(), data.len().min(1000), ", "1000 bytes are hashed at most"),
+    ("hash_16_bits", "data.as_ptr(), data.len(), ", "data.as_ptr(), data.len() as u16 as usize, ", "the length is cut to 16 bits"),
+    ("hash_not_given", "    digest\n}", "    digest[31] = 0;\n    digest\n}", "the last byte of the digest is lost"),
+    ("prime", "PRIME: u32 = 2013265921", "PRIME: u32 = 2013265923", "another prime"),
+    ("rate", "RATE: usize = 8", "RATE: usize = 9", "rate 9"),
+    ("capacity_and_rate", "RATE: usize = 8;\n\n/// The state's inner elements.\npub const CAPACITY: usize = 16",
+     "RATE: usize = 16;\n\n/// The state's inner elements.\npub const CAPACITY: usize = 8", "rate and capacity exchanged"),
+) + of(
+    REFUSAL,
+    ("number_of_the_next", "self as u32\n", "self as u32 + 1\n", "a refusal has the next one's number"),
+    ("number_below_8", "self as u32\n", "self as u32 & 7\n", "numbers lose their fourth bit"),
+    ("from_number_16_bits", "match number {", "match number & 0xffff {", "numbers above 16 bits are refusals too"),
+    ("from_number_any", "_ => None,", "_ => Some(Refusal::NotTagString),", "every other number is refusal 13"),
+    ("display_variant", "$(Refusal::$variant => $message,)*", "$(Refusal::$variant => stringify!($variant),)*", "the name in the message's place"),
+    ("display_prefix", *before("                f.write_str(match self {", '                f.write_str("refused: ")?;'), "more words than the table's"),
+    ("result_8_as_7", *before("    if number == 0 {", "    if number == 8 { return Err(Refusal::RecordNotOpen); }"), "8 is given as 7"),
+    ("result_13_as_6", *before("    if number == 0 {", "    if number == 13 { return Err(Refusal::SeparatorTooLong); }"), "13 is given as 6"),
+    ("result_10_accepted", "if number == 0 {", "if number == 0 || number == 10 {", "10 is given as accepted"),
+    ("result_of_others", "unwrap_or_else(|| unreachable!(\"the library answered {number}\"))", "unwrap_or(Refusal::NotTagString)",
+     "a number that is no refusal is given as 13"),
+    ("rows_exchanged", "12 BufferTooShort \"lent buffer shorter than the tag string\",\n    13 NotTagString",
+     "13 BufferTooShort \"lent buffer shorter than the tag string\",\n    12 NotTagString", "12 and 13 exchanged"),
+    ("row_more", "    13 NotTagString", "    14 NotCard \"not a card line\",\n    13 NotTagString", "a fourteenth refusal"),
+    ("row_message", "\"separator over 256 bytes\"", "\"separator over 255 bytes\"", "a wrong figure in a message"),
+) + of(
+    PATTERN,
+    ("absorb_bit", "ABSORB_BIT: u32 = 1 << 31", "ABSORB_BIT: u32 = 1 << 30", "the bit of ABSORB is the next one"),
+    ("max_length", "MAX_LENGTH: u32 = ABSORB_BIT - 1", "MAX_LENGTH: u32 = ABSORB_BIT - 2", "the longest length is one less"),
+    ("word_absorb_over", "ABSORB_BIT | length.min(MAX_LENGTH)", "ABSORB_BIT | length", "a length over 31 bits runs into the top bit"),
+    ("word_squeeze_over", "Call::Squeeze(length) => length.min(MAX_LENGTH)", "Call::Squeeze(length) => length", "a long SQUEEZE becomes an ABSORB"),
+    ("word_squeeze_mask", "Call::Squeeze(length) => length.min(MAX_LENGTH)", "Call::Squeeze(length) => length & MAX_LENGTH",
+     "a long SQUEEZE becomes a short one"),
+    ("length_of_absorbs", "Call::Absorb(length) | Call::Squeeze(length) => length,", "Call::Absorb(length) => length,\n            Call::Squeeze(_) => 1,",
+     "a SQUEEZE has any length"),
+    ("length_of_squeezes", "Call::Absorb(length) | Call::Squeeze(length) => length,",
+     "Call::Squeeze(length) => length,\n            Call::Absorb(_) => 1,", "an ABSORB has any length"),
+    ("of_word_16_bits", "let length = word & MAX_LENGTH;", "let length = word & 0xffff;", "lengths lose their upper bits"),
+    ("of_word_kind", "if word & ABSORB_BIT != 0 {", "if word & ABSORB_BIT == 0 {", "the kinds are exchanged"),
+    ("of_word_above", "if word & ABSORB_BIT != 0 {", "if word > ABSORB_BIT {", "the top bit alone is a SQUEEZE"),
+    ("new_length_ge", "call.length() > MAX_LENGTH", "call.length() >= MAX_LENGTH", "2147483647 is refused"),
+    ("new_length_over", "call.length() > MAX_LENGTH", "call.length() > MAX_LENGTH + 1", "2147483648 is accepted"),
+    ("new_length_first_63", "calls.iter().any(", "calls.iter().take(63).any(", "the last of 64 calls has any length"),
+    ("new_length_not_first", "calls.iter().any(", "calls.iter().skip(1).any(", "the first call has any length"),
+    ("new_length_unchecked", "calls.iter().any(|call| call.length() > MAX_LENGTH)", "false", "lengths that no word can hold are accepted"),
+    ("new_length_before", *before("        // one more than a pattern can have", "        if calls.iter().any(|call| call.length() > MAX_LENGTH) {\n"
+     "            return Err(Refusal::MergedLengthTooLong);\n        }"), "5 is given before 1 to 4"),
+    ("new_cut", "calls.len().min(words.len())", "calls.len().min(Pattern::MAX_WORDS)", "calls past the 64th are passed over"),
+    ("new_16_bits", "calls.len().min(words.len())", "(calls.len() as u16 as usize).min(words.len())", "65537 calls are one"),
+    ("new_32_bits", "calls.len().min(words.len())", "(calls.len() as u32 as usize).min(words.len())", "4294967297 calls are one"),
+    ("from_words_merged", "copy_from_slice(words);\n        Ok(pattern)", "copy_from_slice(words);\n        Ok(pattern.merged())",
+     "the pattern is the merged one"),
+    ("from_words_last", "pattern.words[..words.len()].copy_from_slice(words);",
+     "pattern.words[..words.len().min(63)].copy_from_slice(&words[..words.len().min(63)]);", "the 64th word is 0"),
+    ("from_words_buffer", "&mut [0; 4 * Pattern::MAX_WORDS])?", "&mut [0; 4 * Pattern::MAX_WORDS - 1])?", "64 merged words are refused"),
+    ("from_words_unchecked", "write_tag(words, &[], &mut [0; 4 * Pattern::MAX_WORDS])?;",
+     "let _ = write_tag(words, &[], &mut [0; 4 * Pattern::MAX_WORDS]);", "every list of up to 64 words is a pattern"),
+    ("read_front", "&string[string.len() - separator_length..]", "&string[..separator_length]", "the separator is the string's start"),
+    ("read_cut", "&string[string.len() - separator_length..]", "&string[string.len() - separator_length.min(100)..]", "100 bytes of it at most"),
+    ("read_separator_32_bits", "                separator_length,\n", "                separator_length as u32 as usize,\n",
+     "the separator's length is cut to 32 bits"),
+    ("read_string_32_bits", "                string.len(),\n", "                string.len() as u32 as usize,\n", "the string's length is cut to 32 bits"),
+    ("words_63", "&self.words[..self.count]", "&self.words[..self.count.min(63)]", "the 64th word is left out"),
+    ("words_all", "&self.words[..self.count]", "&self.words[..]", "the unused words are given too"),
+    ("calls_63", "self.words().iter().map(", "self.words().iter().take(63).map(", "the 64th call is left out"),
+    ("calls_back", "self.words().iter().map(", "self.words().iter().rev().map(", "the calls are given from the last"),
+    ("merged_is_self", "let mut buffer = [0; 4 * Pattern::MAX_WORDS];",
+     "if self.count > 40 { return self.clone(); }\n        let mut buffer = [0; 4 * Pattern::MAX_WORDS];", "over 40 words are not merged"),
+    ("merged_cut", "Pattern::read(string, 0)", "Pattern::read(&string[..string.len().min(248)], 0)", "62 words of it at most"),
+    ("merged_separator", ".tag_string(&[], &mut buffer)\n            .and_then(|string| Pattern::read(string, 0));",
+     ".tag_string(&[], &mut buffer)\n            .and_then(|string| Pattern::read(string, string.len() / 128 * 8));", "two words are left out of over 31"),
+    ("tag_string_longer", "Ok(&buffer[..length])", "Ok(&buffer[..(length + 1).min(buffer.len())])", "a byte more than was written"),
+    ("tag_string_separator", "write_tag(self.words(), separator, buffer)?", "write_tag(self.words(), &separator[..separator.len().min(200)], buffer)?",
+     "200 bytes of the separator at most"),
+    ("tag_string_clears", *before("        let length = write_tag(self.words()", "        buffer.fill(0);"), "the buffer is cleared first"),
+    ("debug_pattern_40", "debug_list().entries(self.calls())", "debug_list().entries(self.calls().take(40))", "40 calls are shown at most"),
+    ("debug_pattern_name", 'f.write_str("Pattern ")?;\n', "", "the type's name is not shown"),
+    ("write_tag_buffer_32_bits", "            buffer.len(),\n", "            buffer.len() as u32 as usize,\n", "the buffer's length is cut to 32 bits"),
+    ("write_tag_words_cut", "            words.len(),\n", "            words.len().min(64),\n", "words past the 64th are passed over"),
+    ("write_tag_separator_32_bits", "            separator.len(),\n", "            separator.len() as u32 as usize,\n",
+     "the separator's length is cut to 32 bits"),
+    ("write_tag_length", "Ok(written)", "Ok(written.min(511))", "the longest string is a byte shorter"),
+    ("write_tag_start", "let mut written = 0;", "let mut written = 7;", "the length is another before the call"),
+    ("max_words", "MAX_WORDS: usize = 64", "MAX_WORDS: usize = 65", "65 words"),
+    ("max_separator", "MAX_SEPARATOR: usize = 256", "MAX_SEPARATOR: usize = 255", "separators of 255 bytes"),
+    ("max_tag_string", "4 * Pattern::MAX_WORDS + Pattern::MAX_SEPARATOR;", "4 * Pattern::MAX_WORDS + Pattern::MAX_SEPARATOR - 1;",
+     "tag strings of 511 bytes"),
+    ("equal_by_count", "#[derive(Clone, PartialEq, Eq, Hash)]\npub struct Pattern",
+     "impl PartialEq for Pattern { fn eq(&self, o: &Pattern) -> bool { self.count == o.count } }\nimpl Eq for Pattern {}\n"
+     "#[derive(Clone, Hash)]\npub struct Pattern", "patterns of one count are equal"),
+    ("equal_by_32", "#[derive(Clone, PartialEq, Eq, Hash)]\npub struct Pattern",
+     "impl PartialEq for Pattern { fn eq(&self, o: &Pattern) -> bool { self.count == o.count && self.words[..32] == o.words[..32] } }\n"
+     "impl Eq for Pattern {}\n#[derive(Clone, Hash)]\npub struct Pattern", "only 32 words are compared"),
+) + of(
+    SESSION,
+    ("start_separator_255", "                separator.len(),", "                separator.len().min(255),", "255 bytes of the separator at most"),
+    ("start_separator_256", "                separator.len(),", "                separator.len().min(256),", "a separator of 257 bytes is accepted"),
+    ("start_separator_8_bits", "                separator.len(),", "                separator.len() as u8 as usize,", "256 bytes are none"),
+    ("start_words_62", "                words.len(),", "                words.len().min(62),", "words past the 62nd are passed over"),
+    ("start_other_words", "let words = pattern.words();", "let merged = pattern.merged();\n        let words = &merged.words()[merged.words().len() % 2..];",
+     "a pattern of odd length loses its first word"),
+    ("start_merged", "let words = pattern.words();", "let merged = pattern.merged();\n        let words = merged.words();", "START gets the merged pattern"),
+    ("start_accepts", "result(number)?;", "let _ = result(number);", "a refused START gives a closed session"),
+    ("absorb_4096", "elements.as_ptr(), elements.len()", "elements.as_ptr(), elements.len().min(4096)", "4096 elements at most"),
+    ("absorb_16_bits", "elements.as_ptr(), elements.len()", "elements.as_ptr(), elements.len() as u16 as usize", "the length is cut to 16 bits"),
+    ("absorb_32_bits", "elements.as_ptr(), elements.len()", "elements.as_ptr(), elements.len() as u32 as usize", "the length is cut to 32 bits"),
+    ("absorb_empty", *before("        result(unsafe { ffi::tuilarder_absorb", "        if elements.is_empty() { return Ok(()); }"),
+     "an empty call on a bad record is accepted"),
+    ("squeeze_2000", "buffer.as_mut_ptr(), buffer.len()", "buffer.as_mut_ptr(), buffer.len().min(2000)", "2000 elements at most"),
+    ("squeeze_32_bits", "buffer.as_mut_ptr(), buffer.len()", "buffer.as_mut_ptr(), buffer.len() as u32 as usize", "the length is cut to 32 bits"),
+    ("squeeze_empty", *before("        result(unsafe { ffi::tuilarder_squeeze", "        if buffer.is_empty() { return Ok(()); }"),
+     "an empty call on a bad record is accepted"),
+    ("squeeze_clears", *before("        result(unsafe { ffi::tuilarder_squeeze", "        buffer.fill(0);"), "a refused call clears the buffer"),
+    ("challenge_accepts", "self.squeeze(&mut elements)?;", "let _ = self.squeeze(&mut elements);", "a refused challenge is zeros"),
+    ("challenge_16", "self.squeeze(&mut elements)?", "self.squeeze(&mut elements[..if N < 16 { N } else { 16 }])?", "16 elements at most, then zeros"),
+    ("finish_accepts", "result(unsafe { ffi::tuilarder_finish(&mut self.record) })",
+     "let _ = result(unsafe { ffi::tuilarder_finish(&mut self.record) });\n        Ok(())", "every FINISH is accepted"),
+    ("finish_closed", *before("        // SAFETY: the record is this session's own.\n        result(", "        if self.record.status == 0 { return Ok(()); }"),
+     "FINISH of a closed session is accepted"),
+    ("finish_twice", *before("        result(unsafe { ffi::tuilarder_finish", "        let _ = unsafe { ffi::tuilarder_finish(&mut self.record) };"),
+     "the library is asked twice, and the second time refuses"),
+    ("fork_phase", "Session { record: self.record }",
+     "Session { record: Record { done: if self.record.phase > 2 { 0 } else { self.record.done }, ..self.record } }", "a fork starts its phase anew"),
+    ("fork_permutations", "Session { record: self.record }", "Session { record: Record { permutations: 0, ..self.record } }", "a fork counts from 0"),
+    ("fork_closed", "Session { record: self.record }", "Session { record: if self.record.status == 1 { self.record } else { Record::WIPED } }",
+     "a fork of a closed record is wiped"),
+    ("permutations_32_bits", "        self.record.permutations\n", "        u64::from(self.record.permutations as u32)\n", "the count is cut to 32 bits"),
+    ("permutations_phase", "        self.record.permutations\n", "        u64::from(self.record.phase)\n", "the phase in the count's place"),
+    ("record_closed", "        &self.record\n", "        if self.record.status == 1 { &self.record } else { &Record::WIPED }\n",
+     "a closed record is given as wiped"),
+    ("record_done", "        &self.record\n", "        if self.record.phase < self.record.count { &self.record } else { &Record::WIPED }\n",
+     "a record whose pattern is done is given as wiped"),
+    ("from_record_opens", "from_record(record: Record) -> Session {\n",
+     "from_record(mut record: Record) -> Session {\n        if record.status != 0 { record.status = 1; }\n", "every status but 0 is open"),
+    ("from_record_wipes", "from_record(record: Record) -> Session {\n",
+     "from_record(mut record: Record) -> Session {\n        if record.status != 1 { record = Record::WIPED; }\n", "a closed record is wiped"),
+    ("from_record_8_bits", "from_record(record: Record) -> Session {\n", "from_record(mut record: Record) -> Session {\n        record.status &= 0xff;\n",
+     "the status is cut to 8 bits"),
+    ("debug_open", "&(self.record.status == 1)", "&(self.record.status != 0)", "every status but 0 is shown as open"),
+    ("debug_done", '.field("done", &self.record.done)', '.field("done", &self.record.absorb_position)', "another field in the place of `done`"),
+    ("debug_state", '.field("done", &self.record.done)', '.field("done", &self.record.done)\n            .field("state", &self.record.state)',
+     "the state is shown"),
+    ("drop_open", *before("        unsafe { ptr::write_volatile", "        if self.record.status == 1 { return; }"), "an open record is left"),
+    ("drop_closed", *before("        unsafe { ptr::write_volatile", "        if self.record.status != 1 { return; }"), "a closed record is left"),
+    ("drop_state", "ptr::write_volatile(&mut self.record, Record::WIPED)", "ptr::write_volatile(&mut self.record.state, [0; 24])",
+     "only the state is wiped"),
+    ("drop_plain", "unsafe { ptr::write_volatile(&mut self.record, Record::WIPED) };\n        compiler_fence(Ordering::SeqCst);",
+     "self.record = Record::WIPED;", "the write is not volatile"),
+    ("session_clone", "pub struct Session {", "#[derive(Clone)]\npub struct Session {", "a session can be cloned"),
+) + of(
+    FFI,
+    ("wiped_status", "        status: 0,\n", "        status: 2,\n", "a wiped record has status 2"),
+    ("wiped_words", "        words: [0; 64],\n", "        words: [1; 64],\n", "a wiped record has words"),
+    ("record_layout", "#[repr(C)]\n", "", "Rust orders the fields"),
+    ("record_fields", "pub phase: u32,\n    /// How many elements of it are done.\n    pub done: u32,",
+     "pub done: u32,\n    /// How many elements of it are done.\n    pub phase: u32,", "`phase` and `done` exchanged"),
+    ("record_positions", "pub absorb_position: u32,\n    /// From 0 to 8.\n    pub squeeze_position: u32,",
+     "pub squeeze_position: u32,\n    /// From 0 to 8.\n    pub absorb_position: u32,", "the positions exchanged"),
+    ("record_words", "pub words: [u32; 64],", "pub words: [u32; 65],", "a word more"),
+    ("layout_version", "(1 << 32) | 384", "(2 << 32) | 384", "the crate is for version 2"),
+    ("layout_bytes", "(1 << 32) | 384", "(1 << 32) | 380", "records of 380 bytes"),
+    ("layout_32_bits", "pub fn tuilarder_layout_1() -> u64;", "pub fn tuilarder_layout_1() -> u32;", "the answer has 32 bits"),
+    ("layout_of_version_2", "pub fn tuilarder_layout_1() -> u64;", "pub fn tuilarder_layout_2() -> u64;", "the function of another version"),
+    ("ffi_start_lengths", "words_len: usize,\n        separator: *const u8,\n        separator_len: usize,\n    ) -> u32;",
+     "separator_len: usize,\n        separator: *const u8,\n        words_len: usize,\n    ) -> u32;", "the lengths' names exchanged"),
+    ("ffi_start_finish", "pub fn tuilarder_start(", '#[link_name = "tuilarder_finish"]\n    pub fn tuilarder_start(', "START is FINISH"),
+    ("ffi_absorb_squeeze", *called_for("tuilarder_absorb", "tuilarder_squeeze"), "ABSORB is SQUEEZE"),
+    ("ffi_absorb_finish", *called_for("tuilarder_absorb", "tuilarder_finish"), "ABSORB is FINISH"),
+    ("ffi_squeeze_absorb", *called_for("tuilarder_squeeze", "tuilarder_absorb"), "SQUEEZE is ABSORB"),
+    ("ffi_squeeze_const", "record: *mut Record, out: *mut u32, len", "record: *mut Record, out: *const u32, len", "what is written is lent as read only"),
+    ("ffi_finish_permute", *called_for("tuilarder_finish", "tuilarder_permute"), "FINISH is the permutation"),
+    ("ffi_finish_const", "tuilarder_finish(record: *mut Record)", "tuilarder_finish(record: *const Record)", "the record is lent as read only"),
+    ("ffi_permute_finish", *called_for("tuilarder_permute", "tuilarder_finish"), "the permutation is FINISH"),
+    ("ffi_permute_const", "tuilarder_permute(state: *mut [u32; 24])", "tuilarder_permute(state: *const [u32; 24])", "the state is lent as read only"),
+    ("ffi_write_tag_lengths", "separator_len: usize,\n        out: *mut u8,\n        out_len: usize,", "out_len: usize,\n        out: *mut u8,\n        separator_len: usize,",
+     "the lengths' names exchanged"),
+    ("ffi_write_tag_const", "out: *mut u8,", "out: *const u8,", "what is written is lent as read only"),
+    ("ffi_read_tag_lengths", "len: usize,\n        separator_len: usize,\n        words: *mut", "separator_len: usize,\n        len: usize,\n        words: *mut",
+     "the lengths' names exchanged"),
+    ("ffi_read_tag_const", "count: *mut usize,", "count: *const usize,", "the count is lent as read only"),
+    ("ffi_hash_answers", "out: *mut [u8; 32]);", "out: *mut [u8; 32]) -> u32;", "the hash has an answer"),
+    ("ffi_hash_const", "out: *mut [u8; 32]);", "out: *const [u8; 32]);", "the digest is lent as read only"),
+)
+
+C = of(
+    HEADER,
+    ("c_prime", "TUILARDER_PRIME 2013265921u", "TUILARDER_PRIME 2013265923u", "another prime"),
+    ("c_prime_signed", "TUILARDER_PRIME 2013265921u", "TUILARDER_PRIME 2013265921", "the prime is signed"),
+    ("c_rate", "TUILARDER_RATE 8", "TUILARDER_RATE 16", "rate 16"),
+    ("c_capacity", "TUILARDER_CAPACITY 16", "TUILARDER_CAPACITY 8", "capacity 8"),
+    ("c_width", "TUILARDER_WIDTH 24", "TUILARDER_WIDTH 25", "an element more"),
+    ("c_absorb_bit", "0x80000000u", "0x40000000u", "the bit of ABSORB is the next one"),
+    ("c_max_words", "TUILARDER_MAX_WORDS 64", "TUILARDER_MAX_WORDS 63", "a word less"),
+    ("c_max_separator", "TUILARDER_MAX_SEPARATOR 256", "TUILARDER_MAX_SEPARATOR 255", "separators of 255 bytes"),
+    ("c_max_tag_string", "TUILARDER_MAX_TAG_STRING 512", "TUILARDER_MAX_TAG_STRING 511", "tag strings of 511 bytes"),
+    ("c_digest", "TUILARDER_DIGEST_LENGTH 32", "TUILARDER_DIGEST_LENGTH 31", "digests of 31 bytes"),
+    ("c_number", "TUILARDER_ELEMENT_NOT_REDUCED = 10", "TUILARDER_ELEMENT_NOT_REDUCED = 9", "two numbers are one"),
+    ("c_numbers", "RECORD_NOT_OPEN = 7,\n    /* open record not sound */\n    TUILARDER_RECORD_NOT_SOUND = 8",
+     "RECORD_NOT_OPEN = 8,\n    /* open record not sound */\n    TUILARDER_RECORD_NOT_SOUND = 7", "7 and 8 exchanged"),
+    ("c_fields", "uint32_t phase;\n    /* how many elements of it are done */\n    uint32_t done;",
+     "uint32_t done;\n    /* how many elements of it are done */\n    uint32_t phase;", "`phase` and `done` exchanged"),
+    ("c_positions", "uint32_t absorb_position;\n    uint32_t squeeze_position;", "uint32_t squeeze_position;\n    uint32_t absorb_position;",
+     "the positions exchanged"),
+    ("c_positions_unasserted", "uint32_t absorb_position;\n    uint32_t squeeze_position;", "uint32_t squeeze_position, absorb_position;\n"
+     "#define absorb_position squeeze_position", "one position has both names"),
+    ("c_field_signed", "uint32_t count;", "int32_t count;", "a field is signed"),
+    ("c_permutations_32_bits", "uint64_t permutations;", "uint32_t permutations, above;", "the count has 32 bits"),
+    ("c_offset", "TUILARDER_FIELD_AT(words, 100)", "TUILARDER_FIELD_AT(words, 104)", "a wrong offset"),
+    ("c_size", "== 384)", "== 380)", "a wrong size"),
+    ("c_offset_unasserted", "TUILARDER_FIELD_AT(phase, 360);\n", "", "an offset is not asserted"),
+    ("c_32_bit_target", "TUILARDER_ASSERT(sizeof(size_t) == 8 && sizeof(void *) == 8);\n", "", "a target of 32 bits is accepted"),
+    ("c_layout_version", "UINT64_C(1) << 32", "UINT64_C(2) << 32", "the header is for version 2"),
+    ("c_layout_bytes", "<< 32 | 384", "<< 32 | 380", "records of 380 bytes"),
+    ("c_guard", "#define TUILARDER_H\n", "", "the header cannot be taken in twice"),
+    ("c_names", 'extern "C" {', 'extern "C++" {', "C++ looks for other names"),
+    ("c_answers", "__attribute__((warn_unused_result)) uint32_t", "uint32_t", "an answer that nobody looks at is accepted"),
+    ("c_answers_elsewhere", "#ifdef __GNUC__", "#ifdef __GNUC", "the attribute is for no compiler"),
+    ("c_macro_left", "#undef TUILARDER_ANSWER\n", "", "a macro of the header's own is left behind"),
+    ("c_layout_32_bits", "uint64_t tuilarder_layout_1(void)", "uint32_t tuilarder_layout_1(void)", "the answer has 32 bits"),
+    ("c_layout_of_version_2", "uint64_t tuilarder_layout_1(void)", "uint64_t tuilarder_layout_2(void)", "the function of another version"),
+    ("c_start_const", "tuilarder_start(struct tuilarder_session *record, const uint32_t *words", "tuilarder_start(struct tuilarder_session *record, uint32_t *words",
+     "words that are only read are not const"),
+    ("c_start_lengths", "size_t words_length,\n                                 const uint8_t *separator, size_t separator_length);",
+     "size_t separator_length,\n                                 const uint8_t *separator, size_t words_length);", "the lengths' names exchanged"),
+    ("c_absorb_const", "const uint32_t *elements", "uint32_t *elements", "elements that are only read are not const"),
+    ("c_absorb_order", "const uint32_t *elements, size_t length", "size_t length, const uint32_t *elements", "the length before the list"),
+    ("c_squeeze_const", "uint32_t *out, size_t length", "const uint32_t *out, size_t length", "what is written is const"),
+    ("c_squeeze_answer", "TUILARDER_ANSWER tuilarder_squeeze", "uint32_t tuilarder_squeeze", "its answer need not be looked at"),
+    ("c_finish_const", "tuilarder_finish(struct", "tuilarder_finish(const struct", "the record that is wiped is const"),
+    ("c_finish_void", "TUILARDER_ANSWER tuilarder_finish", "void tuilarder_finish", "it has no answer"),
+    ("c_write_tag_lengths", "size_t separator_length, uint8_t *out, size_t out_length", "size_t out_length, uint8_t *out, size_t separator_length",
+     "the lengths' names exchanged"),
+    ("c_write_tag_written", "size_t out_length, size_t *written", "size_t out_length, uint32_t *written", "the length that is written has 32 bits"),
+    ("c_read_tag_lengths", "size_t length, size_t separator_length,\n", "size_t separator_length, size_t length,\n", "the lengths' names exchanged"),
+    ("c_read_tag_count", "size_t *count", "uint32_t *count", "the count that is written has 32 bits"),
+    ("c_permute_const", "tuilarder_permute(uint32_t state", "tuilarder_permute(const uint32_t state", "the state that is written is const"),
+    ("c_permute_answer", "TUILARDER_ANSWER tuilarder_permute", "int32_t tuilarder_permute", "its answer is signed"),
+    ("c_hash_const", "tuilarder_sha3_256(const uint8_t *data", "tuilarder_sha3_256(uint8_t *data", "bytes that are only read are not const"),
+    ("c_hash_length", "const uint8_t *data, size_t length", "const uint8_t *data, uint32_t length", "the length has 32 bits"),
+)
+
+FAULTS = CRATE + C
+
+# What changes nothing that a caller sees.
+NONE = {
+    "of_word_above": "the word that is the top bit alone has length 0, so it is in no pattern",
+    "result_of_others": "the library answers with no other number, as is proved",
+    "start_merged": "a pattern and the merged one have the same tag string, so their sessions are the same",
+    "write_tag_start": "the library writes it in every call",
+    "drop_plain": "this compiler keeps the plain write too; that it is volatile is for one that would leave it out",
+    "c_offset_unasserted": "the field is in its place; the assertion is for a compiler that puts it elsewhere",
+}
+
+# What the crate's or the header's own assertions or types turn down, before any test.
+COMPILER = {"rate", "record_layout", "record_fields", "record_positions", "record_words", "c_width", "c_max_words", "c_fields", "c_positions",
+            "c_positions_unasserted", "c_offset", "c_size", "max_words"}
+
+
+# ---- the list of faults
+
+def functions(path):
+    """The functions of a source, each with where it begins and ends; a body ends where a brace stands below the line's start."""
+    text = read(path)
+    if path == HEADER:
+        return [(match[1], match.start(), match.end()) for match in re.finditer(r"^\w+ (tuilarder_\w+)\([^;]*\);", text, re.MULTILINE)]
+    found = []
+    for match in re.finditer(r"^( *)(?:[\w()]+ )*fn (\w+)", text, re.MULTILINE):
+        opening = re.compile(r"\{|;$", re.MULTILINE).search(text, match.end())
+        end = opening.end() if opening[0] == ";" else text.index(f"\n{match[1]}}}\n", opening.end())
+        found.append((match[2], match.start(), end))
+    return found
+
+
+def not_once():
+    for fault in FAULTS:
+        count = read(fault.file).count(fault.old)
+        if count != 1:
+            yield f"{fault.name}: the text to replace stands {count} times in {fault.file}"
+
+
+def too_few():
+    for path in (LIB, REFUSAL, PATTERN, SESSION, FFI, HEADER):
+        places = [(read(path).find(fault.old), len(fault.old)) for fault in FAULTS if fault.file == path and fault.name not in NONE]
+        for name, start, end in functions(path):
+            count = sum(place < end and place + length > start for place, length in places)
+            if count < 2:
+                yield f"{path}: {name} has {count} faults, and has to have 2"
+
+
+def wrong_names():
+    names = [fault.name for fault in FAULTS]
+    yield from (f"two faults are called {name}" for name in sorted({name for name in names if names.count(name) > 1}))
+    yield from (f"no fault is called {name}" for name in sorted({*NONE, *COMPILER} - {*names}))
+
+
+# ---- one trial
+
+def fresh_copy(folder):
+    """bindings/ alone is copied; what its tests read beside it is this checkout's."""
+    os.makedirs(folder, exist_ok=True)
+    shutil.rmtree(os.path.join(folder, "bindings"), ignore_errors=True)
+    shutil.copytree(os.path.join(ROOT, "bindings"), os.path.join(folder, "bindings"), ignore=shutil.ignore_patterns("target", "__pycache__"))
+    for name in ("crates", "docs", "tests"):
+        link = os.path.join(folder, name)
+        if not os.path.islink(link):
+            os.symlink(os.path.join(ROOT, name), link)
+
+
+def run(command, folder, at):
+    """The status and the output of a command; the status is None past the time limit."""
+    environment = {**os.environ, "TUILARDER_ARCHIVE": ARCHIVE, "TUILARDER_ARCHIVE_DIR": os.path.dirname(ARCHIVE),
+                   "CARGO_TARGET_DIR": os.path.join(folder, "cargo")}
+    environment.pop("TUILARDER_SEED", None)
+    process = subprocess.Popen(command, cwd=os.path.join(folder, at), env=environment, stdin=subprocess.DEVNULL, stdout=subprocess.PIPE,
+                               stderr=subprocess.STDOUT, text=True, errors="replace", start_new_session=True)
+    try:
+        output = process.communicate(timeout=LIMIT)[0]
+        return process.returncode, output
+    except subprocess.TimeoutExpired:
+        # the tests that the command started, too
+        os.killpg(process.pid, signal.SIGKILL)
+        process.communicate()
+        return None, ""
+
+
+def reason(status, output):
+    """What a failed command says, in a few words."""
+    if status is None:
+        return "time limit"
+    tests = sorted(set(re.findall(r"^    ([\w:]+)$", output, re.MULTILINE)))
+    said = re.search(r"^.*(?:error(?:\[\w+\])?:|signal:|has parameters|has to be turned down).*$|^bindings/.*\.(?:c|cpp):\d+: .*$", output, re.MULTILINE)
+    return ", ".join(tests) or (said[0].strip() if said else output.strip()[-150:])
+
+
+def noticed(folder, file):
+    """The first step that fails on the copy as it is, and what it says; None if all pass."""
+    steps, at = (HEADER_STEPS, "bindings/c") if file == HEADER else (CRATE_STEPS, "bindings/rust")
+    for name, command in steps:
+        status, output = run(command, folder, at)
+        if status != 0:
+            return name, reason(status, output)
+    return None
+
+
+def put(folder, path, text):
+    with open(os.path.join(folder, path), "w") as file:
+        file.write(text)
+
+
+def trial(folder, fault):
+    text = read(fault.file)
+    put(folder, fault.file, text.replace(fault.old, fault.new))
+    found = noticed(folder, fault.file)
+    put(folder, fault.file, text)
+    return found
+
+
+def verdict(fault, found):
+    """Whether that is as expected, and a line."""
+    if found is None:
+        none = NONE.get(fault.name)
+        return none is not None, f"survived, and is none: {none}" if none else f"SURVIVED: {fault.what}"
+    if fault.name in NONE:
+        return False, f"KILLED, and is said to be none, by {found[0]}: {found[1]}"
+    if found[0] == COMPILED and fault.name not in COMPILER:
+        return False, f"DOES NOT COMPILE: {found[1]}"
+    return True, f"killed by {found[0]}: {found[1]}"
+
+
+# ---- all of them
+
+def worker(folder, files, waiting, results):
+    """Takes faults from the queue, once the tests pass on a copy with none."""
+    fresh_copy(folder)
+    for file in files:
+        found = noticed(folder, file)
+        if found:
+            results.append((None, False))
+            print(f"with no fault, {found[0]} fails: {found[1]}", flush=True)
+            return
+    while True:
+        try:
+            fault = waiting.get_nowait()
+        except queue.Empty:
+            return
+        began = time.monotonic()
+        good, line = verdict(fault, trial(folder, fault))
+        results.append((fault, good))
+        print(f"{fault.name} ({time.monotonic() - began:.0f} s) {line[:200]}", flush=True)
+
+
+def try_all(faults):
+    waiting, results = queue.Queue(), []
+    for fault in faults:
+        waiting.put(fault)
+    files = sorted({fault.file if fault.file == HEADER else LIB for fault in faults})
+    threads = [threading.Thread(target=worker, args=(os.path.join(WORK, str(k)), files, waiting, results)) for k in range(min(2, len(faults)))]
+    for thread in threads:
+        thread.start()
+    for thread in threads:
+        thread.join()
+    tried = {fault.name for fault, good in results if good}
+    wrong = [fault.name for fault in faults if fault.name not in tried]
+    none = sum(fault.name in NONE for fault in faults)
+    if wrong or len(results) != len(faults):
+        sys.exit(f"{len(faults)} faults, not as expected: {', '.join(wrong)}")
+    print(f"{len(faults)} faults, {len(faults) - none} killed, {none} are none")
+
+
+def main(arguments):
+    findings = [*not_once(), *too_few(), *wrong_names()]
+    by_name = {fault.name: fault for fault in FAULTS}
+    if arguments == ["list"]:
+        for fault in FAULTS:
+            print(f"{fault.name}: {fault.file}: {fault.what}" + (f" (none: {NONE[fault.name]})" if fault.name in NONE else ""))
+    if not arguments or findings:
+        sys.exit("\n".join(findings) or __doc__)
+    if arguments == ["test"]:
+        try_all(FAULTS)
+    elif arguments != ["list"]:
+        unknown = [name for name in arguments if name not in by_name]
+        if unknown:
+            sys.exit(f"no fault is called {', '.join(unknown)}: tests/mutants.py list")
+        try_all([by_name[name] for name in arguments])
+
+
+if __name__ == "__main__":
+    main(sys.argv[1:])
