@@ -366,10 +366,12 @@ def wrong_names():
 # ---- one trial
 
 def fresh_copy(folder):
-    """bindings/ alone is copied; what its tests read beside it is this checkout's."""
+    """bindings/ alone is copied; what its tests read beside it is this checkout's. A copy is of now: with the times of the originals cargo would
+    take what it built of an earlier fault."""
     os.makedirs(folder, exist_ok=True)
     shutil.rmtree(os.path.join(folder, "bindings"), ignore_errors=True)
-    shutil.copytree(os.path.join(ROOT, "bindings"), os.path.join(folder, "bindings"), ignore=shutil.ignore_patterns("target", "__pycache__"))
+    shutil.copytree(os.path.join(ROOT, "bindings"), os.path.join(folder, "bindings"), copy_function=shutil.copy,
+                    ignore=shutil.ignore_patterns("target", "__pycache__"))
     for name in ("crates", "docs", "tests"):
         link = os.path.join(folder, name)
         if not os.path.islink(link):
