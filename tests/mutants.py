@@ -23,9 +23,10 @@ import threading
 import time
 from collections import namedtuple
 
-from tree import ROOT, read
+from tree import ROOT, files, read
 
-LIB, REFUSAL, PATTERN, SESSION, FFI = (f"bindings/rust/src/{name}.rs" for name in ("lib", "refusal", "pattern", "session", "ffi"))
+SOURCES = [f"bindings/rust/src/{name}.rs" for name in ("lib", "refusal", "pattern", "session", "ffi")]
+LIB, REFUSAL, PATTERN, SESSION, FFI = SOURCES
 HEADER = "bindings/c/tuilarder.h"
 WORK = os.path.join(ROOT, "target", "mutants")
 ARCHIVE = os.path.join(ROOT, "target", "staticlib", "libtuilarder.a")
@@ -92,6 +93,7 @@ CRATE = of(
     ("rows_exchanged", "12 BufferTooShort \"lent buffer shorter than the tag string\",\n    13 NotTagString",
      "13 BufferTooShort \"lent buffer shorter than the tag string\",\n    12 NotTagString", "12 and 13 exchanged"),
     ("row_more", "    13 NotTagString", "    14 NotCard \"not a card line\",\n    13 NotTagString", "a fourteenth refusal"),
+    ("no_error", "impl core::error::Error for Refusal {}\n", "", "a refusal is no `Error`"),
     ("row_message", "\"separator over 256 bytes\"", "\"separator over 255 bytes\"", "a wrong figure in a message"),
 ) + of(
     PATTERN,
@@ -161,6 +163,9 @@ CRATE = of(
     ("equal_by_32", "#[derive(Clone, PartialEq, Eq, Hash)]\npub struct Pattern",
      "impl PartialEq for Pattern { fn eq(&self, o: &Pattern) -> bool { self.count == o.count && self.words[..32] == o.words[..32] } }\n"
      "impl Eq for Pattern {}\n#[derive(Clone, Hash)]\npub struct Pattern", "only 32 words are compared"),
+    ("hash_by_place", "#[derive(Clone, PartialEq, Eq, Hash)]\npub struct Pattern",
+     "impl core::hash::Hash for Pattern { fn hash<H: core::hash::Hasher>(&self, h: &mut H) { core::ptr::hash(self, h) } }\n"
+     "#[derive(Clone, PartialEq, Eq)]\npub struct Pattern", "equal patterns have unequal hashes"),
 ) + of(
     SESSION,
     ("start_separator_255", "                separator.len(),", "                separator.len().min(255),", "255 bytes of the separator at most"),
@@ -271,8 +276,7 @@ C = of(
      "uint32_t done;\n    /* how many elements of it are done */\n    uint32_t phase;", "`phase` and `done` exchanged"),
     ("c_positions", "uint32_t absorb_position;\n    uint32_t squeeze_position;", "uint32_t squeeze_position;\n    uint32_t absorb_position;",
      "the positions exchanged"),
-    ("c_positions_unasserted", "uint32_t absorb_position;\n    uint32_t squeeze_position;", "uint32_t squeeze_position, absorb_position;\n"
-     "#define absorb_position squeeze_position", "one position has both names"),
+    ("c_field_read", "#undef TUILARDER_ASSERT\n", "#undef TUILARDER_ASSERT\n#define phase done\n", "`done` is read for `phase`, past the assertions"),
     ("c_field_signed", "uint32_t count;", "int32_t count;", "a field is signed"),
     ("c_permutations_32_bits", "uint64_t permutations;", "uint32_t permutations, above;", "the count has 32 bits"),
     ("c_offset", "TUILARDER_FIELD_AT(words, 100)", "TUILARDER_FIELD_AT(words, 104)", "a wrong offset"),
@@ -323,7 +327,7 @@ NONE = {
 
 # What the crate's or the header's own assertions or types turn down, before any test.
 COMPILER = {"rate", "record_layout", "record_fields", "record_positions", "record_words", "c_width", "c_max_words", "c_fields", "c_positions",
-            "c_positions_unasserted", "c_offset", "c_size", "max_words"}
+            "c_offset", "c_size", "max_words"}
 
 
 # ---- the list of faults
@@ -348,8 +352,16 @@ def not_once():
             yield f"{fault.name}: the text to replace stands {count} times in {fault.file}"
 
 
+def not_read():
+    """Functions of the crate that `functions` would pass over; and a source that is not in the list."""
+    for path in files("bindings/rust/src/**/*.rs"):
+        code = re.sub(r"^ *//.*$", "", read(path), flags=re.MULTILINE)
+        if path not in SOURCES or len(re.findall(r"\bfn \w+", code)) != len(functions(path)):
+            yield f"{path}: not all functions are read"
+
+
 def too_few():
-    for path in (LIB, REFUSAL, PATTERN, SESSION, FFI, HEADER):
+    for path in (*SOURCES, HEADER):
         places = [(read(path).find(fault.old), len(fault.old)) for fault in FAULTS if fault.file == path and fault.name not in NONE]
         for name, start, end in functions(path):
             count = sum(place < end and place + length > start for place, length in places)
@@ -441,10 +453,10 @@ def verdict(fault, found):
 
 # ---- all of them
 
-def worker(folder, files, waiting, results):
+def worker(folder, kinds, waiting, results):
     """Takes faults from the queue, once the tests pass on a copy with none."""
     fresh_copy(folder)
-    for file in files:
+    for file in kinds:
         found = noticed(folder, file)
         if found:
             results.append((None, False))
@@ -462,11 +474,14 @@ def worker(folder, files, waiting, results):
 
 
 def try_all(faults):
+    if not os.path.isfile(ARCHIVE):
+        sys.exit("no archive at target/staticlib/libtuilarder.a (rt staticlib tuilarder makes it)")
     waiting, results = queue.Queue(), []
     for fault in faults:
         waiting.put(fault)
-    files = sorted({fault.file if fault.file == HEADER else LIB for fault in faults})
-    threads = [threading.Thread(target=worker, args=(os.path.join(WORK, str(k)), files, waiting, results)) for k in range(min(2, len(faults)))]
+    kinds = sorted({fault.file if fault.file == HEADER else LIB for fault in faults})
+    threads = [threading.Thread(target=worker, args=(os.path.join(WORK, str(k)), kinds, waiting, results), daemon=True)
+               for k in range(min(2, len(faults)))]
     for thread in threads:
         thread.start()
     for thread in threads:
@@ -480,7 +495,7 @@ def try_all(faults):
 
 
 def main(arguments):
-    findings = [*not_once(), *too_few(), *wrong_names()]
+    findings = [*not_once(), *not_read(), *too_few(), *wrong_names()]
     by_name = {fault.name: fault for fault in FAULTS}
     if arguments == ["list"]:
         for fault in FAULTS:
