@@ -59,6 +59,13 @@ def before(text, line):
     return text, f"{line}\n{text}"
 
 
+def exchanged(path, first, last, one, other):
+    """Old and new text, with two names exchanged from one text to another; the old text is empty, and so does not stand once, if they are not there."""
+    text = read(path)
+    start, end = text.find(first), text.find(last) + len(last)
+    return text[start:end], re.sub(rf"\b(?:{one}|{other})\b", lambda name: other if name[0] == one else one, text[start:end])
+
+
 def called_for(function, other):
     """Old and new text, with which a declaration of src/ffi.rs is of another function of the library."""
     return before(f"pub fn {function}(", f'#[link_name = "{other}"]')
@@ -172,8 +179,8 @@ CRATE = of(
     ("start_separator_256", "                separator.len(),", "                separator.len().min(256),", "a separator of 257 bytes is accepted"),
     ("start_separator_8_bits", "                separator.len(),", "                separator.len() as u8 as usize,", "256 bytes are none"),
     ("start_words_62", "                words.len(),", "                words.len().min(62),", "words past the 62nd are passed over"),
-    ("start_other_words", "let words = pattern.words();", "let merged = pattern.merged();\n        let words = &merged.words()[merged.words().len() % 2..];",
-     "a pattern of odd length loses its first word"),
+    ("start_other_words", "let words = pattern.words();", "let words = &pattern.words()[pattern.words().len() % 2..];",
+     "a pattern of an odd count loses its first word"),
     ("start_merged", "let words = pattern.words();", "let merged = pattern.merged();\n        let words = merged.words();", "START gets the merged pattern"),
     ("start_accepts", "result(number)?;", "let _ = result(number);", "a refused START gives a closed session"),
     ("absorb_4096", "elements.as_ptr(), elements.len()", "elements.as_ptr(), elements.len().min(4096)", "4096 elements at most"),
@@ -229,6 +236,8 @@ CRATE = of(
     ("record_layout", "#[repr(C)]\n", "", "Rust orders the fields"),
     ("record_fields", "pub phase: u32,\n    /// How many elements of it are done.\n    pub done: u32,",
      "pub done: u32,\n    /// How many elements of it are done.\n    pub phase: u32,", "`phase` and `done` exchanged"),
+    ("record_fields_asserted", *exchanged(FFI, "pub phase: u32,", "offset_of!(Record, done) == 364", "phase", "done"),
+     "`phase` and `done` exchanged, in the assertions too"),
     ("record_positions", "pub absorb_position: u32,\n    /// From 0 to 8.\n    pub squeeze_position: u32,",
      "pub squeeze_position: u32,\n    /// From 0 to 8.\n    pub absorb_position: u32,", "the positions exchanged"),
     ("record_words", "pub words: [u32; 64],", "pub words: [u32; 65],", "a word more"),
@@ -247,8 +256,8 @@ CRATE = of(
     ("ffi_finish_const", "tuilarder_finish(record: *mut Record)", "tuilarder_finish(record: *const Record)", "the record is lent as read only"),
     ("ffi_permute_finish", *called_for("tuilarder_permute", "tuilarder_finish"), "the permutation is FINISH"),
     ("ffi_permute_const", "tuilarder_permute(state: *mut [u32; 24])", "tuilarder_permute(state: *const [u32; 24])", "the state is lent as read only"),
-    ("ffi_write_tag_lengths", "separator_len: usize,\n        out: *mut u8,\n        out_len: usize,", "out_len: usize,\n        out: *mut u8,\n        separator_len: usize,",
-     "the lengths' names exchanged"),
+    ("ffi_write_tag_lengths", "separator_len: usize,\n        out: *mut u8,\n        out_len: usize,",
+     "out_len: usize,\n        out: *mut u8,\n        separator_len: usize,", "the lengths' names exchanged"),
     ("ffi_write_tag_const", "out: *mut u8,", "out: *const u8,", "what is written is lent as read only"),
     ("ffi_read_tag_lengths", "len: usize,\n        separator_len: usize,\n        words: *mut", "separator_len: usize,\n        len: usize,\n        words: *mut",
      "the lengths' names exchanged"),
@@ -276,7 +285,8 @@ C = of(
      "uint32_t done;\n    /* how many elements of it are done */\n    uint32_t phase;", "`phase` and `done` exchanged"),
     ("c_positions", "uint32_t absorb_position;\n    uint32_t squeeze_position;", "uint32_t squeeze_position;\n    uint32_t absorb_position;",
      "the positions exchanged"),
-    ("c_field_read", "#undef TUILARDER_ASSERT\n", "#undef TUILARDER_ASSERT\n#define phase done\n", "`done` is read for `phase`, past the assertions"),
+    ("c_fields_asserted", *exchanged(HEADER, "uint32_t phase;", "TUILARDER_FIELD_AT(done, 364);", "phase", "done"),
+     "`phase` and `done` exchanged, in the assertions too"),
     ("c_field_signed", "uint32_t count;", "int32_t count;", "a field is signed"),
     ("c_permutations_32_bits", "uint64_t permutations;", "uint32_t permutations, above;", "the count has 32 bits"),
     ("c_offset", "TUILARDER_FIELD_AT(words, 100)", "TUILARDER_FIELD_AT(words, 104)", "a wrong offset"),
