@@ -81,6 +81,7 @@ CRATE = of(
     ("hash_16_bits", "data.as_ptr(), data.len(), ", "data.as_ptr(), data.len() as u16 as usize, ", "the length is cut to 16 bits"),
     ("hash_not_given", "    digest\n}", "    digest[31] = 0;\n    digest\n}", "the last byte of the digest is lost"),
     ("prime", "PRIME: u32 = 2013265921", "PRIME: u32 = 2013265923", "another prime"),
+    ("std", "#![no_std]\n", "", "the crate needs `std`"),
     ("rate", "RATE: usize = 8", "RATE: usize = 9", "rate 9"),
     ("capacity_and_rate", "RATE: usize = 8;\n\n/// The state's inner elements.\npub const CAPACITY: usize = 16",
      "RATE: usize = 16;\n\n/// The state's inner elements.\npub const CAPACITY: usize = 8", "rate and capacity exchanged"),
@@ -100,6 +101,7 @@ CRATE = of(
     ("rows_exchanged", "12 BufferTooShort \"lent buffer shorter than the tag string\",\n    13 NotTagString",
      "13 BufferTooShort \"lent buffer shorter than the tag string\",\n    12 NotTagString", "12 and 13 exchanged"),
     ("row_more", "    13 NotTagString", "    14 NotCard \"not a card line\",\n    13 NotTagString", "a fourteenth refusal"),
+    ("exhaustive", "        #[non_exhaustive]\n", "", "a later version's refusal breaks callers' matches"),
     ("no_error", "impl core::error::Error for Refusal {}\n", "", "a refusal is no `Error`"),
     ("row_message", "\"separator over 256 bytes\"", "\"separator over 255 bytes\"", "a wrong figure in a message"),
 ) + of(
