@@ -41,7 +41,7 @@ CRATE_STEPS = [(COMPILED, ["cargo", "build", *CARGO])] + [
     (test, ["cargo", "test", *CARGO, "--test", test, *only]) for test, *only in (
         ("types",), ("api",), ("layout",), ("wiped_memory",), ("differential", "types::"), ("long_lists", "types_"), ("oracle_sessions", "types_"),
         ("published_values",))] + [
-    ("parameters", ["../c/tests/parameters.py"]), ("differential", ["cargo", "test", *CARGO, "--test", "differential", "functions::"]),
+    ("declarations", ["../c/tests/declarations.py"]), ("differential", ["cargo", "test", *CARGO, "--test", "differential", "functions::"]),
     ("doc tests", ["cargo", "test", *CARGO, "--doc"])]
 HEADER_STEPS = [(COMPILED, ["cc", "-std=c11", "-Wall", "-Wextra", "-Werror", "-pedantic", "-fsyntax-only", "-x", "c", "tuilarder.h"]),
                 ("run-tests", ["./run-tests"])]
@@ -333,7 +333,6 @@ NONE = {
     "result_of_others": "the library answers with no other number, as is proved",
     "start_merged": "a pattern and the merged one have the same tag string, so their sessions are the same",
     "write_tag_start": "the library writes it in every call",
-    "drop_plain": "this compiler keeps the plain write too; that it is volatile is for one that would leave it out",
     "c_offset_unasserted": "the field is in its place; the assertion is for a compiler that puts it elsewhere",
 }
 
