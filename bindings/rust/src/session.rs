@@ -11,6 +11,18 @@ use crate::refusal::{result, Refusal};
 /// A session is neither `Clone` nor `Copy`, so that no second one is made by accident: [`Session::fork`] makes one. When it is dropped, its
 /// record is wiped. As all moves in Rust, that of a session may leave its bytes behind in the old place, and so may the library's own copies
 /// on the stack: no secrecy is claimed.
+///
+/// ```compile_fail,E0599
+/// fn second(session: tuilarder::Session) -> tuilarder::Session {
+///     session.clone()
+/// }
+/// ```
+///
+/// ```compile_fail,E0382
+/// fn twice(session: tuilarder::Session) -> [tuilarder::Session; 2] {
+///     [session, session]
+/// }
+/// ```
 pub struct Session {
     record: Record,
 }
