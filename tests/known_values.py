@@ -1,6 +1,6 @@
 #!/usr/bin/env python3
 """Whether the elements that the tests in C and Rust expect are those of the second implementation (tests/oracle): what the samples B4 to B7 and the
-protocol of two rounds squeeze, and a permuted state.
+protocol of two rounds squeeze, a permuted state, and the state that a session begins with.
 
   tests/known_values.py test
 """
@@ -37,6 +37,8 @@ def values():
     for last in (66, 67):
         yield from squeezed((4, 1, 2, 1), b"two rounds", iter([11, 22, 33, 44, 55, last]))
     yield from oracle.permute(list(range(24)))[1]
+    # the state at the start of the session whose fields the C test compares
+    yield from oracle.start([ABSORB + 3, 33, ABSORB + 13, 15], b"fields")[1]["state"]
 
 
 def findings():
