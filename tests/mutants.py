@@ -177,6 +177,7 @@ CRATE = of(
      "#[derive(Clone, PartialEq, Eq)]\npub struct Pattern", "equal patterns have unequal hashes"),
 ) + of(
     SESSION,
+    ("start_separator_10", "                separator.len(),", "                separator.len().min(10),", "10 bytes of the separator at most"),
     ("start_separator_255", "                separator.len(),", "                separator.len().min(255),", "255 bytes of the separator at most"),
     ("start_separator_256", "                separator.len(),", "                separator.len().min(256),", "a separator of 257 bytes is accepted"),
     ("start_separator_8_bits", "                separator.len(),", "                separator.len() as u8 as usize,", "256 bytes are none"),
