@@ -383,25 +383,6 @@ const _: () = {
     shared_between_threads::<Refusal>();
 };
 
-// A `match` outside of the crate needs an arm for others: if it did not, that arm could not be reached, and this would not compile.
-#[deny(unreachable_patterns)]
-const _: fn(Refusal) -> bool = |refusal| match refusal {
-    Refusal::WordCountOutOfRange
-    | Refusal::WordLengthZero
-    | Refusal::FirstWordSqueeze
-    | Refusal::LastWordAbsorb
-    | Refusal::MergedLengthTooLong
-    | Refusal::SeparatorTooLong
-    | Refusal::RecordNotOpen
-    | Refusal::RecordNotSound
-    | Refusal::CallNotInPattern
-    | Refusal::ElementNotReduced
-    | Refusal::PatternNotDone
-    | Refusal::BufferTooShort
-    | Refusal::NotTagString => true,
-    _ => false,
-};
-
 /// Here every program has `std`, so the attribute is looked for in the text.
 #[test]
 fn the_crate_does_without_std() {
