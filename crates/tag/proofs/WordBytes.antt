@@ -6,25 +6,12 @@ use Prim.Native.Nat.{ℕ, suc, _+_, _*_, _/_, _%_, _≤_, _<_}
 use native.Mathlib.Numerals.{add-one}
 use native.Mathlib.Omega.{arith}
 use lib.ListN.{length, getD, take, drop, set, length-append}
-use lib.Seq.{length-take-le, drop-cons, take-suc, sets-eq}
+use lib.Seq.{length-take-le, take-suc, sets-eq}
 use Rattle.basics.specs.Lists.{placed}
 use Rattle.basics.specs.Digits.{digits}
 use Rattle.basics.proofs.Placed.{Begins, begins-more}
 use Rattle.basics.proofs.Positional.{length-digits}
 use Rattle.tag.specs.TagString.{wordBytes}
-
--- four bytes of a string
-pub four-bytes : (s : List ℕ) (at : ℕ) → at + 4 ≤ length s
-    → take 4 (drop at s) ≡ getD s at 0 ∷ getD s (at + 1) 0 ∷ getD s (at + 2) 0 ∷ getD s (at + 3) 0 ∷ []
-four-bytes s at h =
-    let e1 : at + 1 ≡ suc at = omega arith in
-    let e2 : at + 2 ≡ suc (suc at) = omega arith in
-    let e3 : at + 3 ≡ suc (suc (suc at)) = omega arith in
-    let d0 = drop-cons s at 0 (omega arith) in
-    let d1 = drop-cons s (suc at) 0 (omega arith) in
-    let d2 = drop-cons s (suc (suc at)) 0 (omega arith) in
-    let d3 = drop-cons s (suc (suc (suc at))) 0 (omega arith) in
-    rw (e1, e2, e3, d0, d1, d2, d3)
 
 -- four stores of a word's bytes
 pub four-stores : (s : List ℕ) (at w : ℕ) → at + 4 ≤ length s

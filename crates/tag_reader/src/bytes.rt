@@ -1,18 +1,9 @@
 // Words read from bytes: four each, highest byte first.
 ghost use mathlib.Core.Path.{_≡_};
-ghost use mathlib.Core.List.{[], _∷_};
 ghost use Prim.Native.Nat.{_+_, _*_, _/_, _≤_};
 ghost use lib.ListN.{length};
 ghost use Rattle.basics.specs.Lists.{zeroPadded};
-ghost use Rattle.basics.specs.Digits.{number};
 ghost use Rattle.tag.specs.TagString.{wordAt, wordsOf};
-
-// The word of four bytes, highest byte first.
-fn big_endian(b0: u8, b1: u8, b2: u8, b3: u8) -> u32
-    ensures { λ r. ⌜ r ≡ number 256 (b0 ∷ b1 ∷ b2 ∷ b3 ∷ []) ⌝ }
-{
-    b0 as u32 * 0x100_0000 + b1 as u32 * 0x1_0000 + b2 as u32 * 0x100 + b3 as u32
-}
 
 // The word k of a string.
 pub(crate) fn word_at(string: &[u8], k: usize) -> u32
@@ -20,7 +11,7 @@ pub(crate) fn word_at(string: &[u8], k: usize) -> u32
     ensures { λ r. ⌜ r ≡ wordAt (now (string .entry)) k ⌝ }
 {
     let at = 4 * k;
-    big_endian(string[at], string[at + 1], string[at + 2], string[at + 3])
+    basics::bytes::big_endian(string[at], string[at + 1], string[at + 2], string[at + 3])
 }
 
 // The words of a string of at most 64 words, and zeros behind them.

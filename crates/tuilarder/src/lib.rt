@@ -7,6 +7,7 @@ ghost use Rattle.sha3.specs.Sponge.{sha3};
 ghost use Rattle.pattern.specs.Opening.{opening};
 ghost use Rattle.tag.specs.TagString.{written as writing, bufferAfter, readWords};
 ghost use Rattle.poseidon.specs.Permutation.{permuted};
+ghost use Rattle.owners.specs.Owners.{tableOf, checked, asked, valueOf};
 ghost use Rattle.session.specs.Calls.{giving, start, absorb, squeeze, squeezeBuffer, finish};
 ghost use Rattle.tuilarder.specs.Layout.{layout};
 
@@ -107,6 +108,29 @@ pub extern "C" fn tuilarder_sha3_256(data: &[u8], out: &mut [u8; 32])
 {
     let hashed = sha3::sha3_256(data);
     *out = hashed;
+}
+
+// Whether a table of owners is accepted, and what comes with the answer's number: with 15 the first row at fault, counted from 1, with 16 the
+// least number that no row holds, and with 0 it is 0.
+#[no_mangle]
+pub extern "C" fn tuilarder_check_owners(table: &[u8], place: &mut u32) -> u32
+    ensures { λ r. ⌜ (r ≡ checked (tableOf (now (table .entry))) .number) ×
+        (now (place .exit) ≡ checked (tableOf (now (table .entry))) .place) ⌝ }
+{
+    let checked = owners::check(table);
+    *place = checked.place;
+    checked.number
+}
+
+// The product line that owns a separator. The value is the line with 0, what `tuilarder_check_owners` gives with 15 and 16, and 0 with 17.
+#[no_mangle]
+pub extern "C" fn tuilarder_owner(table: &[u8], separator: &[u8], value: &mut u32) -> u32
+    ensures { λ r. ⌜ (r ≡ asked (tableOf (now (table .entry))) (now (separator .entry)) .number) ×
+        (now (value .exit) ≡ valueOf (asked (tableOf (now (table .entry))) (now (separator .entry)))) ⌝ }
+{
+    let asked = owners::owner(table, separator);
+    *value = owners::value(asked);
+    asked.number
 }
 
 // The version of these functions. It rises whenever one of them, or the record, changes for a caller.

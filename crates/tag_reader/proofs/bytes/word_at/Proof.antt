@@ -4,7 +4,7 @@ use mathlib.Core.Path.{_∙_, sym, ap}
 use Prim.Native.Nat.{_*_}
 use Rattle.basics.specs.Digits.{number}
 use Rattle.tag.specs.TagString.{wordAt}
-use Rattle.tag.proofs.WordBytes.{four-bytes}
+use Rattle.basics.proofs.Parts.{four-bytes}
 use borrow.Author.Needs.{needs}
 use Rattle.tag_reader.proofs.bytes.word_at.Statement.{statement}
 use Rattle.tag_reader.proofs.bytes.word_at.Tie as tie

@@ -1,10 +1,10 @@
--- `tag_reader::bytes::big_endian` meets its contract.
+-- `basics::bytes::big_endian` meets its contract.
 -- Assumes nothing.
 use native.Mathlib.Omega.{arith}
 use Rattle.basics.specs.Digits.{number, numberAfter}
 use borrow.Author.Needs.{needs}
-use Rattle.tag_reader.proofs.bytes.big_endian.Statement.{statement}
-use Rattle.tag_reader.proofs.bytes.big_endian.Tie as tie
+use Rattle.basics.proofs.bytes.big_endian.Statement.{statement}
+use Rattle.basics.proofs.bytes.big_endian.Tie as tie
 
 returns : tie.Need-returns
 unfolding number numberAfter

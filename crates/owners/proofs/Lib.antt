@@ -1,0 +1,6 @@
+pub mod Least
+pub mod Rows
+pub mod Faults
+pub mod Gap
+pub mod Lookup
+pub mod Answers
