@@ -1,12 +1,16 @@
-//! An independent implementation of the challenge sponge, written from document 01 alone. It shares no code with the library,
-//! which the tests compare with it, and is plain rather than fast. Quotations are from document 01 unless another source
-//! is named.
+//! An independent implementation of the challenge sponge, written from document 01 alone, and of the owners of separators,
+//! written from P1 of document 02 alone (`owners.rs`). It shares no code with the library, which the tests compare with it, and
+//! is plain rather than fast. Quotations here are from document 01 unless another source is named.
 
 // Each program that takes this file in uses only a part of it.
-#![allow(dead_code)]
+#![allow(dead_code, unused_imports)]
+
+mod owners;
 
 use std::collections::VecDeque;
 use std::sync::OnceLock;
+
+pub use owners::{check_owners, owner};
 
 /// "p = 2013265921 = 15 × 2^27 + 1."
 pub const P: u32 = 2013265921;
