@@ -1,11 +1,12 @@
--- Parts of a string of bytes, byte by byte.
+-- Parts of a string of bytes, byte by byte, and what they write.
 -- Assumes nothing.
 use mathlib.Core.Path.{_≡_}
 use mathlib.Core.List.{List, [], _∷_}
-use Prim.Native.Nat.{ℕ, suc, _+_, _≤_}
+use Prim.Native.Nat.{ℕ, suc, _+_, _≤_, _<_}
 use native.Mathlib.Omega.{arith}
 use lib.ListN.{length, getD, take, drop}
 use lib.Seq.{drop-cons}
+use Rattle.basics.specs.Digits.{number, numberAfter}
 
 pub two-bytes : (s : List ℕ) (at : ℕ) → at + 2 ≤ length s → take 2 (drop at s) ≡ getD s at 0 ∷ getD s (at + 1) 0 ∷ []
 two-bytes s at h =
@@ -25,3 +26,8 @@ four-bytes s at h =
     let d2 = drop-cons s (suc (suc at)) 0 (omega arith) in
     let d3 = drop-cons s (suc (suc (suc at))) 0 (omega arith) in
     rw (e1, e2, e3, d0, d1, d2, d3)
+
+-- four bytes write a number of 32 bits
+pub four-bytes-below : (a b c d : ℕ) → a < 256 → b < 256 → c < 256 → d < 256 → number 256 (a ∷ b ∷ c ∷ d ∷ []) < 4294967296
+unfolding number numberAfter
+four-bytes-below a b c d ha hb hc hd = omega arith

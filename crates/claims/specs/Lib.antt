@@ -5,3 +5,4 @@ pub mod Compared
 pub mod ThirdDemand
 pub mod EqualLengths
 pub mod Cards
+pub mod Owners

@@ -4,3 +4,5 @@ pub mod Faults
 pub mod Gap
 pub mod Lookup
 pub mod Answers
+pub mod Tables
+pub mod Written

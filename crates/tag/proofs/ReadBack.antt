@@ -12,11 +12,12 @@ use lib.ListN.{length, take, drop, length-drop, take-append-drop}
 use lib.Seq.{take-at, drop-at}
 use Rattle.basics.specs.Logic.{any}
 use Rattle.basics.specs.Lists.{tabulate, Below}
-use Rattle.basics.specs.Digits.{digits, number, numberAfter}
+use Rattle.basics.specs.Digits.{digits, number}
 use Rattle.basics.specs.Numbers.{accepted, notTagString}
 use Rattle.basics.proofs.Below.{below-nil, below-cons, below-head, below-tail, below-take, below-at}
 use Rattle.basics.proofs.Cases.{and-left, and-right, and-both, or-false}
 use Rattle.basics.proofs.Fill.{tabulate-cons, tabulate-same}
+use Rattle.basics.proofs.Parts.{four-bytes-below}
 use Rattle.basics.proofs.Positional.{number-digits, digits-number}
 use Rattle.words.specs.Words.{Phase, phaseOf, wordOf}
 use Rattle.pattern.specs.Pattern.{phases, mergedWords, soundWords}
@@ -71,10 +72,6 @@ bytes-of-words (a ∷ b ∷ c ∷ d ∷ s) e h =
     let four = digits-number 256 4 (a ∷ b ∷ c ∷ d ∷ []) refl (below-take 256 4 (a ∷ b ∷ c ∷ d ∷ s) h) in
     let rest = bytes-of-words s (omega arith) (behind-four 256 a b c d s h) in
     ap wordBytes (words-of-four a b c d s) ∙ ap₂ (λ (x y : List ℕ). x ++ y) four rest
-
-four-bytes-below : (a b c d : ℕ) → a < 256 → b < 256 → c < 256 → d < 256 → number 256 (a ∷ b ∷ c ∷ d ∷ []) < 4294967296
-unfolding number numberAfter
-four-bytes-below a b c d ha hb hc hd = omega arith
 
 -- the words of a string of bytes have 32 bits
 words-below : (s : List ℕ) → length s % 4 ≡ 0 → Below 256 s → Below 4294967296 (wordsOf s)

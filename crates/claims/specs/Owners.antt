@@ -1,0 +1,103 @@
+-- Who owns which separators. `tableOf`, `checked` and `asked` are what the contracts of `owners` cite; a table is accepted where `checked` answers
+-- with number 0. Rows are counted from 1: `row t k` is row k, and `rowCount t` the last one's number, a row cut short included.
+use mathlib.Core.Path.{_≡_, refl, ap, _∙_}
+use mathlib.Core.Bool.{true, false}
+use mathlib.Core.List.{List, [], _∷_}
+use mathlib.Core.Logic.{_≢_, _↔_}
+use Prim.Native.Nat.{ℕ, zero, suc, _+_, _*_, _≤_, _<_}
+use native.Mathlib.Nat.{le-trans, not-suc-le-zero}
+use lib.Dec.{lit≤}
+use lib.ListN.{length}
+use Rattle.basics.specs.Logic.{if_then_else_, _and_, _or_, all, any}
+use Rattle.basics.specs.Lists.{Below}
+use Rattle.basics.specs.Digits.{number, numberAfter}
+use Rattle.basics.specs.Numbers.{accepted, ownersRowInvalid, ownersGap, separatorTooShort}
+use Rattle.owners.specs.Owners.{Table, rowOf, rowsOf, tableOf, rowCount, row, atFault, leastFrom, firstFault, holds, isFree, checked, separatorNumber, asked}
+use Rattle.owners.specs.Bytes.{tableBytes, rowFits}
+use Rattle.owners.specs.declared.OwnerRow.{OwnerRow}
+use Rattle.owners.specs.declared.Checked.{Checked}
+use Rattle.owners.specs.declared.Asked.{Asked}
+use Rattle.owners.proofs.Gap.{gap}
+use Rattle.owners.proofs.Answers.{first-fault-bound, asked-refused, asked-short}
+use Rattle.owners.proofs.Tables.{fault-answer, gap-answer, accepted-answer, accepted-by-pass, free-numbers, covers, one-row, line-found, separator-number-fits, at-most-128}
+use Rattle.owners.proofs.Written.{table-read}
+
+-- "An accepted table covers every number from 0 to 4294967295 exactly one time": some row holds it,
+pub every-number-is-held : (t : Table) → checked t .number ≡ accepted → (n : ℕ) → n < 4294967296
+    → (k : ℕ) × (1 ≤ k) × (k ≤ rowCount t) × (holds n (row t k) ≡ true)
+every-number-is-held t e = covers t e
+
+-- and two rows that hold it are the same row.
+pub one-row-holds : (t : Table) → checked t .number ≡ accepted → (n j k : ℕ) → 1 ≤ j → j ≤ rowCount t → 1 ≤ k → k ≤ rowCount t
+    → holds n (row t j) ≡ true → holds n (row t k) ≡ true → j ≡ k
+one-row-holds t e = one-row t e
+
+-- "and asking it for a separator gives the one line whose row holds the number", for every separator of at least four bytes, however long.
+pub asking-gives-the-line : (t : Table) → checked t .number ≡ accepted → (separator : List ℕ) → Below 256 separator → 4 ≤ length separator
+    → (k : ℕ) × (1 ≤ k) × (k ≤ rowCount t) × (holds (separatorNumber separator) (row t k) ≡ true)
+    × (asked t separator ≡ record { number = accepted; place = 0; line = row t k .line })
+asking-gives-the-line t e separator bytes long =
+    let found = covers t e (separatorNumber separator) (separator-number-fits separator bytes long) in
+    (found .0, found .1, found .2, found .3, line-found t e separator (found .0) long (found .1) (found .2) (found .3))
+
+-- "17, after both": of a table that is not accepted the answer is its own, whatever the separator;
+pub table-comes-first : (t : Table) (separator : List ℕ) → checked t .number ≢ accepted
+    → asked t separator ≡ record { number = checked t .number; place = checked t .place; line = 0 }
+table-comes-first = asked-refused
+
+-- of an accepted one, a separator under four bytes gets 17, and 0 comes with it.
+pub short-separators : (t : Table) (separator : List ℕ) → checked t .number ≡ accepted → length separator < 4
+    → asked t separator ≡ record { number = separatorTooShort; place = 0; line = 0 }
+short-separators = asked-short
+
+-- "the first such row's number, counted from 1, comes with it": 15 and k are the answer exactly if row k is at fault and no row before it is.
+pub first-row-at-fault : (t : Table) (k : ℕ) → (_≡_ {A = Checked} (checked t) (record { number = ownersRowInvalid; place = k }))
+    ↔ ((1 ≤ k) × (k ≤ rowCount t) × (atFault t k ≡ true) × ((j : ℕ) → 1 ≤ j → j < k → atFault t j ≡ false))
+first-row-at-fault = fault-answer
+
+-- "16: otherwise, a number that no row holds; the least one comes with it.": 16 and n are the answer exactly if no row is at fault, no row holds n
+-- and every smaller number is held.
+pub least-number-not-held : (t : Table) (n : ℕ) → (_≡_ {A = Checked} (checked t) (record { number = ownersGap; place = n }))
+    ↔ (((k : ℕ) → 1 ≤ k → k ≤ rowCount t → atFault t k ≡ false)
+    × ((n < 4294967296) × (isFree t n ≡ true) × ((m : ℕ) → m < n → isFree t m ≡ false)))
+least-number-not-held = gap-answer
+
+-- A table is accepted exactly if no row is at fault and every number is held; 0 comes with it.
+pub accepted-tables : (t : Table) → (_≡_ {A = Checked} (checked t) (record { number = accepted; place = 0 }))
+    ↔ (((k : ℕ) → 1 ≤ k → k ≤ rowCount t → atFault t k ≡ false) × ((n : ℕ) → n < 4294967296 → isFree t n ≡ false))
+accepted-tables = accepted-answer
+
+-- A number is free exactly if no whole row holds it.
+pub numbers-not-held : (t : Table) (n : ℕ) → (isFree t n ≡ true) ↔ ((k : ℕ) → 1 ≤ k → k ≤ length (t .rows) → holds n (row t k) ≡ false)
+numbers-not-held = free-numbers
+
+-- "at most 128 rows": no row behind the 129th is looked at, whatever is lent, and an accepted table has at most 128.
+pub rows-looked-at : (t : Table) → (firstFault t ≤ 129) × (checked t .number ≡ accepted → rowCount t ≤ 128)
+rows-looked-at t = (first-fault-bound t, at-most-128 t)
+
+-- "ten a row: first and last number of 32 bits, product line of 16, highest byte first": rows that are written so are read as they were.
+pub written-rows-are-read : (rs : List OwnerRow) → all rowFits rs ≡ true → tableOf (tableBytes rs) ≡ record { rows = rs; cutShort = false }
+written-rows-are-read = table-read
+
+-- "The empty table is a gap."
+pub empty-table-is-a-gap : checked (tableOf []) ≡ record { number = ownersGap; place = 0 }
+unfolding tableOf rowsOf rowCount isFree any if_then_else_
+empty-table-is-a-gap =
+    gap-answer (tableOf []) 0 .1
+    ((λ k h l. absurd (not-suc-le-zero (le-trans h l))), (lit≤ tt, refl, λ m h. absurd (not-suc-le-zero h)))
+
+-- Accepted tables exist: one row that owns every number,
+pub table-of-one-row : checked (tableOf (0 ∷ 0 ∷ 0 ∷ 0 ∷ 255 ∷ 255 ∷ 255 ∷ 255 ∷ 0 ∷ 7 ∷ [])) ≡ record { number = accepted; place = 0 }
+unfolding rowOf rowsOf tableOf rowCount row atFault leastFrom firstFault gap number numberAfter if_then_else_ _and_ _or_
+table-of-one-row = accepted-by-pass (tableOf (0 ∷ 0 ∷ 0 ∷ 0 ∷ 255 ∷ 255 ∷ 255 ∷ 255 ∷ 0 ∷ 7 ∷ [])) (lit≤ tt) refl
+
+-- and 128 rows of 33,554,432 numbers each, row k of line k - 1.
+unfoldable pub evenRows : ℕ → ℕ → List OwnerRow
+evenRows i zero = []
+evenRows i (suc n) = record { first = i * 33554432; last = i * 33554432 + 33554431; line = i } ∷ evenRows (suc i) n
+
+pub table-of-128-rows : checked (tableOf (tableBytes (evenRows 0 128))) ≡ record { number = accepted; place = 0 }
+unfolding evenRows rowFits all rowCount row atFault leastFrom firstFault gap if_then_else_ _and_ _or_
+table-of-128-rows =
+    ap checked (table-read (evenRows 0 128) refl)
+    ∙ accepted-by-pass (record { rows = evenRows 0 128; cutShort = false }) (lit≤ tt) refl

@@ -1,0 +1,73 @@
+-- Rows as bytes, read back.
+-- Assumes nothing.
+use mathlib.Core.Path.{_≡_, refl, sym, ap, ap₂, _∙_}
+use mathlib.Core.Bool.{Bool, true, false, not}
+use mathlib.Core.List.{List, [], _∷_, _++_, append-assoc}
+use Prim.Native.Nat.{ℕ, zero, suc, _+_, _*_, _/_, _%_, _^_, _≤_, _<_}
+use native.Mathlib.Omega.{arith}
+use borrow.Author.Tests.{ltb-true, eq-eqb}
+use lib.Dec.{eqb, lit≤}
+use lib.ListN.{length, take, drop, length-append}
+use lib.Seq.{take-at, drop-at, drop-drop}
+use Rattle.basics.specs.Logic.{all, _and_}
+use Rattle.basics.specs.Digits.{digits, number}
+use Rattle.basics.proofs.Cases.{and-left, and-right}
+use Rattle.basics.proofs.Positional.{length-digits, number-digits}
+use Rattle.owners.specs.Owners.{rowOf, rowsOf, tableOf}
+use Rattle.owners.specs.Bytes.{rowBytes, tableBytes, rowFits}
+use Rattle.owners.specs.declared.OwnerRow.{OwnerRow}
+
+-- a number's digits before other bytes, read and passed over
+module _ (n x : ℕ) (rest : List ℕ) where
+  digits-read : x < 256 ^ n → number 256 (take n (digits 256 n x ++ rest)) ≡ x
+  digits-read h = ap (number 256) (take-at (digits 256 n x) rest n (length-digits 256 n x)) ∙ number-digits 256 n x (lit≤ tt) h
+
+  digits-passed : drop n (digits 256 n x ++ rest) ≡ rest
+  digits-passed = drop-at (digits 256 n x) rest n (length-digits 256 n x)
+
+length-row : (r : OwnerRow) → length (rowBytes r) ≡ 10
+unfolding rowBytes
+length-row r = simp (length-append, length-digits)
+
+length-table : (rs : List OwnerRow) → length (tableBytes rs) ≡ 10 * length rs
+unfolding tableBytes
+length-table [] = refl
+length-table (r ∷ rs) =
+    let row = length-row r in
+    let more = length-table rs in
+    length-append (rowBytes r) (tableBytes rs) ∙ omega arith
+
+row-read : (r : OwnerRow) (rest : List ℕ) → rowFits r ≡ true → rowOf (rowBytes r ++ rest) ≡ r
+unfolding rowOf rowBytes rowFits
+row-read r rest e =
+    let first-fits = ltb-true (r .first) (2 ^ 32) (and-left _ _ e) in
+    let last-fits = ltb-true (r .last) (2 ^ 32) (and-left _ _ (and-right _ _ e)) in
+    let line-fits = ltb-true (r .line) (2 ^ 16) (and-right _ _ (and-right _ _ e)) in
+    let behind-last = digits 256 2 (r .line) ++ rest in
+    let behind-first = digits 256 4 (r .last) ++ behind-last in
+    let bytes = digits 256 4 (r .first) ++ behind-first in
+    let apart : rowBytes r ++ rest ≡ bytes = simp append-assoc in
+    let to-last : drop 4 bytes ≡ behind-first = digits-passed 4 (r .first) behind-first in
+    let to-line : drop 8 bytes ≡ behind-last =
+    sym (drop-drop 4 4 bytes) ∙ ap (drop 4) to-last ∙ digits-passed 4 (r .last) behind-last in
+    ap rowOf apart
+    ∙ rw (to-last, to-line, digits-read 4 (r .first) behind-first first-fits, digits-read 4 (r .last) behind-last last-fits, digits-read 2 (r .line) rest line-fits)
+
+rows-read : (rs : List OwnerRow) → all rowFits rs ≡ true → rowsOf (length rs) (tableBytes rs) ≡ rs
+unfolding rowsOf tableBytes all
+rows-read [] e = refl
+rows-read (r ∷ rs) e =
+    ap₂ (λ (x : OwnerRow) (l : List OwnerRow). x ∷ l)
+    (row-read r (tableBytes rs) (and-left _ _ e))
+    (ap (rowsOf (length rs)) (drop-at (rowBytes r) (tableBytes rs) 10 (length-row r)) ∙ rows-read rs (and-right _ _ e))
+
+-- a table of whole rows is read as these rows
+pub table-read : (rs : List OwnerRow) → all rowFits rs ≡ true → tableOf (tableBytes rs) ≡ record { rows = rs; cutShort = false }
+unfolding tableOf
+table-read rs e =
+    let long = length-table rs in
+    let count : length (tableBytes rs) / 10 ≡ length rs = omega arith in
+    let whole : length (tableBytes rs) % 10 ≡ 0 = omega arith in
+    ap₂ (λ (l : List OwnerRow) (b : Bool). record { rows = l; cutShort = b })
+    (ap (λ (n : ℕ). rowsOf n (tableBytes rs)) count ∙ rows-read rs e)
+    (ap not (eq-eqb _ 0 whole))
