@@ -3,15 +3,8 @@
 // Python, written from document 01 by other hands (tests/oracle).
 
 ghost use mathlib.Core.Path.{_≡_};
-ghost use Prim.Native.Nat.{_+_, _≤_, _<_};
+ghost use Prim.Native.Nat.{_≤_, _<_};
 ghost use lib.ListN.{length};
-
-// The bytes that a field of hexadecimal digits writes, how many, and the place behind the field.
-struct Field {
-    bytes: [u8; 1024],
-    count: usize,
-    next: usize,
-}
 
 // The record that a line leaves, and the place behind the line.
 struct Step {
@@ -19,82 +12,11 @@ struct Step {
     next: usize,
 }
 
-fn digit(byte: u8) -> u8
-    ensures { λ r. ⌜ r < 16 ⌝ }
-{
-    if byte < 58 {
-        return byte % 16;
-    }
-    (byte % 16 + 9) % 16
-}
-
-// The byte that two digits at a place write, and 0 behind the text.
-fn byte_at(text: &[u8], at: usize) -> u8
-    requires { ⌜ at ≤ 1070000 ⌝ }
-{
-    if text.len() < at + 2 {
-        return 0;
-    }
-    digit(text[at]) * 16 + digit(text[at + 1])
-}
-
-// How many pairs of digits stand at a place, at most 1024. A byte below the digits, as a space or a newline, ends them.
-fn pairs(text: &[u8], at: usize) -> usize
-    requires { ⌜ at ≤ 1060000 ⌝ }
-    ensures { λ r. ⌜ r ≤ 1024 ⌝ }
-{
-    let mut count: usize = 0;
-    while count < 1024 {
-        let from = at + 2 * count;
-        if text.len() < from + 2 {
-            return count;
-        }
-        if text[from] < 48 {
-            return count;
-        }
-        count += 1;
-    }
-    count
-}
-
-fn field_at(text: &[u8], at: usize) -> Field
-    requires { ⌜ at ≤ 1060000 ⌝ }
-    ensures { λ r. ⌜ (r .count ≤ length (r .bytes)) × (length (r .bytes) ≡ 1024) × (at < r .next) × (r .next ≤ at + 2049) ⌝ }
-{
-    let count = pairs(text, at);
-    let mut bytes = [0u8; 1024];
-    for i in 0..count {
-        bytes[i] = byte_at(text, at + 2 * i);
-    }
-    Field {
-        bytes,
-        count,
-        next: at + 2 * count + 1,
-    }
-}
-
-fn word(b0: u8, b1: u8, b2: u8, b3: u8) -> u32 {
-    b0 as u32 * 0x100_0000 + b1 as u32 * 0x1_0000 + b2 as u32 * 0x100 + b3 as u32
-}
-
-fn words_of(bytes: &[u8; 1024]) -> [u32; 256] {
-    let mut words = [0u32; 256];
-    for i in 0..256 {
-        words[i] = word(
-            bytes[4 * i],
-            bytes[4 * i + 1],
-            bytes[4 * i + 2],
-            bytes[4 * i + 3],
-        );
-    }
-    words
-}
-
 fn joined(high: u32, low: u32) -> u64 {
     high as u64 * 0x1_0000_0000 + low as u64
 }
 
-fn state_in(list: &[u32; 256]) -> [u32; 24] {
+fn state_in(list: &[u32; 512]) -> [u32; 24] {
     let mut state = [0u32; 24];
     for i in 0..24 {
         state[i] = list[i];
@@ -102,7 +24,7 @@ fn state_in(list: &[u32; 256]) -> [u32; 24] {
     state
 }
 
-fn pattern_in(list: &[u32; 256]) -> [u32; 64] {
+fn pattern_in(list: &[u32; 512]) -> [u32; 64] {
     let mut words = [0u32; 64];
     for i in 0..64 {
         words[i] = list[i];
@@ -111,7 +33,7 @@ fn pattern_in(list: &[u32; 256]) -> [u32; 64] {
 }
 
 // The record that three lists write: its numbers, its state and its words.
-fn record_in(numbers: &[u32; 256], state: &[u32; 256], words: &[u32; 256]) -> session::Session {
+fn record_in(numbers: &[u32; 512], state: &[u32; 512], words: &[u32; 512]) -> session::Session {
     session::Session {
         status: numbers[0],
         state: state_in(state),
@@ -126,8 +48,8 @@ fn record_in(numbers: &[u32; 256], state: &[u32; 256], words: &[u32; 256]) -> se
 }
 
 // The lists that write a record.
-fn numbers_of(record: session::Session) -> [u32; 256] {
-    let mut list = [0u32; 256];
+fn numbers_of(record: session::Session) -> [u32; 512] {
+    let mut list = [0u32; 512];
     list[0] = record.status;
     list[1] = record.count;
     list[2] = record.phase;
@@ -139,26 +61,26 @@ fn numbers_of(record: session::Session) -> [u32; 256] {
     list
 }
 
-fn state_of(record: session::Session) -> [u32; 256] {
+fn state_of(record: session::Session) -> [u32; 512] {
     let state = record.state;
-    let mut list = [0u32; 256];
+    let mut list = [0u32; 512];
     for i in 0..24 {
         list[i] = state[i];
     }
     list
 }
 
-fn pattern_of(record: session::Session) -> [u32; 256] {
+fn pattern_of(record: session::Session) -> [u32; 512] {
     let words = record.words;
-    let mut list = [0u32; 256];
+    let mut list = [0u32; 512];
     for i in 0..64 {
         list[i] = words[i];
     }
     list
 }
 
-fn same(a: &[u32; 256], b: &[u32; 256]) -> bool {
-    for i in 0..256 {
+fn same(a: &[u32; 512], b: &[u32; 512]) -> bool {
+    for i in 0..512 {
         if a[i] != b[i] {
             return false;
         }
@@ -167,9 +89,9 @@ fn same(a: &[u32; 256], b: &[u32; 256]) -> bool {
 }
 
 // How many words a list has up to its last one that is not 0.
-fn used(list: &[u32; 256]) -> usize {
+fn used(list: &[u32; 512]) -> usize {
     let mut count: usize = 0;
-    for i in 0..256 {
+    for i in 0..512 {
         if list[i] != 0 {
             count = i + 1;
         }
@@ -182,8 +104,8 @@ fn print_word(word: u32) {
 }
 
 // The first words of a list.
-fn print_first(list: &[u32; 256], count: usize) {
-    for i in 0..256 {
+fn print_first(list: &[u32; 512], count: usize) {
+    for i in 0..512 {
         if i < count {
             print_word(list[i]);
         }
@@ -191,7 +113,7 @@ fn print_first(list: &[u32; 256], count: usize) {
 }
 
 // A list without the zeros at its end. One that is as it was is a sign only, which keeps the output short.
-fn print_part(old: &[u32; 256], new: &[u32; 256]) {
+fn print_part(old: &[u32; 512], new: &[u32; 512]) {
     if same(old, new) {
         io::write_all(1, b" =");
         return;
@@ -213,12 +135,11 @@ fn print_answer(old: session::Session, answer: session::Answer) {
 }
 
 fn start_line(text: &[u8], at: usize, record: session::Session) -> Step
-    requires { ⌜ at ≤ 1048578 ⌝ }
-    ensures { λ r. ⌜ at < r .next ⌝ }
+    ensures { λ r. ⌜ at ≤ r .next ⌝ }
 {
-    let first = field_at(text, at);
-    let second = field_at(text, first.next);
-    let words = words_of(&first.bytes);
+    let first = hex_fields::field_at(text, at);
+    let second = hex_fields::field_at(text, first.next);
+    let words = hex_fields::words_of(&first.bytes);
     let count = first.count / 4;
     let separator = second.bytes;
     let length = second.count;
@@ -232,11 +153,10 @@ fn start_line(text: &[u8], at: usize, record: session::Session) -> Step
 }
 
 fn absorb_line(text: &[u8], at: usize, record: session::Session) -> Step
-    requires { ⌜ at ≤ 1048578 ⌝ }
-    ensures { λ r. ⌜ at < r .next ⌝ }
+    ensures { λ r. ⌜ at ≤ r .next ⌝ }
 {
-    let field = field_at(text, at);
-    let elements = words_of(&field.bytes);
+    let field = hex_fields::field_at(text, at);
+    let elements = hex_fields::words_of(&field.bytes);
     let count = field.count / 4;
     let answer = record.absorb_step(&elements[..count]);
     print_answer(record, answer);
@@ -248,11 +168,10 @@ fn absorb_line(text: &[u8], at: usize, record: session::Session) -> Step
 }
 
 fn squeeze_line(text: &[u8], at: usize, record: session::Session) -> Step
-    requires { ⌜ at ≤ 1048578 ⌝ }
-    ensures { λ r. ⌜ at < r .next ⌝ }
+    ensures { λ r. ⌜ at ≤ r .next ⌝ }
 {
-    let field = field_at(text, at);
-    let mut buffer = words_of(&field.bytes);
+    let field = hex_fields::field_at(text, at);
+    let mut buffer = hex_fields::words_of(&field.bytes);
     let count = field.count / 4;
     let answer = record.squeeze_step(&mut buffer[..count]);
     print_answer(record, answer);
@@ -266,29 +185,27 @@ fn squeeze_line(text: &[u8], at: usize, record: session::Session) -> Step
 }
 
 fn finish_line(at: usize, record: session::Session) -> Step
-    requires { ⌜ at ≤ 1048578 ⌝ }
-    ensures { λ r. ⌜ at < r .next ⌝ }
+    ensures { λ r. ⌜ at ≤ r .next ⌝ }
 {
     let answer = record.finish_step();
     print_answer(record, answer);
     let left = answer.session;
     Step {
         record: left,
-        next: at + 1,
+        next: at,
     }
 }
 
 // The record that a line writes.
 fn record_at(text: &[u8], at: usize) -> Step
-    requires { ⌜ at ≤ 1048578 ⌝ }
-    ensures { λ r. ⌜ at < r .next ⌝ }
+    ensures { λ r. ⌜ at ≤ r .next ⌝ }
 {
-    let first = field_at(text, at);
-    let second = field_at(text, first.next);
-    let third = field_at(text, second.next);
-    let numbers = words_of(&first.bytes);
-    let state = words_of(&second.bytes);
-    let words = words_of(&third.bytes);
+    let first = hex_fields::field_at(text, at);
+    let second = hex_fields::field_at(text, first.next);
+    let third = hex_fields::field_at(text, second.next);
+    let numbers = hex_fields::words_of(&first.bytes);
+    let state = hex_fields::words_of(&second.bytes);
+    let words = hex_fields::words_of(&third.bytes);
     Step {
         record: record_in(&numbers, &state, &words),
         next: third.next,
@@ -296,8 +213,7 @@ fn record_at(text: &[u8], at: usize) -> Step
 }
 
 fn record_line(text: &[u8], at: usize, record: session::Session) -> Step
-    requires { ⌜ at ≤ 1048578 ⌝ }
-    ensures { λ r. ⌜ at < r .next ⌝ }
+    ensures { λ r. ⌜ at ≤ r .next ⌝ }
 {
     let step = record_at(text, at);
     print_record(record, step.record);
@@ -321,7 +237,7 @@ fn run_line(text: &[u8], at: usize, record: session::Session) -> Step
         return squeeze_line(text, at + 2, record);
     }
     if kind == b'f' {
-        return finish_line(at + 1, record);
+        return finish_line(at + 2, record);
     }
     record_line(text, at + 2, record)
 }
@@ -329,7 +245,7 @@ fn run_line(text: &[u8], at: usize, record: session::Session) -> Step
 fn run_lines(text: &[u8])
     requires { ⌜ length (now text) ≤ 1048576 ⌝ }
 {
-    let nothing = [0u32; 256];
+    let nothing = [0u32; 512];
     let mut record = record_in(&nothing, &nothing, &nothing);
     let mut at: usize = 0;
     while at < text.len() {

@@ -2,101 +2,22 @@
 // laid out; stdin is what it makes, and stdout what the second implementation answers to it, in Python, written from document 01 by
 // other hands (tests/oracle).
 
-ghost use mathlib.Core.Path.{_≡_};
-ghost use Prim.Native.Nat.{_+_, _≤_, _<_};
+ghost use Prim.Native.Nat.{_≤_, _<_};
 ghost use lib.ListN.{length};
-
-// The bytes that a field of hexadecimal digits writes, how many, and the place behind the field.
-struct Field {
-    bytes: [u8; 1024],
-    count: usize,
-    next: usize,
-}
-
-fn digit(byte: u8) -> u8
-    ensures { λ r. ⌜ r < 16 ⌝ }
-{
-    if byte < 58 {
-        return byte % 16;
-    }
-    (byte % 16 + 9) % 16
-}
-
-// The byte that two digits at a place write, and 0 behind the text.
-fn byte_at(text: &[u8], at: usize) -> u8
-    requires { ⌜ at ≤ 150000 ⌝ }
-{
-    if text.len() < at + 2 {
-        return 0;
-    }
-    digit(text[at]) * 16 + digit(text[at + 1])
-}
-
-// How many pairs of digits stand at a place, at most 1024. A byte below the digits, as a space or a newline, ends them.
-fn pairs(text: &[u8], at: usize) -> usize
-    requires { ⌜ at ≤ 140000 ⌝ }
-    ensures { λ r. ⌜ r ≤ 1024 ⌝ }
-{
-    let mut count: usize = 0;
-    while count < 1024 {
-        let from = at + 2 * count;
-        if text.len() < from + 2 {
-            return count;
-        }
-        if text[from] < 48 {
-            return count;
-        }
-        count += 1;
-    }
-    count
-}
-
-fn field_at(text: &[u8], at: usize) -> Field
-    requires { ⌜ at ≤ 140000 ⌝ }
-    ensures { λ r. ⌜ (r .count ≤ length (r .bytes)) × (length (r .bytes) ≡ 1024) × (at < r .next) × (r .next ≤ at + 2049) ⌝ }
-{
-    let count = pairs(text, at);
-    let mut bytes = [0u8; 1024];
-    for i in 0..count {
-        bytes[i] = byte_at(text, at + 2 * i);
-    }
-    Field {
-        bytes,
-        count,
-        next: at + 2 * count + 1,
-    }
-}
 
 fn shifted(value: u64, byte: u8) -> u64 {
     value % 0x100_0000_0000_0000 * 256 + byte as u64
 }
 
 // The number of the first bytes, highest first.
-fn number(bytes: &[u8; 1024], count: usize) -> u64
-    requires { ⌜ count ≤ 1024 ⌝ }
+fn number(bytes: &[u8; 2048], count: usize) -> u64
+    requires { ⌜ count ≤ 2048 ⌝ }
 {
     let mut value: u64 = 0;
     for i in 0..count {
         value = shifted(value, bytes[i]);
     }
     value
-}
-
-fn word(b0: u8, b1: u8, b2: u8, b3: u8) -> u32 {
-    b0 as u32 * 0x100_0000 + b1 as u32 * 0x1_0000 + b2 as u32 * 0x100 + b3 as u32
-}
-
-fn words_of(bytes: &[u8; 1024]) -> [u32; 256] {
-    let mut words = [0u32; 256];
-    for i in 0..256 {
-        words[i] = word(
-            bytes[4 * i],
-            bytes[4 * i + 1],
-            bytes[4 * i + 2],
-            bytes[4 * i + 3],
-        );
-    }
-    words
 }
 
 fn print_hex(value: u32, width: usize) {
@@ -186,13 +107,12 @@ fn print_read(string: &[u8], length: usize) {
 
 // The place behind the line.
 fn write_line(text: &[u8], at: usize) -> usize
-    requires { ⌜ at ≤ 131074 ⌝ }
-    ensures { λ r. ⌜ at < r ⌝ }
+    ensures { λ r. ⌜ at ≤ r ⌝ }
 {
-    let first = field_at(text, at);
-    let second = field_at(text, first.next);
-    let third = field_at(text, second.next);
-    let words = words_of(&first.bytes);
+    let first = hex_fields::field_at(text, at);
+    let second = hex_fields::field_at(text, first.next);
+    let third = hex_fields::field_at(text, second.next);
+    let words = hex_fields::words_of(&first.bytes);
     let count = first.count / 4;
     let separator = second.bytes;
     let length = second.count;
@@ -203,11 +123,10 @@ fn write_line(text: &[u8], at: usize) -> usize
 }
 
 fn read_line(text: &[u8], at: usize) -> usize
-    requires { ⌜ at ≤ 131074 ⌝ }
-    ensures { λ r. ⌜ at < r ⌝ }
+    ensures { λ r. ⌜ at ≤ r ⌝ }
 {
-    let first = field_at(text, at);
-    let second = field_at(text, first.next);
+    let first = hex_fields::field_at(text, at);
+    let second = hex_fields::field_at(text, first.next);
     let string = first.bytes;
     let count = first.count;
     let digits = second.bytes;
@@ -217,10 +136,9 @@ fn read_line(text: &[u8], at: usize) -> usize
 }
 
 fn elements_line(text: &[u8], at: usize) -> usize
-    requires { ⌜ at ≤ 131074 ⌝ }
-    ensures { λ r. ⌜ at < r ⌝ }
+    ensures { λ r. ⌜ at ≤ r ⌝ }
 {
-    let first = field_at(text, at);
+    let first = hex_fields::field_at(text, at);
     let mut digest = [0u8; 32];
     for i in 0..32 {
         digest[i] = first.bytes[i];

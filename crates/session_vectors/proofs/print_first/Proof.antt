@@ -6,10 +6,10 @@ use Rattle.session_vectors.proofs.print_first.Statement.{statement}
 use Rattle.session_vectors.proofs.print_first.Tie as tie
 
 abbrev Inv-loop : tie.InvT-loop
-Inv-loop list count i₀ i = i ≤ 256
+Inv-loop list count i₀ i = i ≤ 512
 
 abbrev μ-loop : tie.MeasureT-loop
-μ-loop list count i₀ i = 256 - i
+μ-loop list count i₀ i = 512 - i
 
 pub print-first-spec : {M : Type 1} → statement M
 print-first-spec =

@@ -6,10 +6,10 @@ use Rattle.session_vectors.proofs.same.Statement.{statement}
 use Rattle.session_vectors.proofs.same.Tie as tie
 
 abbrev Inv-loop : tie.InvT-loop
-Inv-loop a b i₀ i = i ≤ 256
+Inv-loop a b i₀ i = i ≤ 512
 
 abbrev μ-loop : tie.MeasureT-loop
-μ-loop a b i₀ i = 256 - i
+μ-loop a b i₀ i = 512 - i
 
 pub same-spec : {M : Type 1} → statement M
 same-spec =

@@ -6,10 +6,10 @@ use Rattle.session_vectors.proofs.used.Statement.{statement}
 use Rattle.session_vectors.proofs.used.Tie as tie
 
 abbrev Inv-loop : tie.InvT-loop
-Inv-loop list count₀ i₀ count i = i ≤ 256
+Inv-loop list count₀ i₀ count i = i ≤ 512
 
 abbrev μ-loop : tie.MeasureT-loop
-μ-loop list count₀ i₀ count i = 256 - i
+μ-loop list count₀ i₀ count i = 512 - i
 
 pub used-spec : {M : Type 1} → statement M
 used-spec =
