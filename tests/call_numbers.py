@@ -30,6 +30,8 @@ ANSWERS = {
     "read": ("crates/tag_vectors/stdout", r"r (\d+)"),
     "permute": ("crates/permutation_vectors/stdout", r"(\d+)"),
     "cards": ("crates/cards/stdout", r"\((?:ok|no (\d+))"),
+    "check owners": ("crates/owner_vectors/stdout", r"c (\d+)"),
+    "owner": ("crates/owner_vectors/stdout", r"c .*, o (\d+)"),
 }
 Row = namedtuple("Row", "number name condition message reason example calls")
 
@@ -202,7 +204,9 @@ MISTAKES = [
     (NUMBERS, "| 7 | record not open", "| 17 | record not open", "one after the other"),
     (NUMBERS, "| record not open |", "| record not sound |", "the name record not sound"),
     (NUMBERS, "| 14 | not card |", "| 14 | not card line |", "NOT_CARD"),
-    (NUMBERS, "| 14 | not card |", "| 14 | another one | of something | | | an example | write |\n| 15 | not card |", "TUILARDER_ANOTHER_ONE"),
+    (NUMBERS, "| 17 | separator", "| 17 | another one | of something | | | an example | write |\n| 18 | separator", "TUILARDER_ANOTHER_ONE"),
+    (NUMBERS, "| | | | owner |", "| | | | check owners, owner |", "check owners gives [0, 15, 16]"),
+    (NUMBERS, "| | | | check owners, owner |", "| | | | check owners |", "owner gives [0, 15, 16, 17]"),
     (NUMBERS, "ABSORB, permute |", "ABSORB |", "permute gives [0, 10]"),
     (NUMBERS, "| not a card line | | | (card) | cards |", "| not a card line | | | (card) | |", "NotCard"),
     (NUMBERS, "| permute | `tuilarder_permute` |", "| permute | |", "lacks tuilarder_permute"),
@@ -226,6 +230,8 @@ MISTAKES = [
     ("docs/GUIDE.md", "p or more gets 10", "p or more gets 100", "no number 100"),
     ("README.md", "14: not a card", "13: not a card", "13: not a card"),
     ("crates/cards/stdout", "(no 14)", "(no 7)", "cards gives"),
+    ("crates/owner_vectors/stdout", "c 16", "c 17", "check owners gives [0, 15, 16, 17]"),
+    ("crates/owner_vectors/stdout", "o 16", "o 6", "owner gives [0, 6, 15, 16, 17]"),
 ]
 
 if __name__ == "__main__":

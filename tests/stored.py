@@ -21,6 +21,8 @@ STORED = {
     "crates/cards/stdout": ("tests/cards.py oracle", "crates/cards/stdin"),
     "crates/generator_check/stdout": ("tests/constants.py", None),
     "crates/hash_vectors/stdout": ("tests/digests.py", None),
+    "crates/owner_vectors/stdin": ("tests/owners.py cases", None),
+    "crates/owner_vectors/stdout": ("tests/owners.py answers", "crates/owner_vectors/stdin"),
     "crates/permutation_vectors/stdin": ("tests/permutation_states.py cases", None),
     "crates/permutation_vectors/stdout": ("tests/permutation_states.py answers", "crates/permutation_vectors/stdin"),
     "crates/session_vectors/stdin": ("tests/sessions.py cases", None),
@@ -71,7 +73,8 @@ def counted():
                  f"`permutation_vectors`, on {states} states,",
                  "`tag_vectors`, on {} patterns, {} strings and {} digests,".format(*(lines("tag_vectors", kind) for kind in "wre")),
                  f"`session_vectors`, on {calls:,} calls, of which {lines('session_vectors', 's ')} are START "
-                 f"({lines('session_vectors', 's 0')} accepted), and {records} records"):
+                 f"({lines('session_vectors', 's 0')} accepted), and {records} records",
+                 f"`owner_vectors`, on {lines('owner_vectors')} tables with a separator each ({lines('owner_vectors', 'c 0 ')} accepted)"):
         if text not in read("docs/CLAIMS.md"):
             yield f"docs/CLAIMS.md does not say: {text}"
 
