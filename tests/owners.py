@@ -111,7 +111,7 @@ def many_rows():
 
 
 def cut_rows():
-    """Every length modulo 10: the last row cut in tables that are otherwise good, in which it is the only fault, and behind another."""
+    """Every length modulo 10: a row cut short as the only one, behind good rows, and behind another fault; and the last of about 128 rows."""
     for length in range(1, 10):
         yield table((0, LARGEST))[:length]
         yield table(*even(3))[:20 + length]
@@ -180,7 +180,8 @@ def separator_cases():
 
 
 def random_cases():
-    """Tables and separators of the second implementation's own generator. Long tables are asked for fewer, which keeps the input short."""
+    """Tables and separators as `tests/oracle/oracle.py --landed 1 owners 31 60` prints them. Long tables are asked for three, which keeps the input
+    short, and those that are too long for a field are left out."""
     random = Random(SEED)
     for _ in range(TABLES):
         trace = oracle.owners(random)
