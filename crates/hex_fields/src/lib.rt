@@ -1,10 +1,9 @@
 // Fields of hexadecimal digits out of a text, as the stored inputs have them: the bytes that a field writes, and bytes as words.
+use basics::bytes::big_endian;
 ghost use mathlib.Core.Path.{_≡_};
-ghost use mathlib.Core.List.{[], _∷_};
-ghost use Prim.Native.Nat.{_+_, _≤_, _<_};
+ghost use Prim.Native.Nat.{_≤_, _<_};
 ghost use lib.ListN.{length};
-ghost use Rattle.basics.specs.Digits.{number};
-ghost use Rattle.hex_fields.specs.Fields.{digitValue, pairByte, isPair, placeBehind, fieldAt, fieldWord, fieldWords};
+ghost use Rattle.hex_fields.specs.Fields.{digitValue, pairByte, isPair, placeBehind, fieldAt, fieldWords};
 
 // The most bytes that are read of a field.
 const MAX_BYTES: usize = 2048;
@@ -75,13 +74,6 @@ pub fn field_at(text: &[u8], at: usize) -> Field
         count,
         next: place_behind(text, from),
     }
-}
-
-// The word of four bytes, highest byte first.
-fn big_endian(b0: u8, b1: u8, b2: u8, b3: u8) -> u32
-    ensures { λ r. ⌜ r ≡ number 256 (b0 ∷ b1 ∷ b2 ∷ b3 ∷ []) ⌝ }
-{
-    b0 as u32 * 0x100_0000 + b1 as u32 * 0x1_0000 + b2 as u32 * 0x100 + b3 as u32
 }
 
 // Bytes as words: four each, highest byte first.
