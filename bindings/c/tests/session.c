@@ -4,30 +4,16 @@
  */
 #include "tuilarder.h"
 
+#include "lent.h"
+
 #include <inttypes.h>
-#include <stdio.h>
-#include <stdlib.h>
-#include <string.h>
 
 #define A TUILARDER_ABSORB_BIT
 #define P TUILARDER_PRIME
-#define GUARD 64
 #define ROUNDS 3000
 #define SEED UINT64_C(0x7475696c61726465)
 
-static unsigned long checks, failures;
 static uint64_t random_state = SEED;
-
-#define CHECK(condition) check(condition, __LINE__, #condition)
-
-static void check(int holds, int line, const char *what)
-{
-    checks++;
-    if (!holds) {
-        failures++;
-        printf("%s:%d: %s\n", __FILE__, line, what);
-    }
-}
 
 /* SplitMix64. */
 static uint64_t next_random(void)
@@ -47,78 +33,6 @@ static void fill_random(void *at, size_t length)
 {
     for (size_t i = 0; i < length; i++)
         ((unsigned char *)at)[i] = (unsigned char)next_random();
-}
-
-/* A block of memory: guard bytes, then the part that is lent, then guard bytes again or the block's end. */
-struct lent {
-    unsigned char *block;
-    unsigned char *copy;
-    size_t size;
-    size_t length;
-    void *part;
-};
-
-static unsigned char *allocate(size_t size)
-{
-    unsigned char *block = malloc(size);
-    if (block == NULL) {
-        fprintf(stderr, "no memory\n");
-        exit(2);
-    }
-    return block;
-}
-
-/* The part itself is left as malloc gives it, so that valgrind sees whether a function depends on what it only has to write. */
-static struct lent lend(size_t length, size_t behind)
-{
-    struct lent lent;
-    lent.size = GUARD + length + behind;
-    lent.length = length;
-    lent.block = allocate(lent.size);
-    lent.copy = allocate(lent.size);
-    lent.part = lent.block + GUARD;
-    memset(lent.block, 0xa5, GUARD);
-    memset(lent.block + GUARD + length, 0xa5, behind);
-    memcpy(lent.copy, lent.block, lent.size);
-    return lent;
-}
-
-static struct lent lend_copy(const void *contents, size_t length)
-{
-    struct lent lent = lend(length, 0);
-    memcpy(lent.part, contents, length);
-    memcpy(lent.copy, lent.block, lent.size);
-    return lent;
-}
-
-static void remember(struct lent *lent)
-{
-    memcpy(lent->copy, lent->block, lent->size);
-}
-
-/* Whether the part and its guard bytes are as they were remembered. */
-static int same(const struct lent *lent)
-{
-    return memcmp(lent->copy, lent->block, lent->size) == 0;
-}
-
-/* Whether the part has these bytes, and its guard bytes are as they were. */
-static int holds(const struct lent *lent, const void *contents)
-{
-    memcpy(lent->copy + GUARD, contents, lent->length);
-    return same(lent);
-}
-
-static int wiped(const struct lent *lent)
-{
-    memset(lent->copy + GUARD, 0, lent->length);
-    return same(lent);
-}
-
-static void give_back(struct lent *lent)
-{
-    free(lent->block);
-    free(lent->copy);
 }
 
 /* ---- sessions */
@@ -622,6 +536,5 @@ int main(void)
     test_bad_records();
     CHECK(same(&empty));
     give_back(&empty);
-    printf("bindings/c: %lu checks, %lu failed\n", checks, failures);
-    return failures != 0;
+    return report("sessions");
 }
