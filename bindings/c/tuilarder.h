@@ -18,8 +18,8 @@
  *
  * - A pointer is aligned for its type and valid: a list's for as many items as the length after it says, every other one for its object.
  *   With length 0 a list's pointer may have any value, NULL among them: nothing is read or written through it. No other one may be NULL.
- * - What a function writes (the record, the state, out, written, words and count of tuilarder_read_tag) overlaps nothing else that the
- *   call was lent. Nobody else reads or writes that, and nobody writes what the function reads, until the call returns.
+ * - What a function writes (the record, the state, out, written, words and count of tuilarder_read_tag, place, value) overlaps nothing
+ *   else that the call was lent. Nobody else reads or writes that, and nobody writes what the function reads, until the call returns.
  *
  * What a function only writes need not be set before. The library has no state of its own, so distinct records may be used by distinct
  * threads at once. The time that a call takes depends on what it is lent, and copies of a record may stay behind on the stack: nothing is
@@ -61,6 +61,10 @@ extern "C" {
 /* The bytes of a SHA3-256 digest. */
 #define TUILARDER_DIGEST_LENGTH 32
 
+/* The bytes of a row of a table of owners, and the most rows that a table has. */
+#define TUILARDER_OWNER_ROW_BYTES 10
+#define TUILARDER_MAX_OWNER_ROWS 128
+
 /* The numbers that the functions answer with. */
 enum tuilarder_number {
     /* the call is accepted */
@@ -90,7 +94,13 @@ enum tuilarder_number {
     /* lent buffer shorter than the tag string */
     TUILARDER_BUFFER_TOO_SHORT = 12,
     /* no tag string of that separator length */
-    TUILARDER_NOT_TAG_STRING = 13
+    TUILARDER_NOT_TAG_STRING = 13,
+    /* a row whose first is above its last or not above the previous row's last, a row 129 or a row cut short */
+    TUILARDER_OWNERS_ROW_INVALID = 15,
+    /* a number that no row holds */
+    TUILARDER_OWNERS_GAP = 16,
+    /* the separator asked about is under four bytes */
+    TUILARDER_SEPARATOR_TOO_SHORT = 17
 };
 
 /*
@@ -191,6 +201,21 @@ TUILARDER_ANSWER tuilarder_permute(uint32_t state[TUILARDER_WIDTH]);
 
 /* The SHA3-256 digest of a string of bytes. It turns nothing away. */
 void tuilarder_sha3_256(const uint8_t *data, size_t length, uint8_t out[TUILARDER_DIGEST_LENGTH]);
+
+/*
+ * Whether a table of owners gives every number of 32 bits to exactly one product line. A row has ten bytes: the first and the last number
+ * that it holds, of four bytes each, and its product line, of two, highest byte first. Rows are in rising order. Checks 15, then 16. Writes to
+ * place the number of the first bad row, counted from 1, with 15; the least number that no row holds with 16; otherwise 0.
+ */
+TUILARDER_ANSWER tuilarder_check_owners(const uint8_t *table, size_t length, uint32_t *place);
+
+/*
+ * The product line that owns a separator: that of the row which holds the separator's number, its first four bytes, highest byte first.
+ * Checks 15, 16, then 17; so each call looks at the whole table. A separator may be of any length above three. Writes to value the product
+ * line where it accepts; with 15 and 16 what tuilarder_check_owners writes to place; with 17 it is 0.
+ */
+TUILARDER_ANSWER tuilarder_owner(const uint8_t *table, size_t table_length, const uint8_t *separator, size_t separator_length,
+                                 uint32_t *value);
 
 #undef TUILARDER_ANSWER
 

@@ -1,5 +1,5 @@
 /*
- * What tuilarder.h declares, as a caller sees it: the figures of document 01 as literals, and the type of every field and function. It is
+ * What tuilarder.h declares, as a caller sees it: the figures of documents 01 and 02 as literals, and the type of every field and function. It is
  * only compiled. The header is taken in twice, as a program may.
  */
 #include "tuilarder.h"
@@ -19,6 +19,9 @@ IS(TUILARDER_MAX_WORDS, 64);
 IS(TUILARDER_MAX_SEPARATOR, 256);
 IS(TUILARDER_MAX_TAG_STRING, 512);
 IS(TUILARDER_DIGEST_LENGTH, 32);
+/* "ten a row", "at most 128 rows" */
+IS(TUILARDER_OWNER_ROW_BYTES, 10);
+IS(TUILARDER_MAX_OWNER_ROWS, 128);
 /* version 1, and a record of 94 numbers of four bytes and one of eight */
 IS(TUILARDER_LAYOUT, 4294967296 + 94 * 4 + 8);
 HAS_TYPE(TUILARDER_LAYOUT, uint64_t);
@@ -26,7 +29,7 @@ HAS_TYPE(TUILARDER_LAYOUT, uint64_t);
 HAS_TYPE(TUILARDER_PRIME, uint32_t);
 HAS_TYPE(TUILARDER_ABSORB_BIT, uint32_t);
 
-/* "Calls turned away" */
+/* "Calls turned away", and the numbers that document 02 adds to them */
 IS(TUILARDER_ACCEPTED, 0);
 IS(TUILARDER_WORD_COUNT_OUT_OF_RANGE, 1);
 IS(TUILARDER_WORD_LENGTH_ZERO, 2);
@@ -41,6 +44,9 @@ IS(TUILARDER_ELEMENT_NOT_REDUCED, 10);
 IS(TUILARDER_PATTERN_NOT_DONE, 11);
 IS(TUILARDER_BUFFER_TOO_SHORT, 12);
 IS(TUILARDER_NOT_TAG_STRING, 13);
+IS(TUILARDER_OWNERS_ROW_INVALID, 15);
+IS(TUILARDER_OWNERS_GAP, 16);
+IS(TUILARDER_SEPARATOR_TOO_SHORT, 17);
 
 #define RECORD ((struct tuilarder_session *)0)
 HAS_TYPE(RECORD->status, uint32_t);
@@ -65,6 +71,8 @@ HAS_TYPE(&tuilarder_read_tag, uint32_t (*)(const uint8_t *, size_t, size_t, uint
 HAS_TYPE(&tuilarder_permute, uint32_t (*)(uint32_t *));
 HAS_TYPE(&tuilarder_layout_1, uint64_t (*)(void));
 HAS_TYPE(&tuilarder_sha3_256, void (*)(const uint8_t *, size_t, uint8_t *));
+HAS_TYPE(&tuilarder_check_owners, uint32_t (*)(const uint8_t *, size_t, uint32_t *));
+HAS_TYPE(&tuilarder_owner, uint32_t (*)(const uint8_t *, size_t, const uint8_t *, size_t, uint32_t *));
 
 /* macros that only the header itself needs */
 #if defined TUILARDER_ANSWER || defined TUILARDER_ASSERT || defined TUILARDER_FIELD_AT

@@ -54,11 +54,23 @@ static void test_permutation_and_hash()
     CHECK(digest[0] == 0xa7 && digest[1] == 0xff && digest[2] == 0xc6);
 }
 
+// Two rows: up to 0x7fffffff of line 1, and from there on of line 2.
+static void test_owners()
+{
+    const uint8_t table[20] = {0, 0, 0, 0, 0x7f, 0xff, 0xff, 0xff, 0, 1, 0x80, 0, 0, 0, 0xff, 0xff, 0xff, 0xff, 0, 2};
+    const uint8_t separator[4] = {0x80, 0, 0, 0};
+    uint32_t place = 1, value = 0;
+    CHECK(tuilarder_check_owners(table, 20, &place) == TUILARDER_ACCEPTED && place == 0);
+    CHECK(tuilarder_check_owners(table, 10, &place) == TUILARDER_OWNERS_GAP && place == 0x80000000);
+    CHECK(tuilarder_owner(table, 20, separator, 4, &value) == TUILARDER_ACCEPTED && value == 2);
+}
+
 int main()
 {
     CHECK(tuilarder_layout_1() == TUILARDER_LAYOUT);
     test_session();
     test_tag_string();
     test_permutation_and_hash();
+    test_owners();
     return failed;
 }
