@@ -1,8 +1,8 @@
 //! The challenge sponge that turns a protocol's messages into challenges: SAFE sessions over the BabyBear field
 //! (p = 2013265921), with the Poseidon permutation and SHA3-256.
 //!
-//! The work is done by a static library in Rattle, whose every function is proved to do what its specification, document 01, says, on every
-//! input. This crate declares its functions ([`ffi`]) and puts types over them. It checks no rule of its own but that a length fits in a
+//! The work is done by a static library in Rattle, whose every function is proved to do what its specification, documents 01 and 02, says, on
+//! every input. This crate declares its functions ([`ffi`]) and puts types over them. It checks no rule of its own but that a length fits in a
 //! word.
 //!
 //! # Separators
@@ -12,6 +12,8 @@
 //! With one separator, two protocols share it where their merged patterns are equal: calls of 3 and 3 elements merge to one of 6. With
 //! separators of unequal length, other patterns can share it too: a tag string is the merged pattern's words in bytes with the separator
 //! behind them, and says nowhere where the separator begins.
+//!
+//! Where a house hands out separators to its product lines, [`Owners`] is the table of which line has which.
 //!
 //! # A protocol of two rounds
 //!
@@ -57,10 +59,12 @@
 #![no_std]
 
 pub mod ffi;
+mod owners;
 mod pattern;
 mod refusal;
 mod session;
 
+pub use owners::{Owners, OwnersFault};
 pub use pattern::{Call, Pattern};
 pub use refusal::Refusal;
 pub use session::Session;

@@ -4,7 +4,7 @@ use core::fmt;
 /// them that say more.
 macro_rules! refusals {
     ($($(#[doc = $more:literal])* $number:literal $variant:ident $message:literal,)*) => {
-        /// Why a call was turned away: the conditions of the specification, document 01, each with its number.
+        /// Why a call was turned away: the conditions of the specification, documents 01 and 02, each with its number.
         ///
         /// There can be more of them in a later version, so a `match` outside of this crate needs an arm for others.
         #[non_exhaustive]
@@ -19,7 +19,7 @@ macro_rules! refusals {
         }
 
         impl Refusal {
-            /// The number that document 01 and the functions of [`ffi`](crate::ffi) have for it.
+            /// The number that the documents and the functions of [`ffi`](crate::ffi) have for it.
             pub const fn number(self) -> u32 {
                 self as u32
             }
@@ -60,6 +60,11 @@ refusals! {
     11 PatternNotDone "FINISH before the last phase's end",
     12 BufferTooShort "lent buffer shorter than the tag string",
     13 NotTagString "no tag string of that separator length",
+    /// [`OwnersFault::Row`](crate::OwnersFault::Row) says which row.
+    15 OwnersRowInvalid "a row whose first is above its last or not above the previous row's last, a row 129 or a row cut short",
+    /// [`OwnersFault::Gap`](crate::OwnersFault::Gap) says which is the least.
+    16 OwnersGap "a number that no row holds",
+    17 SeparatorTooShort "the separator asked about is under four bytes",
 }
 
 impl core::error::Error for Refusal {}
