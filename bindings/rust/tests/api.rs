@@ -1,13 +1,16 @@
 //! The crate's types: each refusal, what the calls leave, and known challenges.
 //!
 //! Squeezed elements and the permuted state are from the second implementation, in Python, of document 01. The numbers and their
-//! conditions are those of docs/NUMBERS.md, the examples those of document 01's table, "Calls turned away"; B1 to B7 are its samples.
+//! conditions are those of docs/NUMBERS.md, the examples those of document 01's table, "Calls turned away"; B1 to B7 are its samples. What
+//! tables of owners give is worked out by hand from document 02.
 
 use std::mem::{size_of, ManuallyDrop};
 use std::ptr;
 
 use tuilarder::ffi::Record;
-use tuilarder::{permute, sha3_256, Call, Pattern, Refusal, Session, CAPACITY, PRIME, RATE, WIDTH};
+use tuilarder::{
+    permute, sha3_256, Call, Owners, OwnersFault, Pattern, Refusal, Session, CAPACITY, PRIME, RATE, WIDTH,
+};
 use Call::{Absorb, Squeeze};
 
 const ABSORB_BIT: u32 = 1 << 31;
@@ -33,6 +36,7 @@ fn refused_with(number: u32) -> Vec<Result<(), Refusal>> {
     match number {
         1..=5 => patterns_refused_with(number),
         6 | 12 | 13 => strings_refused_with(number),
+        15..=17 => owners_refused_with(number),
         _ => sessions_refused_with(number),
     }
 }
@@ -90,6 +94,33 @@ fn sessions_refused_with(number: u32) -> Vec<Result<(), Refusal>> {
         10 => vec![opened().absorb(&[2013265921]), permute(&mut [2013265921; WIDTH])],
         _ => vec![opened().finish()],
     }
+}
+
+fn owners_refused_with(number: u32) -> Vec<Result<(), Refusal>> {
+    let table = |table: &[u8]| Owners::new(table).map_err(OwnersFault::refusal).map(drop);
+    match number {
+        15 => vec![
+            table(&[0]),
+            table(&table_of(&[(1, 0, 7)])),
+            table(&table_of(&[(0, 5, 7), (5, u32::MAX, 8)])),
+        ],
+        16 => vec![table(&[]), table(&table_of(&[(0, u32::MAX - 1, 7)]))],
+        _ => {
+            let table = table_of(&[(0, u32::MAX, 7)]);
+            let owners = Owners::new(&table).unwrap();
+            [0, 1, 2, 3]
+                .map(|size| owners.owner(&[7; 4][..size]).map(drop))
+                .to_vec()
+        }
+    }
+}
+
+/// A table of owners, of rows with first and last number and product line.
+fn table_of(rows: &[(u32, u32, u16)]) -> Vec<u8> {
+    let bytes = |(first, last, line): &(u32, u32, u16)| {
+        [&first.to_be_bytes()[..], &last.to_be_bytes(), &line.to_be_bytes()].concat()
+    };
+    rows.iter().flat_map(bytes).collect()
 }
 
 fn one_and_one() -> Pattern {
@@ -369,6 +400,75 @@ fn digests_are_those_of_fips_202() {
     );
 }
 
+/// "ten a row: first and last number of 32 bits, product line of 16, highest byte first".
+#[test]
+fn a_table_gives_each_separator_its_line() {
+    let table = [
+        0, 0, 0, 0, 0x01, 0x02, 0x03, 0x03, 0x0a, 0x0b, // row 1
+        0x01, 0x02, 0x03, 0x04, 0xff, 0xff, 0xff, 0xfe, 0, 0, // row 2
+        0xff, 0xff, 0xff, 0xff, 0xff, 0xff, 0xff, 0xff, 0xff, 0xff, // row 3
+    ];
+    let owners = Owners::new(&table).unwrap();
+    assert_eq!(owners.owner(&[0, 0, 0, 0]), Ok(0x0a0b));
+    assert_eq!(owners.owner(&[0x01, 0x02, 0x03, 0x03]), Ok(0x0a0b));
+    assert_eq!(owners.owner(&[0x01, 0x02, 0x03, 0x04]), Ok(0));
+    assert_eq!(owners.owner(&[0x01, 0x02, 0x03, 0x03, 0xff]), Ok(0x0a0b));
+    assert_eq!(owners.owner(&[0xff, 0xff, 0xff, 0xfe]), Ok(0));
+    assert_eq!(owners.owner(&[0xff; 4]), Ok(0xffff));
+    assert_eq!(owners.owner(&[0xff; 300]), Ok(0xffff));
+    assert_eq!(owners.owner(&[0xff; 3]), Err(Refusal::SeparatorTooShort));
+}
+
+#[test]
+fn a_refused_table_says_where() {
+    const MAX: u32 = u32::MAX;
+    let fault = |rows: &[(u32, u32, u16)]| Owners::new(&table_of(rows)).unwrap_err();
+    assert_eq!(fault(&[]), OwnersFault::Gap(0));
+    assert_eq!(fault(&[(1, MAX, 7)]), OwnersFault::Gap(0));
+    assert_eq!(fault(&[(0, 5, 7), (7, MAX, 8)]), OwnersFault::Gap(6));
+    assert_eq!(fault(&[(0, MAX - 1, 7)]), OwnersFault::Gap(MAX));
+    assert_eq!(fault(&[(0, 5, 7), (5, MAX, 8)]), OwnersFault::Row(2));
+    assert_eq!(fault(&[(9, 8, 7), (5, MAX, 8)]), OwnersFault::Row(1));
+    // the bad row counts before the gap at 0
+    assert_eq!(fault(&[(1, 5, 7), (6, 9, 8), (9, MAX, 9)]), OwnersFault::Row(3));
+    let cut = table_of(&[(0, 5, 7), (6, MAX, 8)]);
+    assert_eq!(Owners::new(&cut[..19]), Err(OwnersFault::Row(2)));
+    assert_eq!(Owners::new(&cut[..10]), Err(OwnersFault::Gap(6)));
+}
+
+/// So many rows of 2^`bits` numbers each.
+fn equal_rows(count: u32, bits: u32) -> Vec<u8> {
+    let width = 1 << bits;
+    let row = |k: u32| (k * width, k * width + (width - 1), k as u16 * 500);
+    table_of(&(0..count).map(row).collect::<Vec<_>>())
+}
+
+/// Of rows with 2^24 numbers the 129th is bad, though it is whole and above the one before.
+#[test]
+fn a_table_has_at_most_128_rows() {
+    let table = equal_rows(128, 25);
+    let owners = Owners::new(&table).unwrap();
+    for k in 0..128_u32 {
+        assert_eq!(owners.owner(&(k << 25).to_be_bytes()), Ok(k as u16 * 500));
+    }
+    assert_eq!(Owners::new(&equal_rows(129, 24)), Err(OwnersFault::Row(129)));
+    assert_eq!(Owners::new(&equal_rows(128, 24)), Err(OwnersFault::Gap(1 << 31)));
+    assert_eq!((Owners::ROW_BYTES, Owners::MAX_ROWS), (10, 128));
+}
+
+#[test]
+fn a_fault_has_its_number_and_words() {
+    for (fault, number, words) in [
+        (OwnersFault::Row(129), 15, "a row cut short: row 129"),
+        (OwnersFault::Gap(u32::MAX), 16, "a number that no row holds: 4294967295"),
+    ] {
+        assert_eq!(fault.refusal().number(), number);
+        let error: &dyn std::error::Error = &fault;
+        assert!(error.to_string().starts_with(&fault.refusal().to_string()));
+        assert!(error.to_string().ends_with(words), "{error}");
+    }
+}
+
 /// The figures of document 01.
 #[test]
 fn the_figures_are_document_01s() {
@@ -381,6 +481,8 @@ const _: () = {
     shared_between_threads::<Pattern>();
     shared_between_threads::<Call>();
     shared_between_threads::<Refusal>();
+    shared_between_threads::<Owners>();
+    shared_between_threads::<OwnersFault>();
 };
 
 /// Here every program has `std`, so the attribute is looked for in the text.

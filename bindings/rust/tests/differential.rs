@@ -57,6 +57,7 @@ by_both! {
     reading_of_any_string
     hashes_of_any_bytes
     permutations_of_any_state
+    owners_by_any_table
 }
 
 fn start_on_any_pattern_and_separator(library: &'static dyn Interface) {
@@ -276,4 +277,23 @@ fn permutations_of_any_state(library: &'static dyn Interface) {
         run.permute(&mut state);
     });
     run.assert_numbers("permute", &[0, 10]);
+}
+
+fn owners_by_any_table(library: &'static dyn Interface) {
+    let run = Run::of("owners_by_any_table", library, 8_000, |run| {
+        let table = any_table(&mut run.random);
+        match run.check_owners(&table) {
+            (15, 129) => run.answered("row 129", 15),
+            (number, _) if table.len() == 1280 => run.answered("128 rows", number),
+            _ => (),
+        }
+        for _ in 0..4 {
+            let separator = asked_separator(&mut run.random, &table);
+            run.owner(&table, &separator);
+        }
+    });
+    run.assert_numbers("check_owners", &[0, 15, 16]);
+    run.assert_numbers("owner", &[0, 15, 16, 17]);
+    run.assert_reached("128 rows", &[0, 15, 16]);
+    run.assert_reached("row 129", &[15]);
 }

@@ -6,7 +6,7 @@ use std::ops::{Deref, DerefMut};
 use std::{ptr, slice};
 
 use tuilarder::ffi::{self, Record};
-use tuilarder::{Call, Pattern, Refusal, Session};
+use tuilarder::{Call, Owners, OwnersFault, Pattern, Refusal, Session};
 
 const LENGTH: usize = (1 << 32) + 5;
 
@@ -146,6 +146,32 @@ fn string_of_more_than_32_bits_is_no_tag_string() {
     assert_eq!((number, words, count), (13, [0; 64], 0));
 }
 
+/// One row that holds every number, of product line 7.
+const WHOLE: [u8; 10] = [0, 0, 0, 0, 255, 255, 255, 255, 0, 7];
+
+#[test]
+fn table_of_more_than_32_bits_is_too_long() {
+    let (mut table, mut place, mut value) = (Zeros::<u8>::of((1 << 32) + 10), 77, 77);
+    table[..10].copy_from_slice(&WHOLE);
+    // SAFETY: the pointers are to that many cells, and the lists are apart.
+    unsafe {
+        assert_eq!(ffi::tuilarder_check_owners(table.as_ptr(), table.len(), &mut place), 15);
+        assert_eq!(
+            ffi::tuilarder_owner(table.as_ptr(), table.len(), [1; 4].as_ptr(), 4, &mut value),
+            15
+        );
+    }
+    assert_eq!((place, value), (2, 2));
+}
+
+#[test]
+fn separator_of_more_than_32_bits_is_asked_about() {
+    let (separator, mut value) = (Zeros::<u8>::of((1 << 32) + 3), 77);
+    // SAFETY: the pointers are to that many cells, and the lists are apart.
+    let number = unsafe { ffi::tuilarder_owner(WHOLE.as_ptr(), 10, separator.as_ptr(), separator.len(), &mut value) };
+    assert_eq!((number, value), (0, 7));
+}
+
 // By the types
 
 fn pattern() -> Pattern {
@@ -221,4 +247,17 @@ fn types_read_no_string_of_more_than_32_bits() {
     let mut string = Zeros::<u8>::of((1 << 32) + 8);
     string[..8].copy_from_slice(&[0x80, 0, 0, 9, 0, 0, 0, 9]);
     assert_eq!(Pattern::read(&string, 0), Err(Refusal::NotTagString));
+}
+
+#[test]
+fn types_refuse_a_table_of_more_than_32_bits() {
+    let mut table = Zeros::<u8>::of((1 << 32) + 10);
+    table[..10].copy_from_slice(&WHOLE);
+    assert_eq!(Owners::new(&table), Err(OwnersFault::Row(2)));
+}
+
+#[test]
+fn types_ask_about_a_separator_of_more_than_32_bits() {
+    let separator = Zeros::<u8>::of((1 << 32) + 3);
+    assert_eq!(Owners::new(&WHOLE).unwrap().owner(&separator), Ok(7));
 }

@@ -1,5 +1,6 @@
 //! The crate's types against the independent implementation, where `differential.rs` does not reach: patterns by their calls, each length of
-//! a separator and of a hashed string, sessions that live through all of their calls, forks, challenges, and records of every status.
+//! a separator and of a hashed string, sessions that live through all of their calls, forks, challenges, records of every status, and tables
+//! of owners that are asked often.
 
 mod guarded;
 mod independent;
@@ -11,7 +12,7 @@ mod run;
 
 use independent::{ABSORB, LONGEST};
 use inputs::*;
-use interfaces::{number_of, perform, record_of, Independent, Interface, Types};
+use interfaces::{number_and_place, number_of, perform, record_of, Independent, Interface, Types};
 use run::Run;
 use std::fmt::Debug;
 use std::hash::{DefaultHasher, Hash, Hasher};
@@ -19,39 +20,43 @@ use std::mem::{transmute, ManuallyDrop};
 use std::ptr;
 use tuilarder::ffi::Record;
 use tuilarder::Call::{Absorb, Squeeze};
-use tuilarder::{Pattern, Refusal, Session, CAPACITY, PRIME, RATE, WIDTH};
+use tuilarder::{Owners, OwnersFault, Pattern, Refusal, Session, CAPACITY, PRIME, RATE, WIDTH};
 
 /// A call that a pattern declares; `Call` here is one of a session.
 type Declared = tuilarder::Call;
 
 // Figures
 
-/// The figures of document 01; the longest tag string is 64 words of four bytes and 256 bytes.
+/// The figures of documents 01 and 02; the longest tag string is 64 words of four bytes and 256 bytes.
 #[test]
-fn figures_are_document_01s() {
+fn figures_are_the_documents() {
     assert_eq!((RATE, CAPACITY, WIDTH, PRIME), (8, 16, 24, 2013265921));
     assert_eq!(
         (Pattern::MAX_WORDS, Pattern::MAX_SEPARATOR, Pattern::MAX_TAG_STRING),
         (64, 256, 512)
     );
+    assert_eq!((Owners::ROW_BYTES, Owners::MAX_ROWS), (10, 128));
     let wiped = independent::WIPED;
     assert_eq!(Record::WIPED, same_fields!(Record, wiped));
 }
 
 #[test]
-fn refusals_have_the_numbers_1_to_13() {
-    for number in 1..=13 {
+fn refusals_have_the_numbers_1_to_13_and_15_to_17() {
+    for number in (1..=13).chain(15..=17) {
         let refusal = Refusal::from_number(number).expect("a refusal");
         assert_eq!(number_of::<()>(&Err(refusal)), number);
     }
-    let others = (14..1 << 20).chain((0..32).map(|k| (1 << k) + 16)).chain([0, u32::MAX]);
+    let others = (18..1 << 20)
+        .chain((5..32).map(|k| (1 << k) + 16))
+        .chain([0, 14, u32::MAX]);
     for number in others {
         assert_eq!(Refusal::from_number(number), None, "{number}");
     }
 }
 
 // The numbers are known at compile time too.
-const _: () = assert!(Refusal::NotTagString.number() == 13 && Refusal::from_number(14).is_none());
+const _: () = assert!(Refusal::SeparatorTooShort.number() == 17 && Refusal::from_number(14).is_none());
+const _: () = assert!(OwnersFault::Gap(0).refusal().number() == 16);
 
 /// A `match` needs an arm for other refusals: if it did not, `_` would be unreachable, and this would not compile.
 #[deny(unreachable_patterns)]
@@ -61,7 +66,7 @@ fn others_are_possible(refusal: Refusal) -> bool {
     match refusal {
         WordCountOutOfRange | WordLengthZero | FirstWordSqueeze | LastWordAbsorb | MergedLengthTooLong => false,
         SeparatorTooLong | RecordNotOpen | RecordNotSound | CallNotInPattern | ElementNotReduced => false,
-        PatternNotDone | BufferTooShort | NotTagString => false,
+        PatternNotDone | BufferTooShort | NotTagString | OwnersRowInvalid | OwnersGap | SeparatorTooShort => false,
         _ => true,
     }
 }
@@ -73,6 +78,8 @@ const fn printed<T: Debug>() {}
 const _: () = {
     plain::<Refusal>();
     plain::<Declared>();
+    plain::<Owners>();
+    plain::<OwnersFault>();
     cloned::<Pattern>();
     printed::<Session>();
 };
@@ -130,9 +137,9 @@ fn merged_calls(calls: &[Declared]) -> Result<Vec<u32>, u32> {
     Ok(merged)
 }
 
-fn hash_of(pattern: &Pattern) -> u64 {
+fn hash_of(value: &impl Hash) -> u64 {
     let mut hasher = DefaultHasher::new();
-    pattern.hash(&mut hasher);
+    value.hash(&mut hasher);
     hasher.finish()
 }
 
@@ -560,4 +567,95 @@ fn dropping_wipes_any_record() {
         run.answered("open", u32::from(record.status == 1));
     });
     run.assert_numbers("open", &[0, 1]);
+}
+
+// Tables of owners
+
+/// A table is checked once, and it and a copy of it are asked about many separators.
+fn compare_owners(run: &mut Run, owners: &Owners, table: &[u8]) {
+    let copy = *owners;
+    for k in 0..40 {
+        let separator = asked_separator(&mut run.random, table);
+        run.last = Box::new((table.to_vec(), separator.clone()));
+        let answer = if k % 2 == 0 { owners } else { &copy }.owner(&separator);
+        let (number, value) = independent::owner(table, &separator);
+        assert_eq!((number_of(&answer), answer.map_or(0, u32::from)), (number, value));
+        run.answered("owner", number);
+    }
+}
+
+/// That it is equal to one of the same bytes in another place, and to no other.
+fn assert_equal_by_bytes(run: &mut Run, owners: &Owners, table: &[u8]) {
+    let mut bytes = table.to_vec();
+    assert_eq!(*owners, Owners::new(&bytes).expect("accepted bytes"));
+    assert_eq!(hash_of(owners), hash_of(&Owners::new(&bytes).expect("accepted bytes")));
+    let rows = bytes.len() as u64 / 10;
+    // a byte of a product line, which leaves the table an accepted one
+    bytes[10 * run.random.below(rows) as usize + run.random.pick(&[8, 9])] ^= 1 << run.random.below(8);
+    assert_ne!(*owners, Owners::new(&bytes).expect("another line"));
+}
+
+/// The condition of 15 and of 16, and the place.
+fn words_of(number: u32, place: u32) -> String {
+    const ROW: &str =
+        "a row whose first is above its last or not above the previous row's last, a row 129 or a row cut short";
+    match number {
+        15 => format!("{ROW}: row {place}"),
+        _ => format!("a number that no row holds: {place}"),
+    }
+}
+
+#[test]
+fn tables_of_owners_asked_often() {
+    let run = Run::of("tables_of_owners_asked_often", &Types, 2_000, |run| {
+        let table = any_table(&mut run.random);
+        run.last = Box::new(table.clone());
+        let (number, place) = independent::check_owners(&table);
+        run.answered("Owners::new", number);
+        match Owners::new(&table) {
+            Ok(owners) => {
+                assert_eq!(number, 0, "the number");
+                compare_owners(run, &owners, &table);
+                assert_equal_by_bytes(run, &owners, &table);
+            }
+            Err(fault) => {
+                assert_eq!(number_and_place(&fault), (number, place));
+                assert_eq!(fault.to_string(), words_of(number, place));
+            }
+        }
+    });
+    run.assert_numbers("Owners::new", &[0, 15, 16]);
+    run.assert_numbers("owner", &[0, 17]);
+}
+
+/// Rows of 2^24 numbers each, the first of which begins at 0.
+fn narrow_rows(count: u32) -> Vec<u8> {
+    let row = |k: u32| {
+        let (first, last) = (k << 24, (k << 24) + 0xffffff);
+        [&first.to_be_bytes()[..], &last.to_be_bytes(), &[1, 2]].concat()
+    };
+    (0..count).flat_map(row).collect()
+}
+
+/// Each length up to some rows more than the most.
+#[test]
+fn tables_of_owners_of_every_length() {
+    let rows = narrow_rows(131);
+    let run = Run::of("tables_of_owners_of_every_length", &Types, 1311, |run| {
+        let answer = run.check_owners(&rows[..run.case as usize]);
+        run.answered("row 129", u32::from(answer == (15, 129)));
+    });
+    run.assert_numbers("check_owners", &[15, 16]);
+    run.assert_numbers("row 129", &[0, 1]);
+}
+
+/// Lengths whose low 16 bits are those of one row, which alone would be accepted; the row behind it begins at 0 again.
+#[test]
+fn tables_of_owners_far_too_long() {
+    for length in [65546, 131082, (1 << 20) + 10] {
+        let mut table = vec![0; length];
+        table[4..10].copy_from_slice(&[255, 255, 255, 255, 0, 7]);
+        assert!(Owners::new(&table[..10]).is_ok());
+        assert_eq!(Owners::new(&table), Err(OwnersFault::Row(2)), "{length}");
+    }
 }

@@ -53,6 +53,12 @@ impl Any for u8 {
     }
 }
 
+impl Any for u16 {
+    fn any(random: &mut Random) -> u16 {
+        random.next() as u16
+    }
+}
+
 impl Any for u32 {
     fn any(random: &mut Random) -> u32 {
         random.next() as u32
@@ -254,4 +260,32 @@ pub fn sha3_256(random: &mut Random, data: &[u8]) -> [u8; 32] {
     unsafe { ffi::tuilarder_sha3_256(data.pointer(), data.len, out.pointer()) };
     data.only_read();
     out.returned()[0]
+}
+
+/// The number, and what the library says of the place.
+pub fn check_owners(random: &mut Random, table: &[u8]) -> (u32, u32) {
+    let (mut table, mut place) = (Lent::new(table, random), Lent::new(&[u32::any(random)], random));
+    // SAFETY: the pointers are to that many cells, and the lists are apart.
+    let number = unsafe { ffi::tuilarder_check_owners(table.pointer(), table.len, place.pointer()) };
+    table.only_read();
+    (number, place.returned()[0])
+}
+
+/// The number, and the value that comes with it.
+pub fn owner(random: &mut Random, table: &[u8], separator: &[u8]) -> (u32, u32) {
+    let (mut table, mut separator) = (Lent::new(table, random), Lent::new(separator, random));
+    let mut value = Lent::new(&[u32::any(random)], random);
+    // SAFETY: the pointers are to that many cells, and the lists are apart.
+    let number = unsafe {
+        ffi::tuilarder_owner(
+            table.pointer(),
+            table.len,
+            separator.pointer(),
+            separator.len,
+            value.pointer(),
+        )
+    };
+    table.only_read();
+    separator.only_read();
+    (number, value.returned()[0])
 }

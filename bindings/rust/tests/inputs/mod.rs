@@ -1,10 +1,11 @@
-//! Random inputs, most of them good and others damaged: patterns, separators, elements, calls, records and strings.
+//! Random inputs, most of them good and others damaged: patterns, separators, elements, calls, records, strings and tables of owners.
 
 // Each program that takes this file in uses only a part of it.
 #![allow(dead_code)]
 
 use crate::guarded::{Any, Random};
 use crate::independent::{self, length, ABSORB, LONGEST, MOST_WORDS, P};
+use std::collections::BTreeSet;
 use tuilarder::ffi::Record;
 
 // Patterns and separators
@@ -377,4 +378,84 @@ pub fn damage_string(random: &mut Random, string: &mut Vec<u8>) {
             string.extend(random.list::<u8>(size));
         }
     }
+}
+
+// Tables of owners
+
+/// First and last number, and product line.
+type OwnerRow = (u32, u32, u16);
+
+/// A number at either end of the 32 bits, or anywhere, but not 0.
+fn any_cut(random: &mut Random) -> u32 {
+    match random.below(4) {
+        0 => 1 + random.below(300) as u32,
+        1 => u32::MAX - random.below(300) as u32,
+        _ => 1 + random.below(u64::from(u32::MAX)) as u32,
+    }
+}
+
+/// So many rows that hold every number once.
+fn whole_rows(random: &mut Random, count: usize) -> Vec<OwnerRow> {
+    let mut firsts = BTreeSet::from([0]);
+    while firsts.len() < count {
+        firsts.insert(any_cut(random));
+    }
+    let ends = firsts.iter().skip(1).map(|first| first - 1).chain([u32::MAX]);
+    let rows = firsts.iter().zip(ends);
+    rows.map(|(first, last)| (*first, last, u16::any(random))).collect()
+}
+
+fn damage_rows(random: &mut Random, rows: &mut Vec<OwnerRow>) {
+    if rows.is_empty() {
+        return rows.push((0, u32::MAX, u16::any(random)));
+    }
+    let k = random.below(rows.len() as u64) as usize;
+    let (first, last, line) = rows[k];
+    let (other, bit) = (random.below(rows.len() as u64) as usize, 1 << random.below(32));
+    match random.below(11) {
+        0 => rows.swap(k, other),
+        1 => drop(rows.remove(k)),
+        2 => rows.insert(k, rows[k]),
+        3 => rows[k] = (first ^ bit, last, line),
+        4 => rows[k] = (first, last ^ bit, line),
+        5 => rows[k] = (last, first, line),
+        6 => rows[k] = (first.wrapping_sub(1), last, line),
+        7 => rows[k] = (first.wrapping_add(1), last, line),
+        8 => rows[k] = (first, last.wrapping_add(1), line),
+        9 => rows[k] = (first, last.wrapping_sub(1), line),
+        _ => rows[k] = (u32::any(random), u32::any(random), line),
+    }
+}
+
+/// Any table of owners: many of them good, others damaged in one or several ways.
+pub fn any_table(random: &mut Random) -> Vec<u8> {
+    let count = random.pick(&[1, 1, 2, 2, 3, 4, 5, 20, 127, 128, 128, 129, 130]);
+    let mut rows = whole_rows(random, count);
+    for _ in 0..random.pick(&[0, 0, 0, 0, 1, 1, 2]) {
+        damage_rows(random, &mut rows);
+    }
+    let parts = rows
+        .iter()
+        .flat_map(|(first, last, line)| [&first.to_be_bytes()[..], &last.to_be_bytes(), &line.to_be_bytes()].concat());
+    let mut table: Vec<u8> = parts.collect();
+    if random.once_in(8) {
+        damage_string(random, &mut table);
+    }
+    table
+}
+
+/// A separator whose number is at the edge of a row of the table, beside it or anywhere, at times cut to under four bytes or followed by more.
+pub fn asked_separator(random: &mut Random, table: &[u8]) -> Vec<u8> {
+    let numbers: Vec<&[u8]> = table.chunks_exact(10).flat_map(|row| [&row[..4], &row[4..8]]).collect();
+    let any = u32::any(random);
+    let edge = match numbers.is_empty() {
+        true => any,
+        false => u32::from_be_bytes(random.pick(&numbers).try_into().expect("four bytes")),
+    };
+    let number = random.pick(&[edge, edge, edge.wrapping_sub(1), edge.wrapping_add(1), any, 0, u32::MAX]);
+    let size = random.pick(&[4, 4, 4, 4, 5, 8, 256, 257, 300, 0, 1, 2, 3]);
+    let mut separator = number.to_be_bytes().to_vec();
+    separator.extend(random.list::<u8>(300));
+    separator.truncate(size);
+    separator
 }

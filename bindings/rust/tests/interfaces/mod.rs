@@ -8,7 +8,7 @@ use crate::independent::{self, Session as Other};
 use crate::inputs::Call;
 use std::ptr;
 use tuilarder::ffi::Record;
-use tuilarder::{Pattern, Refusal, Session};
+use tuilarder::{Owners, OwnersFault, Pattern, Refusal, Session};
 
 /// What takes calls, and answers each with a number. The random numbers are for what surrounds the lent lists.
 pub trait Interface {
@@ -22,6 +22,10 @@ pub trait Interface {
     /// The number, the words and their count.
     fn read_tag(&self, noise: &mut Random, string: &[u8], separator_length: usize) -> (u32, [u32; 64], usize);
     fn sha3_256(&self, noise: &mut Random, data: &[u8]) -> [u8; 32];
+    /// The number, and the place that comes with it.
+    fn check_owners(&self, noise: &mut Random, table: &[u8]) -> (u32, u32);
+    /// The number, and the value that comes with it.
+    fn owner(&self, noise: &mut Random, table: &[u8], separator: &[u8]) -> (u32, u32);
 }
 
 /// Does a session's call: its name, the number, and the buffer it left.
@@ -71,25 +75,34 @@ impl Interface for Functions {
     fn sha3_256(&self, noise: &mut Random, data: &[u8]) -> [u8; 32] {
         guarded::sha3_256(noise, data)
     }
+    fn check_owners(&self, noise: &mut Random, table: &[u8]) -> (u32, u32) {
+        guarded::check_owners(noise, table)
+    }
+    fn owner(&self, noise: &mut Random, table: &[u8], separator: &[u8]) -> (u32, u32) {
+        guarded::owner(noise, table, separator)
+    }
 }
 
 // The types
 
-/// The refusals in the order of document 01's numbers, from 1 on.
-const REFUSALS: [Refusal; 13] = [
-    Refusal::WordCountOutOfRange,
-    Refusal::WordLengthZero,
-    Refusal::FirstWordSqueeze,
-    Refusal::LastWordAbsorb,
-    Refusal::MergedLengthTooLong,
-    Refusal::SeparatorTooLong,
-    Refusal::RecordNotOpen,
-    Refusal::RecordNotSound,
-    Refusal::CallNotInPattern,
-    Refusal::ElementNotReduced,
-    Refusal::PatternNotDone,
-    Refusal::BufferTooShort,
-    Refusal::NotTagString,
+/// The refusals, each with the number that documents 01 and 02 have for it; 14 belongs to cards.
+const REFUSALS: [(u32, Refusal); 16] = [
+    (1, Refusal::WordCountOutOfRange),
+    (2, Refusal::WordLengthZero),
+    (3, Refusal::FirstWordSqueeze),
+    (4, Refusal::LastWordAbsorb),
+    (5, Refusal::MergedLengthTooLong),
+    (6, Refusal::SeparatorTooLong),
+    (7, Refusal::RecordNotOpen),
+    (8, Refusal::RecordNotSound),
+    (9, Refusal::CallNotInPattern),
+    (10, Refusal::ElementNotReduced),
+    (11, Refusal::PatternNotDone),
+    (12, Refusal::BufferTooShort),
+    (13, Refusal::NotTagString),
+    (15, Refusal::OwnersRowInvalid),
+    (16, Refusal::OwnersGap),
+    (17, Refusal::SeparatorTooShort),
 ];
 
 /// The number of an answer by its variant, which has to be the one that the crate gives it.
@@ -97,11 +110,21 @@ pub fn number_of<T>(answer: &Result<T, Refusal>) -> u32 {
     let Err(refusal) = answer else {
         return 0;
     };
-    let place = REFUSALS.iter().position(|other| other == refusal);
-    let number = place.expect("one of the 13") as u32 + 1;
+    let row = REFUSALS.iter().find(|(_, other)| other == refusal);
+    let number = row.expect("a refusal of the list").0;
     assert_eq!(refusal.number(), number, "the number of {refusal:?}");
     assert_eq!(Refusal::from_number(number), Some(*refusal));
     number
+}
+
+/// The number of a table's fault by its variant, and the place.
+pub fn number_and_place(fault: &OwnersFault) -> (u32, u32) {
+    let (number, place) = match fault {
+        OwnersFault::Row(row) => (15, *row),
+        OwnersFault::Gap(least) => (16, *least),
+    };
+    assert_eq!(number_of::<()>(&Err(fault.refusal())), number);
+    (number, place)
 }
 
 /// The record of a session, which has to be what is seen of it otherwise, and in its fork.
@@ -203,6 +226,27 @@ impl Interface for Types {
     fn sha3_256(&self, noise: &mut Random, data: &[u8]) -> [u8; 32] {
         tuilarder::sha3_256(Lent::new(data, noise).part())
     }
+
+    /// Accepted, it gives no place.
+    fn check_owners(&self, noise: &mut Random, table: &[u8]) -> (u32, u32) {
+        let table = Lent::new(table, noise);
+        let answer = Owners::new(table.part());
+        table.only_read();
+        answer.map_or_else(|fault| number_and_place(&fault), |_| (0, 0))
+    }
+
+    /// Numbers 15 and 16 are those of the table. With 17 it gives no value.
+    fn owner(&self, noise: &mut Random, table: &[u8], separator: &[u8]) -> (u32, u32) {
+        let (table, separator) = (Lent::new(table, noise), Lent::new(separator, noise));
+        let owners = match Owners::new(table.part()) {
+            Ok(owners) => owners,
+            Err(fault) => return number_and_place(&fault),
+        };
+        let answer = owners.owner(separator.part());
+        table.only_read();
+        separator.only_read();
+        (number_of(&answer), answer.map_or(0, u32::from))
+    }
 }
 
 // The independent implementation
@@ -246,5 +290,11 @@ impl Interface for Independent {
     }
     fn sha3_256(&self, _: &mut Random, data: &[u8]) -> [u8; 32] {
         independent::sha3_256(data)
+    }
+    fn check_owners(&self, _: &mut Random, table: &[u8]) -> (u32, u32) {
+        independent::check_owners(table)
+    }
+    fn owner(&self, _: &mut Random, table: &[u8], separator: &[u8]) -> (u32, u32) {
+        independent::owner(table, separator)
     }
 }

@@ -178,4 +178,23 @@ impl Run {
         assert_eq!(*state, expected, "the state");
         self.answered("permute", number);
     }
+
+    /// A table of owners checked by both. Gives the number and the place.
+    pub fn check_owners(&mut self, table: &[u8]) -> (u32, u32) {
+        self.last = Box::new(("check_owners", table.to_vec()));
+        let expected = Independent.check_owners(&mut self.noise, table);
+        let answer = self.library.check_owners(&mut self.noise, table);
+        assert_eq!(answer, expected, "the number and the place");
+        self.answered("check_owners", answer.0);
+        answer
+    }
+
+    /// A table of owners asked about a separator by both.
+    pub fn owner(&mut self, table: &[u8], separator: &[u8]) {
+        self.last = Box::new(("owner", table.to_vec(), separator.to_vec()));
+        let expected = Independent.owner(&mut self.noise, table, separator);
+        let answer = self.library.owner(&mut self.noise, table, separator);
+        assert_eq!(answer, expected, "the number and the value");
+        self.answered("owner", answer.0);
+    }
 }
