@@ -25,8 +25,8 @@ from collections import namedtuple
 
 from tree import ROOT, files, read
 
-SOURCES = [f"bindings/rust/src/{name}.rs" for name in ("lib", "refusal", "pattern", "session", "ffi")]
-LIB, REFUSAL, PATTERN, SESSION, FFI = SOURCES
+SOURCES = [f"bindings/rust/src/{name}.rs" for name in ("lib", "refusal", "owners", "pattern", "session", "ffi")]
+LIB, REFUSAL, OWNERS, PATTERN, SESSION, FFI = SOURCES
 HEADER = "bindings/c/tuilarder.h"
 WORK = os.path.join(ROOT, "target", "mutants")
 ARCHIVE = os.path.join(ROOT, "target", "staticlib", "libtuilarder.a")
@@ -104,6 +104,42 @@ CRATE = of(
     ("exhaustive", "        #[non_exhaustive]\n", "", "a later version's refusal breaks callers' matches"),
     ("no_error", "impl core::error::Error for Refusal {}\n", "", "a refusal is no `Error`"),
     ("row_message", "\"separator over 256 bytes\"", "\"separator over 255 bytes\"", "a wrong figure in a message"),
+    ("result_17_as_6", *before("    if number == 0 {", "    if number == 17 { return Err(Refusal::SeparatorTooLong); }"), "17 is given as 6"),
+    ("row_of_owners", "16 OwnersGap", "18 OwnersGap", "16 is no refusal, and 18 is"),
+) + of(
+    OWNERS,
+    ("owners_row_bytes", "ROW_BYTES: usize = 10", "ROW_BYTES: usize = 12", "rows of 12 bytes"),
+    ("owners_max_rows", "MAX_ROWS: usize = 128", "MAX_ROWS: usize = 129", "129 rows"),
+    ("owners_new_cut", "table.as_ptr(), table.len(), ", "table.as_ptr(), table.len() / 10 * 10, ", "a row that is cut short is passed over"),
+    ("owners_new_128_rows", "table.as_ptr(), table.len(), ", "table.as_ptr(), table.len().min(1280), ", "row 129 is passed over"),
+    ("owners_new_16_bits", "table.as_ptr(), table.len(), ", "table.as_ptr(), table.len() as u16 as usize, ", "the length is cut to 16 bits"),
+    ("owners_new_32_bits", "table.as_ptr(), table.len(), ", "table.as_ptr(), table.len() as u32 as usize, ", "the length is cut to 32 bits"),
+    ("owners_new_gap_accepted", "Err(Refusal::OwnersGap) => Err(OwnersFault::Gap(place))", "Err(Refusal::OwnersGap) => Ok(Owners { table })",
+     "a table with a gap is accepted"),
+    ("owners_new_gap_as_row", "Err(OwnersFault::Gap(place))", "Err(OwnersFault::Row(place))", "a gap is given as a bad row"),
+    ("owners_new_row_from_0", "Err(OwnersFault::Row(place))", "Err(OwnersFault::Row(place - 1))", "rows are counted from 0"),
+    ("owners_new_gap_31_bits", "Err(OwnersFault::Gap(place))", "Err(OwnersFault::Gap(place & 0x7fffffff))", "the gap's top bit is lost"),
+    ("owner_table_127", "                self.table.len(),\n", "                self.table.len().min(1270),\n", "127 rows at most"),
+    ("owner_separator_3", "                separator.len(),\n", "                separator.len() + 1,\n", "three bytes are enough"),
+    ("owner_separator_4", "                separator.len(),\n", "                separator.len().min(4),\n", "only four bytes are lent"),
+    ("owner_separator_8_bits", "                separator.len(),\n", "                separator.len() as u8 as usize,\n", "256 bytes are none"),
+    ("owner_separator_32_bits", "                separator.len(),\n", "                separator.len() as u32 as usize,\n", "the length is cut to 32 bits"),
+    ("owner_separator_256", *before("        let mut value = 0;", "        if separator.len() > 256 { return Err(Refusal::SeparatorTooLong); }"),
+     "a separator of 257 bytes is refused"),
+    ("owner_accepts", "result(number)?;", "let _ = result(number);", "a short separator is of line 0"),
+    ("owner_line_15_bits", "Ok(value as u16)", "Ok(value as u16 & 0x7fff)", "the line's top bit is lost"),
+    ("owner_value_start", "let mut value = 0;", "let mut value = 7;", "the value is another before the call"),
+    ("owners_equal_by_place", "#[derive(Clone, Copy, Debug, PartialEq, Eq, Hash)]\npub struct Owners<'a> {",
+     "impl PartialEq for Owners<'_> { fn eq(&self, o: &Owners) -> bool { core::ptr::eq(self.table, o.table) } }\nimpl Eq for Owners<'_> {}\n"
+     "#[derive(Clone, Copy, Debug, Hash)]\npub struct Owners<'a> {", "equal bytes in two places are unequal"),
+    ("owners_equal_by_length", "#[derive(Clone, Copy, Debug, PartialEq, Eq, Hash)]\npub struct Owners<'a> {",
+     "impl PartialEq for Owners<'_> { fn eq(&self, o: &Owners) -> bool { self.table.len() == o.table.len() } }\nimpl Eq for Owners<'_> {}\n"
+     "#[derive(Clone, Copy, Debug, Hash)]\npub struct Owners<'a> {", "tables of one length are equal"),
+    ("fault_gap_as_15", "OwnersFault::Gap(_) => Refusal::OwnersGap", "OwnersFault::Gap(_) => Refusal::OwnersRowInvalid", "a gap has number 15"),
+    ("fault_row_as_16", "OwnersFault::Row(_) => Refusal::OwnersRowInvalid", "OwnersFault::Row(_) => Refusal::OwnersGap", "a bad row has number 16"),
+    ("fault_display_place", 'write!(f, "{refusal}: {number}")', 'write!(f, "{refusal}: {}", number & 0xffff)', "the gap that is shown is cut to 16 bits"),
+    ("fault_display_row", 'write!(f, "{refusal}: row {row}")', 'write!(f, "row {row}")', "the message of 15 is not shown"),
+    ("fault_no_error", "impl core::error::Error for OwnersFault {}\n", "", "a table's fault is no `Error`"),
 ) + of(
     PATTERN,
     ("absorb_bit", "ABSORB_BIT: u32 = 1 << 31", "ABSORB_BIT: u32 = 1 << 30", "the bit of ABSORB is the next one"),
@@ -267,6 +303,12 @@ CRATE = of(
     ("ffi_read_tag_const", "count: *mut usize,", "count: *const usize,", "the count is lent as read only"),
     ("ffi_hash_answers", "out: *mut [u8; 32]);", "out: *mut [u8; 32]) -> u32;", "the hash has an answer"),
     ("ffi_hash_const", "out: *mut [u8; 32]);", "out: *const [u8; 32]);", "the digest is lent as read only"),
+    ("ffi_check_owners_const", "place: *mut u32) -> u32;", "place: *const u32) -> u32;", "the place is lent as read only"),
+    ("ffi_check_owners_name", "len: usize, place: *mut u32)", "len: usize, value: *mut u32)", "a parameter has another's name"),
+    ("ffi_check_owners_hash", *called_for("tuilarder_check_owners", "tuilarder_sha3_256"), "checking a table is the hash"),
+    ("ffi_owner_lengths", "table_len: usize,\n        separator: *const u8,\n        separator_len: usize,\n        value",
+     "separator_len: usize,\n        separator: *const u8,\n        table_len: usize,\n        value", "the lengths' names exchanged"),
+    ("ffi_owner_const", "value: *mut u32,\n", "value: *const u32,\n", "the value is lent as read only"),
 )
 
 C = of(
@@ -324,6 +366,16 @@ C = of(
     ("c_permute_answer", "TUILARDER_ANSWER tuilarder_permute", "int32_t tuilarder_permute", "its answer is signed"),
     ("c_hash_const", "tuilarder_sha3_256(const uint8_t *data", "tuilarder_sha3_256(uint8_t *data", "bytes that are only read are not const"),
     ("c_hash_length", "const uint8_t *data, size_t length", "const uint8_t *data, uint32_t length", "the length has 32 bits"),
+    ("c_owner_row_bytes", "TUILARDER_OWNER_ROW_BYTES 10", "TUILARDER_OWNER_ROW_BYTES 12", "rows of 12 bytes"),
+    ("c_max_owner_rows", "TUILARDER_MAX_OWNER_ROWS 128", "TUILARDER_MAX_OWNER_ROWS 129", "129 rows"),
+    ("c_owners_number", "TUILARDER_OWNERS_GAP = 16", "TUILARDER_OWNERS_GAP = 14", "16 is 14"),
+    ("c_check_owners_const", "tuilarder_check_owners(const uint8_t *table", "tuilarder_check_owners(uint8_t *table", "a table that is only read is not const"),
+    ("c_check_owners_place", "size_t length, uint32_t *place", "size_t length, size_t *place", "the place that is written has 64 bits"),
+    ("c_check_owners_answer", "TUILARDER_ANSWER tuilarder_check_owners", "uint32_t tuilarder_check_owners", "its answer need not be looked at"),
+    ("c_owner_lengths", "size_t table_length, const uint8_t *separator, size_t separator_length,\n                                 uint32_t *value",
+     "size_t separator_length, const uint8_t *separator, size_t table_length,\n                                 uint32_t *value", "the lengths' names exchanged"),
+    ("c_owner_value", "uint32_t *value", "uint16_t *value", "the value that is written has 16 bits"),
+    ("c_owner_answer", "TUILARDER_ANSWER tuilarder_owner(", "uint32_t tuilarder_owner(", "its answer need not be looked at"),
 )
 
 FAULTS = CRATE + C
@@ -334,6 +386,8 @@ NONE = {
     "result_of_others": "the library answers with no other number, as is proved",
     "start_merged": "a pattern and the merged one have the same tag string, so their sessions are the same",
     "write_tag_start": "the library writes it in every call",
+    "owner_separator_4": "a separator's number is its first four bytes",
+    "owner_value_start": "the library writes it in every call",
     "c_offset_unasserted": "the field is in its place; the assertion is for a compiler that puts it elsewhere",
 }
 
