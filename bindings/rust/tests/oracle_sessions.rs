@@ -9,12 +9,14 @@ mod independent;
 mod same_fields;
 mod inputs;
 mod interfaces;
+mod stored;
 
 use guarded::Random;
 use interfaces::{Functions, Independent, Interface, Types};
-use std::path::PathBuf;
+use stored::{bytes_of, Line};
 use tuilarder::ffi::Record;
 
+const PROGRAM: &str = "session_vectors";
 const LINES: usize = 7660;
 const CALLS: usize = 6936;
 const RECORDS: usize = 724;
@@ -60,20 +62,6 @@ struct Replay {
     noise: Random,
 }
 
-fn stored(name: &str) -> Vec<String> {
-    let root = PathBuf::from(env!("CARGO_MANIFEST_DIR")).join("../..");
-    let path = root.join("crates/session_vectors").join(name);
-    let text = std::fs::read_to_string(&path).unwrap_or_else(|error| panic!("{}: {error}", path.display()));
-    text.lines().map(String::from).collect()
-}
-
-fn bytes_of(digits: &str) -> Vec<u8> {
-    assert_eq!(digits.len() % 2, 0);
-    (0..digits.len() / 2)
-        .map(|k| u8::from_str_radix(&digits[2 * k..2 * k + 2], 16).unwrap())
-        .collect()
-}
-
 fn words_of(digits: &str) -> Vec<u32> {
     assert_eq!(digits.len() % 8, 0);
     (0..digits.len() / 8)
@@ -93,17 +81,6 @@ fn lists_in(fields: &[&str], before: &Lists) -> Lists {
         words
     };
     [list(0, 8), list(1, 24), list(2, 64)]
-}
-
-/// Says which line it was if any check fails while its call is replayed.
-struct Line<'a>(usize, &'a str);
-
-impl Drop for Line<'_> {
-    fn drop(&mut self) {
-        if std::thread::panicking() {
-            eprintln!("line {}: {}", self.0, self.1);
-        }
-    }
 }
 
 /// Does one line's call and compares all that it left with the line of output.
@@ -135,7 +112,7 @@ fn replay_line(replay: &mut Replay, input: &str, output: &str) {
 fn replay_all(by: &'static dyn Interface) {
     let (record, noise) = (record_of(&[vec![0; 8], vec![0; 24], vec![0; 64]]), Random::new(1));
     let mut replay = Replay { by, record, noise };
-    let (inputs, outputs) = (stored("stdin"), stored("stdout"));
+    let (inputs, outputs) = (stored::lines(PROGRAM, "stdin"), stored::lines(PROGRAM, "stdout"));
     let records = inputs.iter().filter(|line| line.starts_with("t ")).count();
     assert_eq!((inputs.len(), outputs.len(), records), (LINES, LINES, RECORDS));
     let mut calls = 0;
