@@ -265,6 +265,21 @@ def foreign_record(out):
         taken.finish()
 
 
+def owners(out):
+    rows = [bytes.fromhex(row) for row in ("000000006fffffff0001", "700000007fffffff0002", "80000000ffffffff0003")]
+    table = b"".join(rows)
+    for separator in (b"house/p", b"house/r", b"payment", b"\xff\xff\xff\xff/p1"):
+        number, line = oracle.owner(table, separator)
+        refuse(number)
+        out.append(f"{str(separator)[2:-1]} is of product line {line}")
+    out.append(f"pay is {Refused(oracle.owner(table, b'pay')[0])}")
+    shared = rows[0] + bytes.fromhex("6fffffff") + rows[1][4:] + rows[2]
+    for name, refused in (("a second row from 6fffffff", shared), ("the table without its last byte", table[:29]),
+                          ("the table without its last row", table[:20]), ("the empty table", b"")):
+        number, place = oracle.table_number(refused)
+        out.append(f"{name} is {Refused(number)}: {'row ' * (number == 15)}{place}")
+
+
 def two_rounds(out):
     out.append(f"tag string {bytes_of(oracle.tag_string(words('a4 s1 a2 s1'), b'two rounds'))}")
     first, second = whole([], "a4 s1 a2 s1", b"two rounds", [11, 22, 33, 44], [55, 66])
