@@ -40,7 +40,7 @@ CARGO = ["--offline", "--locked", "-q"]
 CRATE_STEPS = [(COMPILED, ["cargo", "build", *CARGO])] + [
     (test, ["cargo", "test", *CARGO, "--test", test, *only]) for test, *only in (
         ("types",), ("api",), ("layout",), ("wiped_memory",), ("differential", "types::"), ("long_lists", "types_"), ("oracle_sessions", "types_"),
-        ("published_values",))] + [
+        ("oracle_owners", "types_"), ("published_values",))] + [
     ("declarations", ["../c/tests/declarations.py"]), ("differential", ["cargo", "test", *CARGO, "--test", "differential", "functions::"]),
     ("doc tests", ["cargo", "test", *CARGO, "--doc"])]
 HEADER_STEPS = [(COMPILED, ["cc", "-std=c11", "-Wall", "-Wextra", "-Werror", "-pedantic", "-fsyntax-only", "-x", "c", "tuilarder.h"]),

@@ -253,7 +253,8 @@ fn types_read_no_string_of_more_than_32_bits() {
 fn types_refuse_a_table_of_more_than_32_bits() {
     let mut table = Zeros::<u8>::of((1 << 32) + 10);
     table[..10].copy_from_slice(&WHOLE);
-    assert_eq!(Owners::new(&table), Err(OwnersFault::Row(2)));
+    // a failure would print the table
+    assert_eq!(Owners::new(&table).map(drop), Err(OwnersFault::Row(2)));
 }
 
 #[test]

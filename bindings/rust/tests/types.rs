@@ -656,6 +656,6 @@ fn tables_of_owners_far_too_long() {
         let mut table = vec![0; length];
         table[4..10].copy_from_slice(&[255, 255, 255, 255, 0, 7]);
         assert!(Owners::new(&table[..10]).is_ok());
-        assert_eq!(Owners::new(&table), Err(OwnersFault::Row(2)), "{length}");
+        assert_eq!(Owners::new(&table).map(drop), Err(OwnersFault::Row(2)), "{length}");
     }
 }
