@@ -1,5 +1,6 @@
 //! The independent implementation, held to what is published: the samples B1 to B10 and the table of refused calls in document
-//! 01, and examples of SHA3-256 from NIST. What the library is compared with must itself be right.
+//! 01, document 02's sentences about tables of owners, and examples of SHA3-256 from NIST. What the library is compared with must itself
+//! be right.
 
 mod guarded;
 mod independent;
@@ -184,4 +185,20 @@ fn formula_gives_what_the_steps_give() {
         }
         assert_eq!(finish(&mut record), 0);
     }
+}
+
+/// "The empty table is a gap." 15: "a row whose first is above its last or not above the previous row's last, a row 129 or a row cut short". "17,
+/// after both: the separator asked about is under four bytes; one over 256 isn't refused here."
+#[test]
+fn sentences_about_tables_of_owners() {
+    const WHOLE: [u8; 10] = [0, 0, 0, 0, 255, 255, 255, 255, 1, 2];
+    assert_eq!((check_owners(&[]), owner(&[], b"abc")), ((16, 0), (16, 0)));
+    assert_eq!(check_owners(&[0, 0, 0, 1, 0, 0, 0, 0, 1, 2]), (15, 1));
+    assert_eq!(check_owners(&[WHOLE, WHOLE].concat()), (15, 2));
+    assert_eq!(check_owners(&WHOLE[..9]), (15, 1));
+    let rows: Vec<u8> = (0..129).flat_map(|k| [0, 0, 0, k, 0, 0, 0, k, 1, 2]).collect();
+    assert_eq!(check_owners(&rows), (15, 129));
+    assert_eq!(check_owners(&rows[..1280]), (16, 128));
+    assert_eq!((check_owners(&WHOLE), owner(&WHOLE, b"abc")), ((0, 0), (17, 0)));
+    assert_eq!((owner(&WHOLE, b"abcd"), owner(&WHOLE, &[7; 300])), ((0, 258), (0, 258)));
 }
