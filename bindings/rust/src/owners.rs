@@ -36,6 +36,15 @@ use crate::refusal::{result, Refusal};
 /// assert_eq!(Owners::new(rows.as_flattened()), Err(OwnersFault::Row(2)));
 /// # Ok::<(), OwnersFault>(())
 /// ```
+///
+/// While a table is in use, nobody can write its bytes:
+///
+/// ```compile_fail,E0506
+/// let mut table = [0, 0, 0, 0, 255, 255, 255, 255, 0, 1];
+/// let owners = tuilarder::Owners::new(&table).unwrap();
+/// table[9] = 2;
+/// owners.owner(b"payment");
+/// ```
 #[derive(Clone, Copy, Debug, PartialEq, Eq, Hash)]
 pub struct Owners<'a> {
     table: &'a [u8],

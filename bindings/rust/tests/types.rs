@@ -29,7 +29,7 @@ type Declared = tuilarder::Call;
 
 /// The figures of documents 01 and 02; the longest tag string is 64 words of four bytes and 256 bytes.
 #[test]
-fn figures_are_the_documents() {
+fn figures_are_those_of_the_documents() {
     assert_eq!((RATE, CAPACITY, WIDTH, PRIME), (8, 16, 24, 2013265921));
     assert_eq!(
         (Pattern::MAX_WORDS, Pattern::MAX_SEPARATOR, Pattern::MAX_TAG_STRING),
