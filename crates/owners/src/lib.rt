@@ -134,10 +134,10 @@ fn least_free(table: &[u8]) -> u64
 fn row_holds(row: OwnerRow, number: u32) -> bool
     ensures { λ r. ⌜ r ≡ holds number row ⌝ }
 {
-    if number < row.first {
-        return false;
+    if row.first <= number {
+        return number <= row.last;
     }
-    number <= row.last
+    false
 }
 
 // The line of the first row that holds a number, or 0.
