@@ -2,7 +2,7 @@
 -- with number 0. Rows are counted from 1: `row t k` is row k, and `rowCount t` the last one's number, a row cut short included.
 use mathlib.Core.Path.{_≡_, refl, ap, _∙_}
 use mathlib.Core.Bool.{true, false}
-use mathlib.Core.List.{List, [], _∷_}
+use mathlib.Core.List.{List, [], _∷_, map}
 use mathlib.Core.Logic.{_≢_, _↔_}
 use Prim.Native.Nat.{ℕ, zero, suc, _+_, _*_, _≤_, _<_}
 use native.Mathlib.Nat.{le-trans, not-suc-le-zero}
@@ -13,7 +13,7 @@ use Rattle.basics.specs.Lists.{Below}
 use Rattle.basics.specs.Digits.{number, numberAfter}
 use Rattle.basics.specs.Numbers.{accepted, ownersRowInvalid, ownersGap, separatorTooShort}
 use Rattle.owners.specs.Owners.{Table, rowOf, rowsOf, tableOf, rowCount, row, atFault, leastFrom, firstFault, holds, isFree, checked, separatorNumber, asked}
-use Rattle.owners.specs.Bytes.{tableBytes, rowFits}
+use Rattle.owners.specs.Bytes.{tableBytes}
 use Rattle.owners.specs.declared.OwnerRow.{OwnerRow}
 use Rattle.owners.specs.declared.Checked.{Checked}
 use Rattle.owners.specs.declared.Asked.{Asked}
@@ -76,7 +76,8 @@ pub rows-looked-at : (t : Table) → (firstFault t ≤ 129) × (checked t .numbe
 rows-looked-at t = (first-fault-bound t, at-most-128 t)
 
 -- "ten a row: first and last number of 32 bits, product line of 16, highest byte first": rows that are written so are read as they were.
-pub written-rows-are-read : (rs : List OwnerRow) → all rowFits rs ≡ true → tableOf (tableBytes rs) ≡ record { rows = rs; cutShort = false }
+pub written-rows-are-read : (rs : List OwnerRow) → Below 4294967296 (map (λ r. r .first) rs) → Below 4294967296 (map (λ r. r .last) rs)
+    → Below 65536 (map (λ r. r .line) rs) → tableOf (tableBytes rs) ≡ record { rows = rs; cutShort = false }
 written-rows-are-read = table-read
 
 -- "The empty table is a gap."
@@ -97,7 +98,7 @@ evenRows i zero = []
 evenRows i (suc n) = record { first = i * 33554432; last = i * 33554432 + 33554431; line = i } ∷ evenRows (suc i) n
 
 pub table-of-128-rows : checked (tableOf (tableBytes (evenRows 0 128))) ≡ record { number = accepted; place = 0 }
-unfolding evenRows rowFits all rowCount row atFault leastFrom firstFault gap if_then_else_ _and_ _or_
+unfolding evenRows all rowCount row atFault leastFrom firstFault gap if_then_else_ _and_ _or_
 table-of-128-rows =
-    ap checked (table-read (evenRows 0 128) refl)
+    ap checked (table-read (evenRows 0 128) refl refl refl)
     ∙ accepted-by-pass (record { rows = evenRows 0 128; cutShort = false }) (lit≤ tt) refl

@@ -2,19 +2,19 @@
 -- Assumes nothing.
 use mathlib.Core.Path.{_≡_, refl, sym, ap, ap₂, _∙_}
 use mathlib.Core.Bool.{Bool, true, false, not}
-use mathlib.Core.List.{List, [], _∷_, _++_, append-assoc}
+use mathlib.Core.List.{List, [], _∷_, _++_, map, append-assoc}
 use Prim.Native.Nat.{ℕ, zero, suc, _+_, _*_, _/_, _%_, _^_, _≤_, _<_}
 use native.Mathlib.Omega.{arith}
-use borrow.Author.Tests.{ltb-true, eq-eqb}
+use borrow.Author.Tests.{eq-eqb}
 use lib.Dec.{eqb, lit≤}
 use lib.ListN.{length, take, drop, length-append}
 use lib.Seq.{take-at, drop-at, drop-drop}
-use Rattle.basics.specs.Logic.{all, _and_}
+use Rattle.basics.specs.Lists.{Below}
 use Rattle.basics.specs.Digits.{digits, number}
-use Rattle.basics.proofs.Cases.{and-left, and-right}
+use Rattle.basics.proofs.Below.{below-head, below-tail}
 use Rattle.basics.proofs.Positional.{length-digits, number-digits}
 use Rattle.owners.specs.Owners.{rowOf, rowsOf, tableOf}
-use Rattle.owners.specs.Bytes.{rowBytes, tableBytes, rowFits}
+use Rattle.owners.specs.Bytes.{rowBytes, tableBytes}
 use Rattle.owners.specs.declared.OwnerRow.{OwnerRow}
 
 -- a number's digits before other bytes, read and passed over
@@ -37,12 +37,9 @@ length-table (r ∷ rs) =
     let more = length-table rs in
     length-append (rowBytes r) (tableBytes rs) ∙ omega arith
 
-row-read : (r : OwnerRow) (rest : List ℕ) → rowFits r ≡ true → rowOf (rowBytes r ++ rest) ≡ r
-unfolding rowOf rowBytes rowFits
-row-read r rest e =
-    let first-fits = ltb-true (r .first) (2 ^ 32) (and-left _ _ e) in
-    let last-fits = ltb-true (r .last) (2 ^ 32) (and-left _ _ (and-right _ _ e)) in
-    let line-fits = ltb-true (r .line) (2 ^ 16) (and-right _ _ (and-right _ _ e)) in
+row-read : (r : OwnerRow) (rest : List ℕ) → r .first < 4294967296 → r .last < 4294967296 → r .line < 65536 → rowOf (rowBytes r ++ rest) ≡ r
+unfolding rowOf rowBytes
+row-read r rest first-fits last-fits line-fits =
     let behind-last = digits 256 2 (r .line) ++ rest in
     let behind-first = digits 256 4 (r .last) ++ behind-last in
     let bytes = digits 256 4 (r .first) ++ behind-first in
@@ -53,21 +50,34 @@ row-read r rest e =
     ap rowOf apart
     ∙ rw (to-last, to-line, digits-read 4 (r .first) behind-first first-fits, digits-read 4 (r .last) behind-last last-fits, digits-read 2 (r .line) rest line-fits)
 
-rows-read : (rs : List OwnerRow) → all rowFits rs ≡ true → rowsOf (length rs) (tableBytes rs) ≡ rs
-unfolding rowsOf tableBytes all
-rows-read [] e = refl
-rows-read (r ∷ rs) e =
-    ap₂ (λ (x : OwnerRow) (l : List OwnerRow). x ∷ l)
-    (row-read r (tableBytes rs) (and-left _ _ e))
-    (ap (rowsOf (length rs)) (drop-at (rowBytes r) (tableBytes rs) 10 (length-row r)) ∙ rows-read rs (and-right _ _ e))
+-- the parts of rows
+abbrev pub firsts : List OwnerRow → List ℕ
+firsts rs = map (λ r. r .first) rs
+
+abbrev pub lasts : List OwnerRow → List ℕ
+lasts rs = map (λ r. r .last) rs
+
+abbrev pub linesOf : List OwnerRow → List ℕ
+linesOf rs = map (λ r. r .line) rs
+
+rows-read : (rs : List OwnerRow) → Below 4294967296 (firsts rs) → Below 4294967296 (lasts rs) → Below 65536 (linesOf rs)
+    → rowsOf (length rs) (tableBytes rs) ≡ rs
+unfolding rowsOf tableBytes
+rows-read [] f l p = refl
+rows-read (r ∷ rs) f l p =
+    ap₂ (λ (x : OwnerRow) (xs : List OwnerRow). x ∷ xs)
+    (row-read r (tableBytes rs) (below-head _ _ _ f) (below-head _ _ _ l) (below-head _ _ _ p))
+    (ap (rowsOf (length rs)) (drop-at (rowBytes r) (tableBytes rs) 10 (length-row r))
+    ∙ rows-read rs (below-tail _ _ _ f) (below-tail _ _ _ l) (below-tail _ _ _ p))
 
 -- a table of whole rows is read as these rows
-pub table-read : (rs : List OwnerRow) → all rowFits rs ≡ true → tableOf (tableBytes rs) ≡ record { rows = rs; cutShort = false }
+pub table-read : (rs : List OwnerRow) → Below 4294967296 (firsts rs) → Below 4294967296 (lasts rs) → Below 65536 (linesOf rs)
+    → tableOf (tableBytes rs) ≡ record { rows = rs; cutShort = false }
 unfolding tableOf
-table-read rs e =
+table-read rs f l p =
     let long = length-table rs in
     let count : length (tableBytes rs) / 10 ≡ length rs = omega arith in
     let whole : length (tableBytes rs) % 10 ≡ 0 = omega arith in
-    ap₂ (λ (l : List OwnerRow) (b : Bool). record { rows = l; cutShort = b })
-    (ap (λ (n : ℕ). rowsOf n (tableBytes rs)) count ∙ rows-read rs e)
+    ap₂ (λ (xs : List OwnerRow) (b : Bool). record { rows = xs; cutShort = b })
+    (ap (λ (n : ℕ). rowsOf n (tableBytes rs)) count ∙ rows-read rs f l p)
     (ap not (eq-eqb _ 0 whole))

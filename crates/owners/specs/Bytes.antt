@@ -1,9 +1,6 @@
 -- What a buyer writes: rows as bytes. No function of the library writes a table, so no contract cites this.
-use mathlib.Core.Bool.{Bool}
 use mathlib.Core.List.{List, [], _∷_, _++_}
-use Prim.Native.Nat.{ℕ, _^_}
-use Rattle.basics.specs.Logic.{_and_}
-use Rattle.basics.specs.Lists.{isBelow}
+use Prim.Native.Nat.{ℕ}
 use Rattle.basics.specs.Digits.{digits}
 use Rattle.owners.specs.declared.OwnerRow.{OwnerRow}
 
@@ -15,7 +12,3 @@ rowBytes r = digits 256 4 (r .first) ++ digits 256 4 (r .last) ++ digits 256 2 (
 unfoldable pub tableBytes : List OwnerRow → List ℕ
 tableBytes [] = []
 tableBytes (r ∷ rs) = rowBytes r ++ tableBytes rs
-
--- numbers that fit their bytes
-unfoldable pub rowFits : OwnerRow → Bool
-rowFits r = isBelow (2 ^ 32) (r .first) and isBelow (2 ^ 32) (r .last) and isBelow (2 ^ 16) (r .line)
