@@ -13,7 +13,7 @@ must-fail edit, and how many lines there are to read; into README.md the closing
 that row not what the papers and the definition say, where docs/ARCHITECTURE.md lacks a crate or has it below one that it depends on, and where a
 name that a document cites is not in the tree. tests/public.py says what is public, and fails on source that it does not read; tests/figures.py is
 about the constants. `selftest` puts such mistakes into the tree, in memory, and fails where `test` would not notice one. `papers` prints the
-sentences of documents 00 and 01, in FOLDER, that docs/CLAIMS.md does not quote.
+sentences of documents 00 and 01, in FOLDER, and of the requests of 02 that the library has, that docs/CLAIMS.md does not quote.
 """
 import difflib
 import os
@@ -24,6 +24,7 @@ from collections import namedtuple
 import figures
 from figures import CLAIMS, letters
 from public import Unreadable, items
+from second_implementation import LANDED
 from tree import crates, depends, files, not_listed, read, report, trials, write
 
 README, ARCHITECTURE = "README.md", "docs/ARCHITECTURE.md"
@@ -274,11 +275,16 @@ def sentences(text):
             yield from filter(letters, re.split(r"(?<=[.;])\s+", line.strip("-| ")))
 
 
+def landed(text):
+    """Document 02 up to the last request that the library has."""
+    return text.split(f"**P{LANDED + 1}.")[0]
+
+
 def papers(folder):
     quoted = letters(read(CLAIMS))
-    for name in ("00-demands.md", "01-scope.md"):
+    for name, part in (("00-demands.md", str), ("01-scope.md", str), ("02-change-requests.md", landed)):
         with open(os.path.join(folder, name)) as file:
-            for sentence in sentences(file.read()):
+            for sentence in sentences(part(file.read())):
                 if letters(sentence) not in quoted:
                     print(f"{name}: {sentence}")
 

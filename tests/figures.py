@@ -14,7 +14,7 @@ from tree import crates, files, read
 
 CLAIMS, CONSTANTS = "docs/CLAIMS.md", "## Public constants"
 # figures that the papers spell
-SPELLED = {"eight": 8, "sixteen": 16, "thirty": 30}
+SPELLED = {"eight": 8, "ten": 10, "sixteen": 16, "thirty": 30}
 # of a public constant: its name, its figure, what fixes that, and the definition of the same figure, if there is one
 Constant = namedtuple("Constant", "name figure source definition")
 
@@ -62,7 +62,7 @@ def figures_in(quotation):
 
 def not_fixed(row, figures):
     """What is wrong with the source of a row: a quotation, or a sum of figures."""
-    quotation, parts = re.fullmatch(r'0[01]: "(.+)"', row.source), re.match(r"made of ([^;]+)", row.source)
+    quotation, parts = re.fullmatch(r'0[012]: "(.+)"', row.source), re.match(r"made of ([^;]+)", row.source)
     if quotation and row.figure not in figures_in(quotation[1]):
         yield f"{row.name}: {row.figure} is not in the quotation {quotation[0]}"
     if quotation and f" {letters(quotation[1])} " not in letters(read(CLAIMS).split(CONSTANTS)[0]):

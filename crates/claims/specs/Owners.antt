@@ -16,7 +16,6 @@ use Rattle.owners.specs.Owners.{Table, rowOf, rowsOf, tableOf, rowCount, row, a
 use Rattle.owners.specs.Bytes.{tableBytes}
 use Rattle.owners.specs.declared.OwnerRow.{OwnerRow}
 use Rattle.owners.specs.declared.Checked.{Checked}
-use Rattle.owners.specs.declared.Asked.{Asked}
 use Rattle.owners.proofs.Gap.{gap}
 use Rattle.owners.proofs.Answers.{first-fault-bound, asked-refused, asked-short}
 use Rattle.owners.proofs.Tables.{fault-answer, gap-answer, accepted-answer, accepted-by-pass, free-numbers, covers, one-row, line-found, separator-number-fits, at-most-128}

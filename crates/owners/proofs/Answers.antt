@@ -4,10 +4,10 @@ use mathlib.Core.Path.{_≡_, refl, sym, ap, _∙_}
 use mathlib.Core.Bool.{true, false, true≢false}
 use mathlib.Core.List.{List}
 use mathlib.Core.Logic.{_≢_}
-use Prim.Native.Nat.{ℕ, suc, _+_, _≤_, _<_}
+use Prim.Native.Nat.{ℕ, _≤_, _<_}
 use native.Mathlib.Omega.{arith}
 use borrow.Author.Tests.{ltb-true, ltb-false, lt-ltb, le-ltb, le-leb, lt-leb, ne-eqb}
-use lib.Dec.{leb, ltb}
+use lib.Dec.{ltb}
 use lib.ListN.{length}
 use Rattle.basics.specs.Logic.{if_then_else_, _and_, all}
 use Rattle.basics.specs.Numbers.{accepted, ownersRowInvalid, ownersGap, separatorTooShort}
@@ -15,8 +15,6 @@ use Rattle.basics.specs.Refusals.{firstNumber}
 use Rattle.basics.proofs.Cases.{cases, if-true, if-false}
 use Rattle.basics.proofs.FirstRow.{refusing, refused-before, behind, accepted-none}
 use Rattle.owners.specs.Owners.{Table, rowCount, atFault, firstFault, leastFree, numberCount, tableRows, placeOf, checked, separatorNumber, ownerRows, lineOf, asked}
-use Rattle.owners.specs.declared.Checked.{Checked}
-use Rattle.owners.specs.declared.Asked.{Asked}
 use Rattle.owners.proofs.Least.{least}
 use Rattle.owners.proofs.Faults.{over-128}
 

@@ -1,7 +1,7 @@
 -- The least number that no row holds, found in one pass over rising rows.
 -- Assumes nothing.
-use mathlib.Core.Path.{_≡_, refl, sym, ap, _∙_}
-use mathlib.Core.Bool.{Bool, true, false, not}
+use mathlib.Core.Path.{_≡_, refl, ap, _∙_}
+use mathlib.Core.Bool.{true, false, not}
 use mathlib.Core.List.{List, [], _∷_}
 use Prim.Native.Nat.{ℕ, zero, suc, _+_, _-_, _≤_, _<_, zero-le}
 use native.Mathlib.Numerals.{add-one}
@@ -12,11 +12,11 @@ use lib.ListN.{length, getD, drop, drop-of-length-le}
 use lib.Seq.{drop-cons}
 use Rattle.basics.specs.Logic.{if_then_else_, _and_, _or_, any}
 use Rattle.basics.proofs.Cases.{by, cases, if-true, if-false, and-both, and-step, and-stop, or-left, or-right, or-neither}
-use Rattle.owners.specs.Owners.{Table, row, rowCount, atFault, firstFault, leastFrom, holds, isFree, numberCount, leastFree}
+use Rattle.owners.specs.Owners.{Table, row, rowCount, atFault, firstFault, holds, isFree, numberCount, leastFree}
 use Rattle.owners.specs.declared.OwnerRow.{OwnerRow}
 use Rattle.owners.proofs.Rows.{noRow, row-suc, rows-within}
-use Rattle.owners.proofs.Faults.{Good, is-good}
-use Rattle.owners.proofs.Least.{Least, least, least-is}
+use Rattle.owners.proofs.Faults.{is-good}
+use Rattle.owners.proofs.Least.{least, least-is}
 
 -- rows in order, each above the one before it, the first of them from a number on
 pub data Rising : ℕ → List OwnerRow → Type 0 where

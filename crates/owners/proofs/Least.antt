@@ -9,7 +9,6 @@ use native.Mathlib.Numerals.{add-one}
 use native.Mathlib.Omega.{arith}
 use borrow.Author.Tests.{ltb-true, ltb-false}
 use lib.Dec.{ltb}
-use Rattle.basics.specs.Logic.{if_then_else_}
 use Rattle.basics.proofs.Cases.{by, cases}
 use Rattle.owners.specs.Owners.{leastFrom}
 

@@ -2,15 +2,14 @@
 -- Assumes nothing.
 use mathlib.Core.Path.{_≡_, refl, sym, ap, _∙_}
 use mathlib.Core.Bool.{true, false, true≢false}
-use mathlib.Core.List.{List, [], _∷_}
+use mathlib.Core.List.{List}
 use Prim.Native.Nat.{ℕ, zero, suc, _+_, _≤_, _<_, suc-le-suc}
 use native.Mathlib.Nat.{le-of-suc-le-suc, not-suc-le-zero}
 use native.Mathlib.Numerals.{add-one}
-use native.Mathlib.Omega.{arith}
 use borrow.Author.Tests.{leb-true}
 use lib.ListN.{length, getD, drop, drop-of-length-le}
 use lib.Seq.{drop-cons}
-use Rattle.basics.specs.Logic.{if_then_else_, _and_, any}
+use Rattle.basics.specs.Logic.{_and_}
 use Rattle.basics.proofs.Cases.{cases, if-true, if-false, and-right, any-at}
 use Rattle.owners.specs.Owners.{holds, lineOf}
 use Rattle.owners.specs.declared.OwnerRow.{OwnerRow}

@@ -1,26 +1,24 @@
 -- Tables that are accepted and refused, by their rows and the numbers that these hold.
 -- Assumes nothing.
-use mathlib.Core.Path.{_≡_, refl, sym, ap, _∙_, subst}
+use mathlib.Core.Path.{_≡_, sym, ap, _∙_, subst}
 use mathlib.Core.Bool.{true, false, not, true≢false}
 use mathlib.Core.List.{List, [], _∷_}
 use mathlib.Core.Logic.{_↔_, _≢_}
-use Prim.Native.Nat.{ℕ, zero, suc, _+_, _-_, _≤_, _<_, zero-le}
+use Prim.Native.Nat.{ℕ, suc, _+_, _-_, _≤_, _<_, zero-le}
 use native.Mathlib.Nat.{le-refl, le-antisymm}
 use native.Mathlib.Omega.{arith}
 use borrow.Author.Tests.{ltb-true, ltb-false, leb-true, leb-false, not-false}
 use lib.Dec.{leb, ltb, lit≤}
-use lib.ListN.{length, getD}
-use Rattle.basics.specs.Logic.{if_then_else_, any}
+use lib.ListN.{length}
 use Rattle.basics.specs.Lists.{Below}
 use Rattle.basics.specs.Numbers.{accepted, ownersRowInvalid, ownersGap}
 use Rattle.basics.proofs.Cases.{cases, any-at, any-some}
 use Rattle.basics.proofs.Below.{below-at}
 use Rattle.basics.proofs.Parts.{four-bytes-below}
-use Rattle.owners.specs.Owners.{Table, row, rowCount, atFault, firstFault, holds, isFree, numberCount, leastFree, checked, lineOf, separatorNumber, asked}
+use Rattle.owners.specs.Owners.{Table, row, rowCount, atFault, firstFault, holds, isFree, numberCount, leastFree, checked, separatorNumber, asked}
 use Rattle.owners.specs.declared.Checked.{Checked}
-use Rattle.owners.specs.declared.Asked.{Asked}
 use Rattle.owners.proofs.Rows.{noRow, row-suc, rows-within}
-use Rattle.owners.proofs.Least.{Least, least, least-is}
+use Rattle.owners.proofs.Least.{least, least-is}
 use Rattle.owners.proofs.Faults.{Good, is-good}
 use Rattle.owners.proofs.Gap.{gap, Rising, rows-rise, none-at-fault, least-free-is-gap}
 use Rattle.owners.proofs.Lookup.{one-holds, line-of-row}

@@ -2,10 +2,10 @@
 -- Assumes nothing.
 use mathlib.Core.Path.{_≡_, sym, ap, _∙_}
 use mathlib.Core.List.{List}
-use Prim.Native.Nat.{ℕ, _-_, _*_, _/_, _≤_, _<_}
+use Prim.Native.Nat.{ℕ, _-_, _*_, _≤_}
 use native.Mathlib.Omega.{arith}
 use lib.ListN.{length, drop}
-use Rattle.owners.specs.Owners.{Table, tableOf, rowOf, row}
+use Rattle.owners.specs.Owners.{tableOf, rowOf, row}
 use Rattle.owners.proofs.Rows.{row-at, whole-rows}
 use Rattle.owners.proofs.Faults.{over-128, is-cut-short, first-above-last, by-previous, good}
 use borrow.Author.Needs.{needs}

@@ -1,7 +1,7 @@
 -- `owners::check` meets its contract.
 -- Assumes nothing.
-use mathlib.Core.Path.{_≡_, sym, ap, _∙_}
-use Prim.Native.Nat.{_≤_, _<_}
+use mathlib.Core.Path.{sym}
+use Prim.Native.Nat.{_<_}
 use native.Mathlib.Omega.{arith}
 use Rattle.owners.specs.Owners.{tableOf, rowCount, firstFault}
 use Rattle.owners.proofs.Answers.{first-fault-bound, checked-fault, checked-gap, checked-accepted}

@@ -1,11 +1,11 @@
 -- `owners::first_fault` meets its contract.
 -- Assumes nothing.
-use mathlib.Core.Path.{_≡_, sym, ap, _∙_}
-use mathlib.Core.Bool.{Bool, true, false}
+use mathlib.Core.Path.{sym, _∙_}
+use mathlib.Core.Bool.{Bool}
 use mathlib.Core.List.{List}
-use Prim.Native.Nat.{ℕ, suc, _+_, _-_, _≤_, _<_}
+use Prim.Native.Nat.{ℕ, suc, _-_, _≤_}
 use native.Mathlib.Omega.{arith}
-use Rattle.owners.specs.Owners.{tableOf, rowCount, atFault, firstFault}
+use Rattle.owners.specs.Owners.{tableOf, atFault, firstFault}
 use Rattle.owners.proofs.Faults.{is-good}
 use Rattle.owners.proofs.Least.{NoneBefore, none-next, least-is}
 use borrow.Author.Needs.{needs}
