@@ -14,12 +14,12 @@ use Rattle.basics.specs.Numbers.{accepted, ownersRowInvalid, ownersGap, separat
 use Rattle.basics.specs.Refusals.{firstNumber}
 use Rattle.basics.proofs.Cases.{cases, if-true, if-false}
 use Rattle.basics.proofs.FirstRow.{refusing, refused-before, behind, accepted-none}
-use Rattle.owners.specs.Owners.{Table, rowCount, atFault, firstFault, leastFree, numberCount, tableRows, placeOf, checked, separatorNumber, ownerRows, lineOf, asked}
+use Rattle.owners.specs.Owners.{Table, rowCount, atFault, firstFault, leastFree, numberCount, checkRows, placeOf, checked, separatorNumber, askRows, lineOf, asked}
 use Rattle.owners.proofs.Least.{least}
 use Rattle.owners.proofs.Faults.{over-128}
 
 module _ (t : Table) where
-  pub checked-number : checked t .number ≡ firstNumber (tableRows t)
+  pub checked-number : checked t .number ≡ firstNumber (checkRows t)
   unfolding checked
   checked-number = refl
 
@@ -35,8 +35,8 @@ module _ (t : Table) where
 
   -- a row at fault
   module _ (h : firstFault t ≤ rowCount t) where
-    number-fault : firstNumber (tableRows t) ≡ ownersRowInvalid
-    unfolding firstNumber tableRows
+    number-fault : firstNumber (checkRows t) ≡ ownersRowInvalid
+    unfolding firstNumber checkRows
     number-fault = if-true _ _ _ (le-leb _ _ h)
 
     pub checked-fault : checked t ≡ record { number = ownersRowInvalid; place = firstFault t }
@@ -45,8 +45,8 @@ module _ (t : Table) where
 
   -- no row at fault, and a gap
   module _ (h : rowCount t < firstFault t) (l : leastFree t < numberCount) where
-    number-gap : firstNumber (tableRows t) ≡ ownersGap
-    unfolding firstNumber tableRows
+    number-gap : firstNumber (checkRows t) ≡ ownersGap
+    unfolding firstNumber checkRows
     number-gap = if-false _ _ _ (lt-leb _ _ h) ∙ if-true _ _ _ (lt-ltb _ _ l)
 
     pub checked-gap : checked t ≡ record { number = ownersGap; place = leastFree t }
@@ -55,37 +55,37 @@ module _ (t : Table) where
 
   -- neither
   module _ (h : rowCount t < firstFault t) (l : numberCount ≤ leastFree t) where
-    number-accepted : firstNumber (tableRows t) ≡ accepted
-    unfolding firstNumber tableRows
+    number-accepted : firstNumber (checkRows t) ≡ accepted
+    unfolding firstNumber checkRows
     number-accepted = if-false _ _ _ (lt-leb _ _ h) ∙ if-false _ _ _ (le-ltb _ _ l)
 
     pub checked-accepted : checked t ≡ record { number = accepted; place = 0 }
     unfolding checked placeOf if_then_else_
     checked-accepted = rw number-accepted
 
-every-row-refuses : (t : Table) → all refusing (tableRows t) ≡ true
-unfolding tableRows all _and_
+every-row-refuses : (t : Table) → all refusing (checkRows t) ≡ true
+unfolding checkRows all _and_
 every-row-refuses t = refl
 
 -- a table that is asked for a separator
 module _ (t : Table) (separator : List ℕ) where
   -- refused by the table's check, whatever the separator
   module _ (n : checked t .number ≢ accepted) where
-    number-refused : firstNumber (ownerRows t separator) ≡ firstNumber (tableRows t)
-    unfolding ownerRows checked
-    number-refused = refused-before (tableRows t) _ n
+    number-refused : firstNumber (askRows t separator) ≡ firstNumber (checkRows t)
+    unfolding askRows checked
+    number-refused = refused-before (checkRows t) _ n
 
     pub asked-refused : asked t separator ≡ record { number = checked t .number; place = checked t .place; line = 0 }
     unfolding asked checked
     asked-refused =
         rw number-refused
-        (ap (λ (l : ℕ). record { number = firstNumber (tableRows t); place = placeOf (firstNumber (tableRows t)) t; line = l })
+        (ap (λ (l : ℕ). record { number = firstNumber (checkRows t); place = placeOf (firstNumber (checkRows t)) t; line = l })
         (if-false _ _ _ (ne-eqb _ _ n)))
 
   module _ (e : checked t .number ≡ accepted) where
-    behind-table : firstNumber (ownerRows t separator) ≡ (if ltb (length separator) 4 then separatorTooShort else accepted)
-    unfolding ownerRows firstNumber checked
-    behind-table = behind (tableRows t) _ (accepted-none (tableRows t) (every-row-refuses t) e)
+    behind-table : firstNumber (askRows t separator) ≡ (if ltb (length separator) 4 then separatorTooShort else accepted)
+    unfolding askRows firstNumber checked
+    behind-table = behind (checkRows t) _ (accepted-none (checkRows t) (every-row-refuses t) e)
 
     pub asked-short : length separator < 4 → asked t separator ≡ record { number = separatorTooShort; place = 0; line = 0 }
     unfolding asked placeOf if_then_else_

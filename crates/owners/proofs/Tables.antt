@@ -4,6 +4,7 @@ use mathlib.Core.Path.{_≡_, sym, ap, _∙_, subst}
 use mathlib.Core.Bool.{true, false, not, true≢false}
 use mathlib.Core.List.{List, [], _∷_}
 use mathlib.Core.Logic.{_↔_, _≢_}
+use Rattle.basics.specs.Logic.{if_then_else_}
 use Prim.Native.Nat.{ℕ, suc, _+_, _-_, _≤_, _<_, zero-le}
 use native.Mathlib.Nat.{le-refl, le-antisymm}
 use native.Mathlib.Omega.{arith}
@@ -12,7 +13,7 @@ use lib.Dec.{leb, ltb, lit≤}
 use lib.ListN.{length}
 use Rattle.basics.specs.Lists.{Below}
 use Rattle.basics.specs.Numbers.{accepted, ownersRowInvalid, ownersGap}
-use Rattle.basics.proofs.Cases.{cases, any-at, any-some}
+use Rattle.basics.proofs.Cases.{cases, if-true, any-at, any-some}
 use Rattle.basics.proofs.Below.{below-at}
 use Rattle.basics.proofs.Parts.{four-bytes-below}
 use Rattle.owners.specs.Owners.{Table, row, rowCount, atFault, firstFault, holds, isFree, numberCount, leastFree, checked, separatorNumber, asked}
@@ -194,6 +195,14 @@ module _ (t : Table) where
 
     pub all-whole : rowCount t ≡ length (t .rows)
     all-whole = le-antisymm (bounded (length (t .rows)) (λ h. last-good h .whole)) (rows-within t)
+
+    pub not-cut : t .cutShort ≡ false
+    unfolding rowCount
+    not-cut =
+        cases
+        (t .cutShort)
+        (λ c. absurd (let more : _≡_ {A = ℕ} (if t .cutShort then 1 else 0) 1 = if-true _ _ _ c in omega (arith, all-whole)))
+        (λ c. c)
 
     pub at-most-128 : rowCount t ≤ 128
     at-most-128 = bounded 128 (λ h. last-good h .few)

@@ -1,11 +1,11 @@
 -- Rows as bytes, read back.
 -- Assumes nothing.
 use mathlib.Core.Path.{_≡_, refl, sym, ap, ap₂, _∙_}
-use mathlib.Core.Bool.{Bool, false, not}
-use mathlib.Core.List.{List, [], _∷_, _++_, map, append-assoc}
-use Prim.Native.Nat.{ℕ, _+_, _*_, _/_, _%_, _^_, _≤_, _<_}
+use mathlib.Core.Bool.{Bool, true, false, not}
+use mathlib.Core.List.{List, [], _∷_, _++_, map, append-assoc, append-nil}
+use Prim.Native.Nat.{ℕ, suc, _+_, _*_, _/_, _%_, _^_, _≤_, _<_}
 use native.Mathlib.Omega.{arith}
-use borrow.Author.Tests.{eq-eqb}
+use borrow.Author.Tests.{eq-eqb, ne-eqb}
 use lib.Dec.{lit≤}
 use lib.ListN.{length, take, drop, length-append}
 use lib.Seq.{take-at, drop-at, drop-drop}
@@ -29,7 +29,7 @@ length-row : (r : OwnerRow) → length (rowBytes r) ≡ 10
 unfolding rowBytes
 length-row r = simp (length-append, length-digits)
 
-length-table : (rs : List OwnerRow) → length (tableBytes rs) ≡ 10 * length rs
+pub length-table : (rs : List OwnerRow) → length (tableBytes rs) ≡ 10 * length rs
 unfolding tableBytes
 length-table [] = refl
 length-table (r ∷ rs) =
@@ -60,15 +60,17 @@ lasts rs = map (λ r. r .last) rs
 abbrev pub linesOf : List OwnerRow → List ℕ
 linesOf rs = map (λ r. r .line) rs
 
-rows-read : (rs : List OwnerRow) → Below 4294967296 (firsts rs) → Below 4294967296 (lasts rs) → Below 65536 (linesOf rs)
-    → rowsOf (length rs) (tableBytes rs) ≡ rs
+-- rows before other bytes
+rows-read : (rest : List ℕ) (rs : List OwnerRow) → Below 4294967296 (firsts rs) → Below 4294967296 (lasts rs) → Below 65536 (linesOf rs)
+    → rowsOf (length rs) (tableBytes rs ++ rest) ≡ rs
 unfolding rowsOf tableBytes
-rows-read [] f l p = refl
-rows-read (r ∷ rs) f l p =
-    ap₂ (λ (x : OwnerRow) (xs : List OwnerRow). x ∷ xs)
-    (row-read r (tableBytes rs) (below-head _ _ _ f) (below-head _ _ _ l) (below-head _ _ _ p))
-    (ap (rowsOf (length rs)) (drop-at (rowBytes r) (tableBytes rs) 10 (length-row r))
-    ∙ rows-read rs (below-tail _ _ _ f) (below-tail _ _ _ l) (below-tail _ _ _ p))
+rows-read rest [] f l p = refl
+rows-read rest (r ∷ rs) f l p =
+    ap (rowsOf (suc (length rs))) (append-assoc (rowBytes r) (tableBytes rs) rest)
+    ∙ ap₂ (λ (x : OwnerRow) (xs : List OwnerRow). x ∷ xs)
+    (row-read r (tableBytes rs ++ rest) (below-head _ _ _ f) (below-head _ _ _ l) (below-head _ _ _ p))
+    (ap (rowsOf (length rs)) (drop-at (rowBytes r) (tableBytes rs ++ rest) 10 (length-row r))
+    ∙ rows-read rest rs (below-tail _ _ _ f) (below-tail _ _ _ l) (below-tail _ _ _ p))
 
 -- a table of whole rows is read as these rows
 pub table-read : (rs : List OwnerRow) → Below 4294967296 (firsts rs) → Below 4294967296 (lasts rs) → Below 65536 (linesOf rs)
@@ -79,5 +81,18 @@ table-read rs f l p =
     let count : length (tableBytes rs) / 10 ≡ length rs = omega arith in
     let whole : length (tableBytes rs) % 10 ≡ 0 = omega arith in
     ap₂ (λ (xs : List OwnerRow) (b : Bool). record { rows = xs; cutShort = b })
-    (ap (λ (n : ℕ). rowsOf n (tableBytes rs)) count ∙ rows-read rs f l p)
+    (ap (λ (n : ℕ). rowsOf n (tableBytes rs)) count ∙ ap (rowsOf (length rs)) (sym (append-nil (tableBytes rs))) ∙ rows-read [] rs f l p)
     (ap not (eq-eqb _ 0 whole))
+
+-- bytes behind them that make no whole row are a row cut short
+pub table-cut-read : (rs : List OwnerRow) → Below 4294967296 (firsts rs) → Below 4294967296 (lasts rs) → Below 65536 (linesOf rs)
+    → (rest : List ℕ) → 1 ≤ length rest → length rest < 10 → tableOf (tableBytes rs ++ rest) ≡ record { rows = rs; cutShort = true }
+unfolding tableOf
+table-cut-read rs f l p rest some few =
+    let long = length-table rs in
+    let both = length-append (tableBytes rs) rest in
+    let count : length (tableBytes rs ++ rest) / 10 ≡ length rs = omega arith in
+    let cut : length (tableBytes rs ++ rest) % 10 ≡ 0 → ⊥ = λ e. omega (arith, e) in
+    ap₂ (λ (xs : List OwnerRow) (b : Bool). record { rows = xs; cutShort = b })
+    (ap (λ (n : ℕ). rowsOf n (tableBytes rs ++ rest)) count ∙ rows-read rest rs f l p)
+    (ap not (ne-eqb _ 0 cut))

@@ -39,7 +39,7 @@ tableOf bytes = record { rows = rowsOf (length bytes / 10) bytes; cutShort = not
 unfoldable pub rowCount : Table → ℕ
 rowCount t = length (t .rows) + (if t .cutShort then 1 else 0)
 
--- row k, counted from 1
+-- row k, counted from 1; where there is no whole row k, and so of one cut short, zeros stand for it
 unfoldable pub row : Table → ℕ → OwnerRow
 row t k = getD (t .rows) (k - 1) (record { first = 0; last = 0; line = 0 })
 
@@ -80,9 +80,9 @@ numberCount = 2 ^ 32
 unfoldable pub leastFree : Table → ℕ
 leastFree t = leastFrom (isFree t) 0 numberCount
 
--- what a table is refused for: 15, and "16: otherwise"
-unfoldable pub tableRows : Table → List Row
-tableRows t =
+-- what a table is refused for, in the order in which it counts: 15, and "16: otherwise"
+unfoldable pub checkRows : Table → List Row
+checkRows t =
     leb (firstFault t) (rowCount t) gets ownersRowInvalid ⨾
     ltb (leastFree t) numberCount gets ownersGap ⨾
     []
@@ -93,27 +93,27 @@ placeOf n t = if eqb n ownersRowInvalid then firstFault t else if eqb n ownersGa
 
 -- the answer to a table that is checked
 unfoldable pub checked : Table → Checked
-checked t = let n = firstNumber (tableRows t) in record { number = n; place = placeOf n t }
+checked t = let n = firstNumber (checkRows t) in record { number = n; place = placeOf n t }
 
 -- "A separator's number is its first four bytes, highest byte first."
 unfoldable pub separatorNumber : List ℕ → ℕ
 separatorNumber separator = number 256 (take 4 separator)
 
 -- "17, after both: the separator asked about is under four bytes"
-unfoldable pub ownerRows : Table → List ℕ → List Row
-ownerRows t separator = tableRows t ++ (ltb (length separator) 4 gets separatorTooShort ⨾ [])
+unfoldable pub askRows : Table → List ℕ → List Row
+askRows t separator = checkRows t ++ (ltb (length separator) 4 gets separatorTooShort ⨾ [])
 
 -- "the one line whose row holds the number": that of the first row which does, and 0 where none does
 unfoldable pub lineOf : ℕ → List OwnerRow → ℕ
 lineOf n [] = 0
 lineOf n (r ∷ rs) = if holds n r then r .line else lineOf n rs
 
--- the answer to a table that is asked for a separator: the line where it is accepted, otherwise 0 in its place
+-- the answer to a table that is asked for a separator; where it is not accepted, the line is 0
 unfoldable pub asked : Table → List ℕ → Asked
 asked t separator =
-    let n = firstNumber (ownerRows t separator) in
+    let n = firstNumber (askRows t separator) in
     record { number = n; place = placeOf n t; line = if eqb n accepted then lineOf (separatorNumber separator) (t .rows) else 0 }
 
--- the answer in two numbers, as C has it: with the number 0 the line, otherwise the place
+-- what C gets beside an answer's number: with 0 the line, otherwise the place
 unfoldable pub valueOf : Asked → ℕ
 valueOf a = if eqb (a .number) accepted then a .line else a .place

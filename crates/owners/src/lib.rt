@@ -38,7 +38,7 @@ pub struct Asked {
     pub line: u16,
 }
 
-// The number of the four bytes at a place, highest byte first.
+// The number of the four bytes that begin somewhere in a string, highest byte first.
 fn number_at(bytes: &[u8], at: usize) -> u32
     requires { ⌜ at + 4 ≤ length (now bytes) ⌝ }
     ensures { λ r. ⌜ r ≡ number 256 (take 4 (drop at (now (bytes .entry)))) ⌝ }
@@ -53,7 +53,7 @@ fn line(high: u8, low: u8) -> u16
     high as u16 * 256 + low as u16
 }
 
-// The whole row at a place, counted from 0.
+// The whole row with so many rows before it.
 fn row_at(table: &[u8], i: usize) -> OwnerRow
     requires { ⌜ i < length (now table) / 10 ⌝ }
     ensures { λ r. ⌜ r ≡ rowOf (drop (10 * i) (now (table .entry))) ⌝ }
@@ -140,8 +140,9 @@ fn row_holds(row: OwnerRow, number: u32) -> bool
     false
 }
 
-// The line of the first row that holds a number, or 0.
+// The line of the first row that holds a number, or 0, of a table of at most 128 rows.
 fn line_of(table: &[u8], number: u32) -> u16
+    requires { ⌜ length (now table) / 10 ≤ 128 ⌝ }
     ensures { λ r. ⌜ r ≡ lineOf number (tableOf (now (table .entry)) .rows) ⌝ }
 {
     for i in 0..table.len() / ROW_BYTES {
@@ -197,11 +198,11 @@ pub fn owner(table: &[u8], separator: &[u8]) -> Asked
             line: 0,
         };
     }
-    let number = number_at(separator, 0);
+    let line = line_of(table, number_at(separator, 0));
     Asked {
         number: basics::ACCEPTED,
         place: 0,
-        line: line_of(table, number),
+        line,
     }
 }
 

@@ -5,6 +5,8 @@ use Prim.Native.Nat.{ℕ}
 use native.Mathlib.Omega.{arith}
 use Rattle.owners.specs.Owners.{tableOf, checked, separatorNumber, lineOf}
 use Rattle.owners.specs.declared.Checked.{Checked}
+use Rattle.owners.proofs.Rows.{whole-rows, rows-within}
+use Rattle.owners.proofs.Tables.{at-most-128}
 use Rattle.owners.proofs.Answers.{asked-refused, asked-short, asked-line}
 use borrow.Author.Needs.{needs}
 use Rattle.owners.proofs.owner.Statement.{statement}
@@ -25,6 +27,15 @@ returns-2 c =
     let at-check = c .before .before .before in
     sym (asked-short _ _ (sym (number-is at-check) ∙ c .before .if1 .left) (omega arith))
 
+-- the table is accepted, so its rows are few
+line-of-requires : tie.Need-line-of-requires
+line-of-requires c κs =
+    let passed = c .before in
+    let at-check = passed .before .before .before in
+    let bytes = at-check .before .before .before .args .table .now in
+    let few = at-most-128 (tableOf bytes) (sym (number-is at-check) ∙ passed .before .if1 .left) in
+    omega (arith, few, rows-within (tableOf bytes), whole-rows bytes)
+
 returns-3 : tie.Need-returns-3
 unfolding separatorNumber
 returns-3 c =
@@ -42,5 +53,5 @@ owner-spec =
     returns
     returns-2
     (λ c κs. search needs)
-    (λ c κs. search needs)
+    line-of-requires
     returns-3)
