@@ -129,6 +129,11 @@ CRATE = of(
     ("owner_accepts", "result(number)?;", "let _ = result(number);", "a short separator is of line 0"),
     ("owner_line_15_bits", "Ok(value as u16)", "Ok(value as u16 & 0x7fff)", "the line's top bit is lost"),
     ("owner_value_start", "let mut value = 0;", "let mut value = 7;", "the value is another before the call"),
+    ("owners_unchecked", "    table: &'a [u8],\n}", "    pub table: &'a [u8],\n}", "a table that nobody checked can be put in"),
+    ("owners_of_any_lifetime", "pub fn new(table: &'a [u8]) -> Result<Owners<'a>, OwnersFault> {",
+     "pub fn new(table: &[u8]) -> Result<Owners<'a>, OwnersFault> {\n"
+     "        let table: &'a [u8] = unsafe { core::slice::from_raw_parts(table.as_ptr(), table.len()) };", "the bytes may change or be gone"),
+    ("fault_non_exhaustive", *before("pub enum OwnersFault {", "#[non_exhaustive]"), "a match of the two cases needs a third arm"),
     ("owners_equal_by_place", "#[derive(Clone, Copy, Debug, PartialEq, Eq, Hash)]\npub struct Owners<'a> {",
      "impl PartialEq for Owners<'_> { fn eq(&self, o: &Owners) -> bool { core::ptr::eq(self.table, o.table) } }\nimpl Eq for Owners<'_> {}\n"
      "#[derive(Clone, Copy, Debug, Hash)]\npub struct Owners<'a> {", "equal bytes in two places are unequal"),

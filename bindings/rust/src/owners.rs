@@ -45,6 +45,12 @@ use crate::refusal::{result, Refusal};
 /// table[9] = 2;
 /// owners.owner(b"payment");
 /// ```
+///
+/// None is made without the check:
+///
+/// ```compile_fail,E0451
+/// tuilarder::Owners { table: &[] };
+/// ```
 #[derive(Clone, Copy, Debug, PartialEq, Eq, Hash)]
 pub struct Owners<'a> {
     table: &'a [u8],
