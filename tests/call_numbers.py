@@ -194,6 +194,9 @@ def named():
         for number in re.findall(r"\b(?:gets?|\(no) (\d+)", text):
             if int(number) not in rows:
                 yield f"{path}: no number {number}"
+        for number, condition in re.findall(r"^\| (\d+) \| (.*?) \|", read(path), re.MULTILINE):
+            if int(number) not in rows or not condition.endswith(rows[int(number)].condition):
+                yield f"{path}: {number} is in a table for: {condition}"
 
 
 def findings():
@@ -228,6 +231,8 @@ MISTAKES = [
     (CLAIMS, '| 14: "not a card line", "(card)" |', '| "not a card line" |', '14: "not a card line", "(card)"'),
     ("docs/GUIDE.md", "refused with 8: open record not sound", "refused with 7: open record not sound", "refused with 7"),
     ("docs/GUIDE.md", "p or more gets 10", "p or more gets 100", "no number 100"),
+    ("docs/GUIDE.md", "| 17 | after both,", "| 18 | after both,", "18 is in a table for: after both"),
+    ("docs/GUIDE.md", "otherwise, a number that no row holds |", "otherwise, a number that a row holds |", "16 is in a table for: otherwise, a number that a"),
     ("README.md", "14: not a card", "13: not a card", "13: not a card"),
     ("crates/cards/stdout", "(no 14)", "(no 7)", "cards gives"),
     ("crates/owner_vectors/stdout", "c 16", "c 17", "check owners gives [0, 15, 16, 17]"),
