@@ -6,7 +6,7 @@
   tests/docs.py picture > docs/session.svg
 
 `test` runs every example and compares what it prints with the documents, looks for the code that they show in the examples, and draws
-docs/session.svg again. `oracle` does every example once more over the second implementation, in Python, written from document 01 by other hands
+docs/session.svg again. `oracle` does every example once more over the second implementation, in Python, written from the papers by other hands
 (tests/oracle), and compares the documents with what that gives. `picture` draws the picture from its states.
 """
 import glob
@@ -265,8 +265,16 @@ def foreign_record(out):
         taken.finish()
 
 
+def rows_shown():
+    """The rows of owners that the guide shows; bytes and figures have to say the same."""
+    for shown_bytes, *figures in re.findall(r"^\| `([0-9a-f ]+)` \| (\d+) to (\d+) \| (\d+) \|$", read("docs", "GUIDE.md"), re.MULTILINE):
+        row, (first, last, line) = bytes.fromhex(shown_bytes), map(int, figures)
+        assert row == first.to_bytes(4, "big") + last.to_bytes(4, "big") + line.to_bytes(2, "big"), shown_bytes
+        yield row
+
+
 def owners(out):
-    rows = [bytes.fromhex(row) for row in ("000000006fffffff0001", "700000007fffffff0002", "80000000ffffffff0003")]
+    rows = [*rows_shown()]
     table = b"".join(rows)
     for separator in (b"house/p", b"house/r", b"payment", b"\xff\xff\xff\xff/p1"):
         number, line = oracle.owner(table, separator)
