@@ -203,16 +203,16 @@ TUILARDER_ANSWER tuilarder_permute(uint32_t state[TUILARDER_WIDTH]);
 void tuilarder_sha3_256(const uint8_t *data, size_t length, uint8_t out[TUILARDER_DIGEST_LENGTH]);
 
 /*
- * Whether a table of owners gives every number of 32 bits to exactly one product line. A row has ten bytes: the first and the last number
- * that it holds, of four bytes each, and its product line, of two, highest byte first. Rows are in rising order. Checks 15, then 16. Writes to
- * place the number of the first bad row, counted from 1, with 15; the least number that no row holds with 16; otherwise 0.
+ * Whether the rows of a table of owners are in rising order and hold every number of 32 bits exactly once. A row has ten bytes: the first and
+ * the last number that it holds, of four bytes each, and its product line, of two, highest byte first; there are at most 128. Checks 15, then 16.
+ * Writes to place the number of the first bad row, counted from 1, with 15; the least number that no row holds with 16; otherwise 0.
  */
 TUILARDER_ANSWER tuilarder_check_owners(const uint8_t *table, size_t length, uint32_t *place);
 
 /*
  * The product line that owns a separator: that of the row which holds the separator's number, its first four bytes, highest byte first.
- * Checks 15, 16, then 17; so each call looks at the whole table. A separator may be of any length above three. Writes to value the product
- * line where it accepts; with 15 and 16 what tuilarder_check_owners writes to place; with 17 it is 0.
+ * Checks 15, 16, then 17; so each call looks at the whole table. A separator may be of any length above three. Accepted, it writes the product
+ * line to value. Refused, value is no product line: with 15 and 16 it is what tuilarder_check_owners writes to place, and with 17 it is 0.
  */
 TUILARDER_ANSWER tuilarder_owner(const uint8_t *table, size_t table_length, const uint8_t *separator, size_t separator_length,
                                  uint32_t *value);

@@ -123,12 +123,12 @@ extern "C" {
     /// The SHA3-256 digest of a string of bytes. It turns nothing away.
     pub fn tuilarder_sha3_256(data: *const u8, len: usize, out: *mut [u8; 32]);
 
-    /// Whether a table of owners gives every number of 32 bits to exactly one product line. Checks 15, then 16. Writes to `place` the number of
-    /// the first bad row, counted from 1, with 15; the least number that no row holds with 16; otherwise 0.
+    /// Whether the rows of a table of owners are in rising order and hold every number of 32 bits exactly once. Checks 15, then 16. Writes to
+    /// `place` the number of the first bad row, counted from 1, with 15; the least number that no row holds with 16; otherwise 0.
     pub fn tuilarder_check_owners(table: *const u8, len: usize, place: *mut u32) -> u32;
 
-    /// The product line that owns a separator. Checks 15, 16, then 17; so each call looks at the whole table. Writes to `value` the product line
-    /// where it accepts; with 15 and 16 what [`tuilarder_check_owners`] writes to `place`; with 17 it is 0.
+    /// The product line that owns a separator. Checks 15, 16, then 17; so each call looks at the whole table. Accepted, it writes the product line
+    /// to `value`. Refused, `value` is no product line: with 15 and 16 it is what [`tuilarder_check_owners`] writes to `place`, and with 17 it is 0.
     pub fn tuilarder_owner(
         table: *const u8,
         table_len: usize,
