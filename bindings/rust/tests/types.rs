@@ -630,11 +630,8 @@ fn tables_of_owners_asked_often() {
 
 /// Rows of 2^24 numbers each, the first of which begins at 0.
 fn narrow_rows(count: u32) -> Vec<u8> {
-    let row = |k: u32| {
-        let (first, last) = (k << 24, (k << 24) + 0xffffff);
-        [&first.to_be_bytes()[..], &last.to_be_bytes(), &[1, 2]].concat()
-    };
-    (0..count).flat_map(row).collect()
+    let row = |k: u32| (k << 24, (k << 24) + 0xffffff, 7);
+    table_of(&(0..count).map(row).collect::<Vec<_>>())
 }
 
 /// Each length up to some rows more than the most.

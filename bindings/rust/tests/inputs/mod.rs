@@ -385,6 +385,13 @@ pub fn damage_string(random: &mut Random, string: &mut Vec<u8>) {
 /// First and last number, and product line.
 type OwnerRow = (u32, u32, u16);
 
+/// The table of these rows.
+pub fn table_of(rows: &[OwnerRow]) -> Vec<u8> {
+    let bytes =
+        |(first, last, line): &OwnerRow| [&first.to_be_bytes()[..], &last.to_be_bytes(), &line.to_be_bytes()].concat();
+    rows.iter().flat_map(bytes).collect()
+}
+
 /// A number at either end of the 32 bits, or anywhere, but not 0.
 fn any_cut(random: &mut Random) -> u32 {
     match random.below(4) {
@@ -434,10 +441,7 @@ pub fn any_table(random: &mut Random) -> Vec<u8> {
     for _ in 0..random.pick(&[0, 0, 0, 0, 1, 1, 2]) {
         damage_rows(random, &mut rows);
     }
-    let parts = rows
-        .iter()
-        .flat_map(|(first, last, line)| [&first.to_be_bytes()[..], &last.to_be_bytes(), &line.to_be_bytes()].concat());
-    let mut table: Vec<u8> = parts.collect();
+    let mut table = table_of(&rows);
     if random.once_in(8) {
         damage_string(random, &mut table);
     }
