@@ -100,7 +100,7 @@ CRATE = of(
      "a number that is no refusal is given as 13"),
     ("rows_exchanged", "12 BufferTooShort \"lent buffer shorter than the tag string\",\n    13 NotTagString",
      "13 BufferTooShort \"lent buffer shorter than the tag string\",\n    12 NotTagString", "12 and 13 exchanged"),
-    ("row_more", "    13 NotTagString", "    14 NotCard \"not a card line\",\n    13 NotTagString", "a fourteenth refusal"),
+    ("row_more", "    13 NotTagString", "    14 NotCard \"not a card line\",\n    13 NotTagString", "14, which belongs to cards, is a refusal"),
     ("exhaustive", "        #[non_exhaustive]\n", "", "a later version's refusal breaks callers' matches"),
     ("no_error", "impl core::error::Error for Refusal {}\n", "", "a refusal is no `Error`"),
     ("row_message", "\"separator over 256 bytes\"", "\"separator over 255 bytes\"", "a wrong figure in a message"),
