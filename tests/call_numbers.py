@@ -163,16 +163,24 @@ def comments():
         yield DECLARED, function, comment
 
 
+def orders(path):
+    """Of each exported function the numbers that its comment says it checks, in that order."""
+    return {function: [number for part in re.findall(r"[Cc]hecks ([^.;]*)", comment) for number in numbers_in(part)]
+            for place, function, comment in comments() if place == path}
+
+
 def checked():
-    """Whether the comments of the exported functions say that they check the numbers which they give."""
+    """Whether the comments of the exported functions say that they check the numbers which they give, in the same order in C and Rust."""
     wanted = {name: {row.number for row in table() if row.number and call in row.calls} for call, name in exports().items() if name}
     for path in (HEADER, DECLARED):
-        said = {function: comment for place, function, comment in comments() if place == path}
+        said = orders(path)
         yield from (f"{path} or {NUMBERS} lacks {function}" for function in sorted(said.keys() ^ wanted.keys()))
         for function in said.keys() & wanted.keys():
-            found = {number for part in re.findall(r"[Cc]hecks ([^.;]*)", said[function]) for number in numbers_in(part)}
-            if found != wanted[function]:
-                yield f"{path}: {function} is said to check {sorted(found)}, and gives {sorted(wanted[function])}"
+            if set(said[function]) != wanted[function]:
+                yield f"{path}: {function} is said to check {sorted(said[function])}, and gives {sorted(wanted[function])}"
+    for function, order in orders(DECLARED).items():
+        if order != orders(HEADER).get(function):
+            yield f"{DECLARED}: {function} is said to check {order}, and in {HEADER} {orders(HEADER).get(function)}"
 
 
 # ---- numbers in documents
@@ -226,6 +234,7 @@ MISTAKES = [
     (RUST, '"record not open"', '"record closed"', "record closed"),
     (RUST, "of 2013265921 or more", "of p or more", "an element of p or more"),
     (DECLARED, "Checks 6 (of the length given), then 13.", "Checks 13.", "tuilarder_read_tag is said to check [13]"),
+    (HEADER, "Checks 15, then 16.", "Checks 16, then 15.", "tuilarder_check_owners is said to check [15, 16], and in"),
     ("bindings/rust/src/session.rs", "[`Refusal::SeparatorTooLong`] (6)", "[`Refusal::SeparatorTooLong`] (5)", "SeparatorTooLong (5)"),
     (CLAIMS, '"80000003, length 0"', '"80000003"', '13: "no tag string of that separator length", "80000003"'),
     (CLAIMS, '| 14: "not a card line", "(card)" |', '| "not a card line" |', '14: "not a card line", "(card)"'),
