@@ -14,7 +14,7 @@ use Rattle.basics.specs.Refusals.{firstNumber}
 use Rattle.basics.proofs.Cases.{cases, if-true}
 use Rattle.pattern.specs.Pattern.{maxWords}
 use Rattle.pattern.specs.Opening.{opening, maxSeparator, wordRows, startRows, startNumber}
-use Rattle.pattern.proofs.StartCheck.{passed, over-64-words}
+use Rattle.pattern.proofs.StartCheck.{passed-rows, over-64-words}
 use Rattle.card.specs.Answer.{noText, cardAnswer}
 use Rattle.card.proofs.CardAnswer.{refused-answer}
 
@@ -32,7 +32,7 @@ unfolding startNumber startRows
 long-number ws s t h k = rw (lt-ltb maxSeparator (length s) h, lt-ltb maxSeparator (length t) k)
 
 long-refused : (ws s : List ℕ) → maxSeparator < length s → startNumber (opening ws s) ≢ accepted
-long-refused ws s h e = let short = passed (opening ws s) e .short in omega arith
+long-refused ws s h e = let short = passed-rows (opening ws s) e .short in omega arith
 
 long-separator : (ws s t : List ℕ) → maxSeparator < length s → maxSeparator < length t → cardAnswer (opening ws s) ≡ cardAnswer (opening ws t)
 long-separator ws s t h k =

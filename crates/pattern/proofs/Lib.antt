@@ -1,5 +1,7 @@
 pub mod Given
 pub mod MergeStep
+pub mod PassStep
+pub mod FromPass
 pub mod Answers
 pub mod Soundness
 pub mod StartCheck

@@ -11,15 +11,15 @@ use lib.ListN.{length, getD, length-map}
 use Rattle.basics.specs.Logic.{_or_, same, all, any}
 use Rattle.basics.specs.Lists.{Below}
 use Rattle.basics.specs.Numbers.{accepted}
-use Rattle.basics.proofs.Below.{below-head, below-tail}
+use Rattle.basics.proofs.Below.{below-nil, below-cons, below-head, below-tail}
 use Rattle.basics.proofs.Cases.{by, if-false, and-left, and-right, and-both, or-false, same-self, same-other, same-true, same-false}
 use Rattle.words.specs.Words.{isAbsorb, lengthOf, Phase, phaseOf, wordOf}
 use Rattle.pattern.specs.Pattern.{join, merge, phases, mergedWords, alternate, soundWords}
 use Rattle.pattern.specs.Opening.{Opening, maxSeparator, tooLong, startNumber}
-use Rattle.words.proofs.WordKinds.{word-kind, word-length, word-of-phase, length-below}
+use Rattle.words.proofs.WordKinds.{word-kind, word-length, word-of-phase, phase-of-word, word-below, length-below}
 use Rattle.pattern.proofs.MergeStep.{merged-words-length}
 use Rattle.pattern.proofs.Soundness.{long, right-count, sound}
-use Rattle.pattern.proofs.StartCheck.{PassedWords, few-declared, passed, passes, some-words}
+use Rattle.pattern.proofs.StartCheck.{PassedWords, few-declared, passed-rows, passes, some-words}
 
 -- ---- merging gives calls that alternate
 
@@ -149,7 +149,7 @@ words-sound (w ∷ ws) r = rows-sound w ws r
 
 -- the merged words of an accepted pattern are sound
 pub merged-sound : (o : Opening) → startNumber o ≡ accepted → soundWords (mergedWords (o .words)) ≡ true
-merged-sound o e = words-sound (o .words) (passed o e .of-words)
+merged-sound o e = words-sound (o .words) (passed-rows o e .of-words)
 
 -- ---- sound words merge to themselves
 
@@ -177,6 +177,28 @@ phases-of-sound ws e = merge-alternate true ws (sound ws e .turns)
 pub sound-merged : (ws : List ℕ) → soundWords ws ≡ true → Below 4294967296 ws → mergedWords ws ≡ ws
 unfolding mergedWords
 sound-merged ws e h = ap (map wordOf) (phases-of-sound ws e) ∙ words-of-phases ws h
+
+-- ---- merged words, merged again
+
+-- phases whose words are read again
+pub phases-of-words : (ps : List Phase) → any tooLong ps ≡ false → (map phaseOf (map wordOf ps) ≡ ps) × Below 4294967296 (map wordOf ps)
+unfolding any tooLong
+phases-of-words [] e = (refl, below-nil _)
+phases-of-words (a ∷ ps) e =
+    let o = or-false _ _ e in
+    let l : a .elements < 2147483648 = omega (arith, ltb-false 2147483647 (a .elements) (o .0)) in
+    let rest = phases-of-words ps (o .1) in
+    (ap₂ (λ (b : Phase) (bs : List Phase). b ∷ bs) (phase-of-word a l) (rest .0), below-cons _ (wordOf a) (map wordOf ps) (word-below a l) (rest .1))
+
+-- the merged words of words that no row about them refuses, but for that of the last word
+pub merged-again : (v : ℕ) (vs : List ℕ) → any (λ w. eqb (lengthOf w) 0) (v ∷ vs) ≡ false → any tooLong (phases (v ∷ vs)) ≡ false
+    → phases (mergedWords (v ∷ vs)) ≡ phases (v ∷ vs)
+unfolding phases mergedWords phaseOf
+merged-again v vs some fine =
+    let p = positive (v ∷ vs) some in
+    let alternating = merge-alternating (phaseOf v) (map phaseOf vs) (p .0) (p .1) in
+    merge-alternate (isAbsorb v) (mergedWords (v ∷ vs)) (words-alternate (isAbsorb v) (phases (v ∷ vs)) alternating fine .0)
+    ∙ phases-of-words (phases (v ∷ vs)) fine .0
 
 -- ---- sound words are an accepted pattern
 

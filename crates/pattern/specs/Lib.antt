@@ -1,3 +1,4 @@
 pub mod Pattern
 pub mod Opening
 pub mod Steps
+pub mod Pass

@@ -3,17 +3,12 @@ use mathlib.Core.Path.{_≡_}
 use mathlib.Core.List.{List, []}
 use mathlib.Core.Logic.{_≢_}
 use Prim.Native.Nat.{ℕ}
-use lib.ListN.{take}
+use lib.Dec.{eqb}
 use Rattle.basics.specs.Logic.{if_then_else_, any}
 use Rattle.basics.specs.Numbers.{accepted, mergedLengthTooLong}
-use Rattle.basics.specs.Refusals.{Row}
 use Rattle.pattern.specs.Pattern.{phases, mergedWords}
-use Rattle.pattern.specs.Opening.{tooLong, wordRows, withWords, answerWith}
+use Rattle.pattern.specs.Opening.{tooLong, withWords, answerWith}
 use Rattle.pattern.specs.declared.Merged.{Merged}
-
--- the rows before that about merged lengths, which look at the declared words
-unfoldable pub declaredRows : List ℕ → List Row
-declaredRows ws = take 4 (wordRows ws)
 
 -- the row 5 of the start check alone
 unfoldable pub mergeNumber : List ℕ → ℕ
@@ -31,3 +26,8 @@ pub record Holds (ws list : List ℕ) (count : ℕ) : Type 0 where
 pub record Stepped (ws list : List ℕ) (count : ℕ) : Type 0 where
   pub merges : count ≢ 0 → Holds ws list count
   pub refuses : count ≡ 0 → merged ws ≡ withWords mergedLengthTooLong []
+
+-- what a number, a list of 64 places and a count hold together: the words where the number is 0, otherwise the number alone
+unfoldable pub holding : ℕ → List ℕ → ℕ → Merged
+holding number list count =
+    if eqb number accepted then record { number = accepted; words = list; count = count } else withWords number []

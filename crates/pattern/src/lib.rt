@@ -1,14 +1,10 @@
-// Patterns: the start check, and merging.
-mod merging;
+// Patterns: the start check, which merges.
+mod pass;
 
 ghost use mathlib.Core.Path.{_≡_};
 ghost use mathlib.Core.List.{[]};
-ghost use lib.Dec.{eqb};
-ghost use Rattle.basics.specs.Logic.{any};
-ghost use Rattle.basics.specs.Refusals.{firstNumber};
-ghost use Rattle.words.specs.Words.{lengthOf};
 ghost use Rattle.pattern.specs.Opening.{opening, withWords, checked};
-ghost use Rattle.pattern.specs.Steps.{declaredRows};
+ghost use Rattle.pattern.specs.Pass.{ending};
 
 // The longest pattern, in words.
 pub const MAX_WORDS: usize = 64;
@@ -34,58 +30,35 @@ pub fn refused(number: u32) -> Merged
     }
 }
 
-// Whether a word has length 0.
-fn has_length_zero(words: &[u32]) -> bool
-    ensures { λ r. ⌜ r ≡ any (λ w. eqb (lengthOf w) 0) (now (words .entry)) ⌝ }
+// What is left for the end of the pass: number 4 by the last word, or 6 by the separator's length, or 0.
+fn ending_of(last: u32, separator_length: usize) -> u32
+    ensures { λ r. ⌜ r ≡ ending last «separator_length» ⌝ }
 {
-    for i in 0..words.len() {
-        if words::length_of(words[i]) == 0 {
-            return true;
-        }
-    }
-    false
-}
-
-// The rows of the start check that look at the declared words, one after the other.
-fn declared_number(words: &[u32]) -> u32
-    ensures { λ r. ⌜ r ≡ firstNumber (declaredRows (now (words .entry))) ⌝ }
-{
-    let count = words.len();
-    if count == 0 {
-        return basics::WORD_COUNT_OUT_OF_RANGE;
-    }
-    if count > MAX_WORDS {
-        return basics::WORD_COUNT_OUT_OF_RANGE;
-    }
-    let length_zero = has_length_zero(words);
-    let first_absorb = words::is_absorb(words[0]);
-    let last_absorb = words::is_absorb(words[count - 1]);
-    if length_zero {
-        return basics::WORD_LENGTH_ZERO;
-    }
-    if !first_absorb {
-        return basics::FIRST_WORD_SQUEEZE;
-    }
-    if last_absorb {
+    if words::is_absorb(last) {
         return basics::LAST_WORD_ABSORB;
+    }
+    if separator_length > MAX_SEPARATOR {
+        return basics::SEPARATOR_TOO_LONG;
     }
     basics::ACCEPTED
 }
 
-// The start check: the rows about the declared words, then that about merged lengths, then that about the separator.
+// The start check: one pass over the words, and what is left for its end; the lower number wins.
 pub fn check(words: &[u32], separator: &[u8]) -> Merged
     ensures { λ r. ⌜ r ≡ checked (opening (now (words .entry)) (now (separator .entry))) ⌝ }
 {
-    let number = declared_number(words);
+    if words.len() == 0 {
+        return refused(basics::WORD_COUNT_OUT_OF_RANGE);
+    }
+    let mut list = [0u32; 64];
+    let passed = pass::pass(words, &mut list);
+    let number = pass::lower_of(passed.number, ending_of(passed.last, separator.len()));
     if number != basics::ACCEPTED {
         return refused(number);
     }
-    let merged = merging::merge(words);
-    if merged.number != basics::ACCEPTED {
-        return merged;
+    Merged {
+        number,
+        words: list,
+        count: passed.count,
     }
-    if separator.len() > MAX_SEPARATOR {
-        return refused(basics::SEPARATOR_TOO_LONG);
-    }
-    merged
 }

@@ -27,10 +27,10 @@ use Rattle.pattern.specs.declared.Merged.{Merged}
 use Rattle.words.proofs.WordKinds.{word-below, phase-of-word}
 use Rattle.tag.proofs.WordBytes.{length-word-bytes}
 use Rattle.pattern.proofs.Answers.{words-used}
-use Rattle.pattern.proofs.StartCheck.{passed as passed-opening}
+use Rattle.pattern.proofs.StartCheck.{passed-rows}
 use Rattle.tag.proofs.Writing.{length-tag-string}
 use Rattle.tag.proofs.Reading.{number-0, read-accepted, separator-accepted, passed}
-use Rattle.pattern.proofs.MergedWords.{merged-sound, sound-merged, sound-accepted}
+use Rattle.pattern.proofs.MergedWords.{phases-of-words, merged-sound, sound-merged, sound-accepted}
 
 -- ---- words and their bytes
 
@@ -84,17 +84,6 @@ words-below (a ∷ b ∷ c ∷ d ∷ s) e h =
     rw (words-of-four a b c d s)
     (below-cons _ _ (wordsOf s) (four-bytes-below a b c d (at 0) (at 1) (at 2) (at 3)) (words-below s (omega arith) (behind-four 256 a b c d s h)))
 
--- ---- the merged pattern, as kinds and lengths, from its words
-
-phases-of-words : (ps : List Phase) → any tooLong ps ≡ false → (map phaseOf (map wordOf ps) ≡ ps) × Below 4294967296 (map wordOf ps)
-unfolding any tooLong
-phases-of-words [] e = (refl, below-nil _)
-phases-of-words (a ∷ ps) e =
-    let o = or-false _ _ e in
-    let l : a .elements < 2147483648 = omega (arith, ltb-false 2147483647 (a .elements) (o .0)) in
-    let rest = phases-of-words ps (o .1) in
-    (ap₂ (λ (b : Phase) (bs : List Phase). b ∷ bs) (phase-of-word a l) (rest .0), below-cons _ (wordOf a) (map wordOf ps) (word-below a l) (rest .1))
-
 -- ---- reading what was written
 
 module _ (o : Opening) (e : startNumber o ≡ accepted) where
@@ -122,7 +111,7 @@ module _ (o : Opening) (e : startNumber o ≡ accepted) where
   unfolding mergedWords
   words =
       ap wordsOf front
-      ∙ words-of-bytes (mergedWords (o .words)) (phases-of-words (phases (o .words)) (passed-opening o e .of-words .e5) .1)
+      ∙ words-of-bytes (mergedWords (o .words)) (phases-of-words (phases (o .words)) (passed-rows o e .of-words .e5) .1)
 
   sound-string : soundBytes (wordsPart s n) ≡ true
   unfolding soundBytes
@@ -131,7 +120,7 @@ module _ (o : Opening) (e : startNumber o ≡ accepted) where
       and-both _ _ (eq-eqb (length (wordsPart s n) % 4) 0 whole) (ap soundWords words ∙ merged-sound o e)
 
   pub reads : readNumber s n ≡ accepted
-  reads = number-0 s n (passed-opening o e .short) (omega (arith, length-tag-string o)) sound-string
+  reads = number-0 s n (passed-rows o e .short) (omega (arith, length-tag-string o)) sound-string
 
   pub reads-words : readWords s n ≡ withWords accepted (mergedWords (o .words))
   reads-words = read-accepted s n reads ∙ ap (withWords accepted) words
@@ -196,7 +185,7 @@ refused-string s n r o e l q =
 -- an accepted pattern's kinds and lengths are those of its merged words
 pub phases-read : (o : Opening) → startNumber o ≡ accepted → map phaseOf (mergedWords (o .words)) ≡ phases (o .words)
 unfolding mergedWords
-phases-read o e = phases-of-words (phases (o .words)) (passed-opening o e .of-words .e5) .0
+phases-read o e = phases-of-words (phases (o .words)) (passed-rows o e .of-words .e5) .0
 
 module _
     (a b : Opening)

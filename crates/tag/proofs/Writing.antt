@@ -17,7 +17,7 @@ use Rattle.basics.proofs.FirstRow.{behind, refused-before, accepted-none}
 use Rattle.pattern.specs.Pattern.{mergedWords}
 use Rattle.pattern.specs.Opening.{Opening, wordRows, startRows, startNumber, given}
 use Rattle.pattern.proofs.Given.{given-accepted, given-refused}
-use Rattle.pattern.proofs.StartCheck.{passed, few-words}
+use Rattle.pattern.proofs.StartCheck.{passed-rows, few-words}
 use Rattle.tag.specs.TagString.{wordBytes, maxString, stringOf, tagString, bufferRows, bufferNumber, writeRows, writeNumber, writtenWith, bufferWith, stringWritten, stringBuffer, written, bufferAfter}
 use Rattle.tag.specs.declared.Written.{Written}
 use Rattle.tag.proofs.WordBytes.{length-word-bytes}
@@ -111,7 +111,7 @@ module _ (o : Opening) where
 
   -- every accepted opening's: 64 words of four bytes, and 256 bytes
   pub tag-string-short : startNumber o ≡ accepted → length (tagString o) ≤ maxString
-  tag-string-short e = omega (arith, length-tag-string, few-words o e, passed o e .short)
+  tag-string-short e = omega (arith, length-tag-string, few-words o e, passed-rows o e .short)
 
   module _ (buffer : List ℕ) where
     pub number-of-check : startNumber o ≢ accepted → writeNumber o buffer ≡ startNumber o

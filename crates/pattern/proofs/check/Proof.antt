@@ -1,77 +1,82 @@
 -- `pattern::check` meets its contract.
 -- Assumes nothing.
-use mathlib.Core.Path.{_≡_, refl, sym, ap, _∙_}
-use mathlib.Core.Bool.{false}
+use mathlib.Core.Path.{_≡_, refl, sym, ap, ap₂, _∙_}
+use mathlib.Core.List.{List, []}
+use mathlib.Core.Logic.{_≢_}
+use Prim.Native.Nat.{ℕ}
+use native.Mathlib.Omega.{arith}
+use borrow.Author.Tests.{ne-eqb}
+use lib.ListN.{length}
+use lib.Seq.{take-all}
 use Rattle.basics.specs.Numbers.{accepted}
-use Rattle.basics.specs.Refusals.{firstNumber}
-use Rattle.pattern.specs.Opening.{Opening, opening, withWords}
-use Rattle.pattern.specs.Steps.{declaredRows}
+use Rattle.pattern.specs.Opening.{opening, startNumber, checked, withWords}
+use Rattle.pattern.specs.Pass.{lower, ending, heldAfter}
 use Rattle.pattern.specs.declared.Merged.{Merged}
-use Rattle.pattern.proofs.MergeStep.{merged-refused, merged-accepted}
-use Rattle.pattern.proofs.Answers.{if-accepted, if-refused}
-use Rattle.pattern.proofs.StartCheck.{row5, few-passed, declared-refuses, number-5, number-6, number-0, checked-refused, checked-accepted}
+use Rattle.pattern.proofs.StartCheck.{checked-refused, checked-accepted}
+use Rattle.pattern.proofs.PassStep.{holding-number, holding-words, lower-zero}
+use Rattle.pattern.proofs.FromPass.{start-none, start-by-pass, words-by-pass}
 use borrow.Author.Needs.{needs}
 use Rattle.pattern.proofs.check.Statement.{statement}
 use Rattle.pattern.proofs.check.Tie as tie
 
--- the opening, where the declared words have passed
-opened : tie.Else1 → Opening
-opened c = let args = c .before .before .before .before .args in opening (args .words .now) (args .separator .now)
-
-passed : (c : tie.Else1) → firstNumber (declaredRows (opened c .words)) ≡ accepted
-unfolding opened
-passed c = sym (c .before .declared-number .ensures) ∙ c .if1 .left
-
-passed-5 : (c : tie.Else2) → row5 (opened (c .before .before .before) .words) ≡ false
-unfolding opened
-passed-5 c = if-accepted _ (sym (ap (λ (m : Merged). m .number) (c .before .before .merge .ensures)) ∙ c .if2 .left)
-
 returns : tie.Need-returns
 returns c =
-    let at-number = c .before .before in
-    let number = at-number .declared-number .ensures in
+    let args = c .before .before .before .before .args in
+    let none : args .words .now ≡ [] = sym (take-all 0 (args .words .now) (omega arith)) in
     c .refused .ensures
-    ∙ ap (λ n. withWords n _) number
-    ∙ sym (declared-refuses _ (λ e. c .before .if1 .taken (number ∙ e)))
+    ∙ sym (checked-refused (opening (args .words .now) (args .separator .now)) 1 refl (rw none (start-none (args .separator .now))))
 
-merge-requires : tie.Need-merge-requires
-unfolding opened
-merge-requires c κs = few-passed _ (passed c)
+-- what was lent, where the number is known
+words : tie.After-lower-of → List ℕ
+words c = c .before .before .before .before .before .before .before .args .words .now
+
+separator : tie.After-lower-of → List ℕ
+separator c = c .before .before .before .before .before .before .before .args .separator .now
+
+some : (c : tie.After-lower-of) → length (words c) ≢ 0
+unfolding words
+some c = λ e. omega arith
+
+number-held : (c : tie.After-lower-of) → c .before .before .pass .result .number ≡ heldAfter (words c) .number
+unfolding words
+number-held c = sym (holding-number _ _ _) ∙ ap (λ (m : Merged). m .number) (c .before .before .pass .ensures .0)
+
+number-is : (c : tie.After-lower-of) → c .lower-of .result ≡ startNumber (opening (words c) (separator c))
+unfolding words separator
+number-is c =
+    let last = c .before .before .pass .result .last in
+    c .lower-of .ensures
+    ∙ ap₂ (λ (held end : ℕ). lower held end) (number-held c) (c .before .ending-of .ensures)
+    ∙ start-by-pass (separator c) (words c) last (some c) (c .before .before .pass .ensures .1)
 
 returns-2 : tie.Need-returns-2
-unfolding opened
+unfolding words separator
 returns-2 c =
-    let at-merge = c .before .before in
-    let merge = at-merge .merge .ensures in
-    let t5 = if-refused _ (λ z. c .if2 .taken (ap (λ (m : Merged). m .number) merge ∙ z)) in
-    merge ∙ merged-refused _ t5 ∙ sym (checked-refused _ _ refl (number-5 (opened (at-merge .before)) (passed (at-merge .before)) t5))
+    let at-number = c .before .before in
+    c .refused2 .ensures
+    ∙ sym (checked-refused _ _ (ne-eqb _ 0 (c .before .if2 .taken)) (sym (number-is at-number)))
 
 returns-3 : tie.Need-returns-3
-unfolding opened
+unfolding words separator
 returns-3 c =
-    let at-row-5 = c .before .before in
-    let at-declared = at-row-5 .before .before .before in
-    c .refused2 .ensures
-    ∙ sym (checked-refused _ _ refl (number-6 (opened at-declared) (passed at-declared) (passed-5 at-row-5) (search needs)))
-
-returns-4 : tie.Need-returns-4
-unfolding opened
-returns-4 c =
-    let at-row-5 = c .before in
-    let at-declared = at-row-5 .before .before .before in
-    at-row-5 .before .before .merge .ensures
-    ∙ merged-accepted _ (passed-5 at-row-5)
-    ∙ sym (checked-accepted _ (number-0 (opened at-declared) (passed at-declared) (passed-5 at-row-5) (search needs)))
+    let at-number = c .before in
+    let accepts = sym (number-is at-number) ∙ c .if2 .left in
+    let (held, _) = lower-zero _ _ (sym (at-number .lower-of .ensures) ∙ c .if2 .left) in
+    let list = sym (holding-words _ _ _ held) ∙ at-number .before .before .pass .ensures .0 in
+    rw (c .if2 .left)
+    (list
+    ∙ words-by-pass (words at-number) (some at-number) (sym (number-held at-number) ∙ held)
+    ∙ sym (checked-accepted (opening (words at-number) (separator at-number)) accepts))
 
 pub check-spec : {M : Type 1} → statement M
 check-spec =
     tie.close
     (tie.spec
     (λ c κs. search needs)
-    (λ c κs. search needs)
     returns
-    merge-requires
-    returns-2
     (λ c κs. search needs)
-    returns-3
-    returns-4)
+    (λ c κs. search needs)
+    (λ c κs. search needs)
+    (λ c κs. search needs)
+    returns-2
+    returns-3)

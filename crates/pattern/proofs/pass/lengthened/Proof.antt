@@ -1,10 +1,10 @@
--- `pattern::merging::lengthened` meets its contract.
+-- `pattern::pass::lengthened` meets its contract.
 -- Assumes nothing.
 use native.Mathlib.Omega.{arith}
 use Rattle.words.specs.Words.{lengthOf}
 use borrow.Author.Needs.{needs}
-use Rattle.pattern.proofs.merging.lengthened.Statement.{statement}
-use Rattle.pattern.proofs.merging.lengthened.Tie as tie
+use Rattle.pattern.proofs.pass.lengthened.Statement.{statement}
+use Rattle.pattern.proofs.pass.lengthened.Tie as tie
 
 add-result : tie.Need-add-result
 unfolding lengthOf

@@ -1,4 +1,4 @@
--- `pattern::merging::add_word` meets its contract.
+-- `pattern::pass::add_word` meets its contract.
 -- Assumes nothing.
 use mathlib.Core.Path.{_∙_, sym}
 use native.Mathlib.Omega.{arith}
@@ -6,8 +6,8 @@ use borrow.Author.Tests.{not-true, not-false}
 use Rattle.words.specs.Words.{lengthOf}
 use Rattle.pattern.proofs.Answers.{first-word, other-kind, too-long, same-kind}
 use borrow.Author.Needs.{needs}
-use Rattle.pattern.proofs.merging.add_word.Statement.{statement}
-use Rattle.pattern.proofs.merging.add_word.Tie as tie
+use Rattle.pattern.proofs.pass.add_word.Statement.{statement}
+use Rattle.pattern.proofs.pass.add_word.Tie as tie
 
 returns : tie.Need-returns
 returns c = λ ws h. first-word ws _ _ _ (c .before .fits .word .fits) h (search needs) (search needs)

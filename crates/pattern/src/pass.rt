@@ -1,0 +1,147 @@
+// The pass over the declared words: each is checked and merged, and looked at once.
+use crate::MAX_WORDS;
+ghost use mathlib.Core.Path.{_≡_};
+ghost use mathlib.Core.List.{List, [], _∷_, _++_};
+ghost use Prim.Native.Nat.{ℕ, _+_, _-_, _≤_, _<_, min};
+ghost use lib.ListN.{length, getD, replicate};
+ghost use Rattle.words.specs.Words.{lengthOf};
+ghost use Rattle.pattern.specs.Steps.{Holds, Stepped, holding};
+ghost use Rattle.pattern.specs.Pass.{heldAfter, earned, lower, passStep};
+
+// What the pass holds beside the list of merged words: a number, or 0 and how many words the list has.
+struct Held {
+    number: u32,
+    count: usize,
+}
+
+// What it holds at the end, with the last word.
+pub(crate) struct Passed {
+    pub(crate) number: u32,
+    pub(crate) count: usize,
+    pub(crate) last: u32,
+}
+
+// A word with so many elements more.
+fn lengthened(word: u32, elements: u32) -> u32
+    requires { ⌜ lengthOf word + elements ≤ 2147483647 ⌝ }
+    ensures { λ r. ⌜ r ≡ word + elements ⌝ }
+{
+    word + elements
+}
+
+// One step of the pass: a word behind the words of a list. Answers how many words there are then, and 0 where a length is too long.
+fn add_word(list: &mut [u32; 64], count: usize, word: u32) -> usize
+    requires { ⌜ count < 64 ⌝ }
+    ensures { λ r. ⌜ ((ws : List ℕ) → Holds ws (now (list .entry)) count → Stepped (ws ++ (word ∷ [])) (now (list .exit)) r) ⌝ }
+{
+    if count == 0 {
+        list[count] = word;
+        return count + 1;
+    }
+    let last = list[count - 1];
+    if !words::same_kind(last, word) {
+        list[count] = word;
+        return count + 1;
+    }
+    let elements = words::length_of(word);
+    let sum = words::length_of(last) + elements;
+    if sum > words::MAX_LENGTH {
+        return 0;
+    }
+    list[count - 1] = lengthened(last, elements);
+    count
+}
+
+// The number that a word earns by itself behind n words, or 0.
+fn earned_by(n: usize, word: u32) -> u32
+    ensures { λ r. ⌜ r ≡ earned n word ⌝ }
+{
+    if n >= MAX_WORDS {
+        return basics::WORD_COUNT_OUT_OF_RANGE;
+    }
+    if words::length_of(word) == 0 {
+        return basics::WORD_LENGTH_ZERO;
+    }
+    if n > 0 {
+        return basics::ACCEPTED;
+    }
+    if words::is_absorb(word) {
+        return basics::ACCEPTED;
+    }
+    basics::FIRST_WORD_SQUEEZE
+}
+
+// The lower of two numbers, where 0 is none.
+pub(crate) fn lower_of(a: u32, b: u32) -> u32
+    ensures { λ r. ⌜ r ≡ lower a b ⌝ }
+{
+    if a == basics::ACCEPTED {
+        return b;
+    }
+    if b == basics::ACCEPTED {
+        return a;
+    }
+    if b < a {
+        return b;
+    }
+    a
+}
+
+// One word more behind n words: a number that is held stays, unless the word earns a lower one; while there is none, the word is merged.
+fn pass_word(list: &mut [u32; 64], held: Held, n: usize, word: u32) -> Held
+    requires { ⌜ (held .number ≡ 0 → held .count ≤ n) ⌝ }
+    ensures { λ r. ⌜ ((ws : List ℕ) → length ws ≡ n → holding (held .number) (now (list .entry)) (held .count) ≡ heldAfter ws
+        → holding (r .number) (now (list .exit)) (r .count) ≡ passStep n (heldAfter ws) word) ⌝ }
+{
+    let number = lower_of(held.number, earned_by(n, word));
+    if number != basics::ACCEPTED {
+        return Held { number, count: 0 };
+    }
+    let count = add_word(list, held.count, word);
+    if count == 0 {
+        return Held {
+            number: basics::MERGED_LENGTH_TOO_LONG,
+            count: 0,
+        };
+    }
+    Held {
+        number: basics::ACCEPTED,
+        count,
+    }
+}
+
+// How many of so many words the pass looks at.
+fn looked_at(count: usize) -> usize
+    ensures { λ r. ⌜ r ≡ min count 65 ⌝ }
+{
+    if count > MAX_WORDS {
+        MAX_WORDS + 1
+    } else {
+        count
+    }
+}
+
+// The pass over the words, or over the first 65 of them: the 65th settles the number. The list has to be zeros.
+pub(crate) fn pass(words: &[u32], list: &mut [u32; 64]) -> Passed
+    requires { ⌜ now list ≡ replicate 64 0 ⌝ }
+    ensures { λ r. ⌜ (holding (r .number) (now (list .exit)) (r .count) ≡ heldAfter (now (words .entry))) ×
+        (1 ≤ length (now (words .entry)) → length (now (words .entry)) ≤ 64
+        → r .last ≡ getD (now (words .entry)) (length (now (words .entry)) - 1) 0) ⌝ }
+{
+    let mut held = Held {
+        number: basics::ACCEPTED,
+        count: 0,
+    };
+    let mut last: u32 = 0;
+    let end = looked_at(words.len());
+    for i in 0..end {
+        last = words[i];
+        let next = pass_word(list, held, i, last);
+        held = next;
+    }
+    Passed {
+        number: held.number,
+        count: held.count,
+        last,
+    }
+}
