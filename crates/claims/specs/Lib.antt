@@ -6,3 +6,4 @@ pub mod ThirdDemand
 pub mod EqualLengths
 pub mod Cards
 pub mod Owners
+pub mod Pass

@@ -1,8 +1,8 @@
 -- The pass over the declared words: what it holds with one word more.
 -- Assumes nothing.
-use mathlib.Core.Path.{_≡_, refl, sym, ap, _∙_}
+use mathlib.Core.Path.{_≡_, refl, sym, ap, ap₂, _∙_}
 use mathlib.Core.Bool.{Bool, true, false, not}
-use mathlib.Core.List.{List, [], _∷_, _++_, map}
+use mathlib.Core.List.{List, [], _∷_, _++_, map, append-nil}
 use mathlib.Core.Logic.{_≢_}
 use Prim.Native.Nat.{ℕ, suc, _+_, _≤_, _<_, min}
 use native.Mathlib.Numerals.{add-one}
@@ -10,7 +10,7 @@ use native.Mathlib.Omega.{arith}
 use borrow.Author.Tests.{ltb-false, lt-ltb, le-ltb, leb-true, leb-false, le-leb, lt-leb, eqb-true, eqb-false, eq-eqb, ne-eqb}
 use lib.Dec.{leb, ltb, eqb, lit≤}
 use lib.ListN.{length, getD, take, replicate, length-append}
-use lib.Seq.{length-take-le, take-all, take-suc}
+use lib.Seq.{length-take-le, take-all, take-suc, append-snoc}
 use Rattle.basics.specs.Logic.{if_then_else_, _and_, _or_, any}
 use Rattle.basics.specs.Numbers.{accepted, wordCountOutOfRange, wordLengthZero, firstWordSqueeze, mergedLengthTooLong}
 use Rattle.basics.specs.Refusals.{_gets_⨾_, firstNumber}
@@ -19,7 +19,7 @@ use Rattle.words.specs.Words.{isAbsorb, lengthOf, Phase, phaseOf, wordOf}
 use Rattle.pattern.specs.Pattern.{merge, phases, mergedWords}
 use Rattle.pattern.specs.Opening.{tooLong, wordRows, given, withWords, answerWith}
 use Rattle.pattern.specs.Steps.{merged, mergeNumber, Holds, holding}
-use Rattle.pattern.specs.Pass.{without, passNumber, passed, passBegin, earned, lower, passStep, heldAfter}
+use Rattle.pattern.specs.Pass.{without, passNumber, passed, passBegin, earned, lower, passStep, passFrom, heldAfter}
 use Rattle.pattern.specs.declared.Merged.{Merged}
 use Rattle.pattern.proofs.Given.{answer-accepted, answer-refused}
 use Rattle.pattern.proofs.Answers.{words-used, holds-few}
@@ -463,3 +463,13 @@ held-65 ws =
     ap (λ (n : ℕ). heldAfter (take n ws)) all
     ∙ held-over (take 65 ws) (omega (arith, length-take-le 65 ws (omega arith)))
     ∙ sym (held-over ws (omega arith)))
+
+-- words one after the other
+pub pass-from : (ws vs : List ℕ) → passFrom (length ws) (heldAfter ws) vs ≡ heldAfter (ws ++ vs)
+unfolding passFrom
+pass-from ws [] = ap heldAfter (sym (append-nil ws))
+pass-from ws (v ∷ vs) =
+    let longer = length-append ws (v ∷ []) ∙ add-one (length ws) in
+    ap₂ (λ (n : ℕ) (m : Merged). passFrom n m vs) (sym longer) (step-holds ws v ∙ sym (held-some ws v))
+    ∙ pass-from (ws ++ (v ∷ [])) vs
+    ∙ ap heldAfter (append-snoc ws v vs)

@@ -57,7 +57,7 @@ pub fn check(words: &[u32], separator: &[u8]) -> Merged
         return refused(number);
     }
     Merged {
-        number,
+        number: basics::ACCEPTED,
         words: list,
         count: passed.count,
     }

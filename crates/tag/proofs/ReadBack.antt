@@ -1,30 +1,28 @@
 -- Tag strings read back: what was written is read, and what was read is written again.
 -- Assumes nothing.
 use mathlib.Core.Path.{_≡_, refl, sym, ap, ap₂, _∙_}
-use mathlib.Core.Bool.{true, false}
+use mathlib.Core.Bool.{true}
 use mathlib.Core.List.{List, [], _∷_, _++_, map}
 use mathlib.Core.Logic.{_≢_, _↔_}
 use Prim.Native.Nat.{ℕ, suc, _-_, _*_, _/_, _%_, _<_}
 use native.Mathlib.Omega.{arith}
-use borrow.Author.Tests.{ltb-false, eqb-true, eq-eqb}
+use borrow.Author.Tests.{eqb-true, eq-eqb}
 use lib.Dec.{lit<}
 use lib.ListN.{length, take, drop, length-drop, take-append-drop}
 use lib.Seq.{take-at, drop-at}
-use Rattle.basics.specs.Logic.{any}
 use Rattle.basics.specs.Lists.{tabulate, Below}
 use Rattle.basics.specs.Digits.{digits, number}
 use Rattle.basics.specs.Numbers.{accepted, notTagString}
 use Rattle.basics.proofs.Below.{below-nil, below-cons, below-head, below-tail, below-take, below-at}
-use Rattle.basics.proofs.Cases.{and-left, and-right, and-both, or-false}
+use Rattle.basics.proofs.Cases.{and-left, and-right, and-both}
 use Rattle.basics.proofs.Fill.{tabulate-cons, tabulate-same}
 use Rattle.basics.proofs.Parts.{four-bytes-below}
 use Rattle.basics.proofs.Positional.{number-digits, digits-number}
 use Rattle.words.specs.Words.{Phase, phaseOf, wordOf}
 use Rattle.pattern.specs.Pattern.{phases, mergedWords, soundWords}
-use Rattle.pattern.specs.Opening.{Opening, opening, tooLong, startNumber, withWords}
+use Rattle.pattern.specs.Opening.{Opening, opening, startNumber, withWords}
 use Rattle.tag.specs.TagString.{wordBytes, stringOf, tagString, wordAt, wordsOf, wordsPart, separatorPart, soundBytes, readNumber, readWords, wordsRead, readSeparator}
 use Rattle.pattern.specs.declared.Merged.{Merged}
-use Rattle.words.proofs.WordKinds.{word-below, phase-of-word}
 use Rattle.tag.proofs.WordBytes.{length-word-bytes}
 use Rattle.pattern.proofs.Answers.{words-used}
 use Rattle.pattern.proofs.StartCheck.{passed-rows}

@@ -8,9 +8,8 @@ use native.Mathlib.Omega.{arith}
 use borrow.Author.Tests.{ne-eqb}
 use lib.ListN.{length}
 use lib.Seq.{take-all}
-use Rattle.basics.specs.Numbers.{accepted}
-use Rattle.pattern.specs.Opening.{opening, startNumber, checked, withWords}
-use Rattle.pattern.specs.Pass.{lower, ending, heldAfter}
+use Rattle.pattern.specs.Opening.{opening, startNumber}
+use Rattle.pattern.specs.Pass.{lower, heldAfter}
 use Rattle.pattern.specs.declared.Merged.{Merged}
 use Rattle.pattern.proofs.StartCheck.{checked-refused, checked-accepted}
 use Rattle.pattern.proofs.PassStep.{holding-number, holding-words, lower-zero}
@@ -63,10 +62,9 @@ returns-3 c =
     let accepts = sym (number-is at-number) ∙ c .if2 .left in
     let (held, _) = lower-zero _ _ (sym (at-number .lower-of .ensures) ∙ c .if2 .left) in
     let list = sym (holding-words _ _ _ held) ∙ at-number .before .before .pass .ensures .0 in
-    rw (c .if2 .left)
-    (list
+    list
     ∙ words-by-pass (words at-number) (some at-number) (sym (number-held at-number) ∙ held)
-    ∙ sym (checked-accepted (opening (words at-number) (separator at-number)) accepts))
+    ∙ sym (checked-accepted (opening (words at-number) (separator at-number)) accepts)
 
 pub check-spec : {M : Type 1} → statement M
 check-spec =

@@ -1,0 +1,61 @@
+-- START's one pass over the declared words. `passStep` is what the pass does with one word: the contract of the private function that takes a word
+-- cites it. `passed ws` is what document 02, P2, has the pass hold after the words ws, and `pass ws` the steps, word by word.
+use mathlib.Core.Path.{_≡_, refl, sym}
+use mathlib.Core.List.{List, [], _∷_, _++_}
+use mathlib.Core.Logic.{_≢_}
+use Prim.Native.Nat.{ℕ, suc, _-_, _≤_, _<_}
+use native.Mathlib.Omega.{arith}
+use lib.ListN.{length, getD, take, replicate}
+use Rattle.basics.specs.Logic.{if_then_else_, _or_, same, any}
+use Rattle.basics.specs.Numbers.{wordCountOutOfRange}
+use Rattle.basics.specs.Refusals.{firstNumber}
+use Rattle.words.specs.Words.{isAbsorb, lengthOf, phaseOf}
+use Rattle.pattern.specs.Pattern.{join, merge, phases}
+use Rattle.pattern.specs.Opening.{Opening, opening, tooLong, wordRows, startNumber, withWords}
+use Rattle.pattern.specs.Pass.{without, passNumber, passed, passBegin, lower, passStep, pass, heldAfter, ending}
+use Rattle.pattern.proofs.PassStep.{step-holds, pass-from, held-over}
+use Rattle.pattern.proofs.FromPass.{start-by-pass}
+
+-- "After each word the pass holds the lowest number that the words so far earn, number 4 aside, else their merged words; this is proved.": of the
+-- first word,
+pub after-the-first-word : (w : ℕ) → passStep 0 passBegin w ≡ passed (w ∷ [])
+unfolding heldAfter
+after-the-first-word w = step-holds [] w
+
+-- of each word behind others, which may have earned a number,
+pub after-each-word : (v : ℕ) (vs : List ℕ) (w : ℕ) → passStep (length (v ∷ vs)) (passed (v ∷ vs)) w ≡ passed (v ∷ vs ++ (w ∷ []))
+unfolding heldAfter
+after-each-word v vs w = step-holds (v ∷ vs) w
+
+-- and so at every prefix of every list of words.
+pub at-every-prefix : (ws : List ℕ) (k : ℕ) → 1 ≤ k → k ≤ length ws → pass (take k ws) ≡ passed (take k ws)
+unfolding pass heldAfter
+at-every-prefix [] k h l = absurd (omega arith)
+at-every-prefix (w ∷ ws) (suc k) h l = pass-from [] (take (suc k) (w ∷ ws))
+
+-- Over 64 words it holds number 1, whatever they are, so the 65th word is the last that it looks at.
+pub number-1-over-64 : (ws : List ℕ) → 64 < length ws → passed ws ≡ withWords wordCountOutOfRange []
+unfolding heldAfter
+number-1-over-64 [] h = absurd (omega arith)
+number-1-over-64 (w ∷ ws) h = held-over (w ∷ ws) h
+
+lowest : (separator ws : List ℕ) → length ws ≢ 0
+    → startNumber (opening ws separator) ≡ lower (passed ws .number) (ending (getD ws (length ws - 1) 0) (length separator))
+unfolding heldAfter
+lowest separator [] some = absurd (some refl)
+lowest separator (w ∷ ws) some = sym (start-by-pass separator (w ∷ ws) _ some (λ _ _. refl))
+
+-- "The lowest applicable number still wins, even when a later word is the one at fault.": the start check's number is the lower of the one that
+-- the pass holds at the end and of 4, by the last word, or 6, by the separator. So 4 comes before a 5 that is held.
+pub lowest-number-wins : (o : Opening) → length (o .words) ≢ 0
+    → startNumber o ≡ lower (passed (o .words) .number) (ending (getD (o .words) (length (o .words) - 1) 0) (length (o .separator)))
+lowest-number-wins o = lowest (o .separator) (o .words)
+
+-- A 5 is held, then a word of length 0 gives 2; and a 3 is held, then a 65th word gives 1.
+pub later-words-at-fault :
+    (_≡_ {A = ℕ} (passNumber (0xffffffff ∷ 0xffffffff ∷ [])) 5)
+    × (_≡_ {A = ℕ} (passNumber (0xffffffff ∷ 0xffffffff ∷ 0x80000000 ∷ [])) 2)
+    × (_≡_ {A = ℕ} (passNumber (replicate 64 3)) 3)
+    × (_≡_ {A = ℕ} (passNumber (replicate 65 3)) 1)
+unfolding without passNumber tooLong wordRows join merge phases isAbsorb lengthOf phaseOf firstNumber if_then_else_ _or_ same any
+later-words-at-fault = (refl, refl, refl, refl)
