@@ -8,16 +8,16 @@ use Prim.Native.Nat.{ℕ, _+_, _-_, _≤_, _<_}
 use native.Mathlib.Omega.{arith}
 use lib.ListN.{length, getD, take, set, replicate, length-append, length-set, List·getD-append}
 use lib.Seq.{take-append-seam, set-append-left}
-use Rattle.basics.specs.Logic.{if_then_else_, same, any}
-use Rattle.basics.specs.Numbers.{accepted, mergedLengthTooLong}
+use Rattle.basics.specs.Logic.{same, any}
+use Rattle.basics.specs.Numbers.{accepted}
 use Rattle.basics.proofs.Cases.{cases}
 use Rattle.basics.proofs.Zeros.{push-number}
 use Rattle.words.specs.Words.{isAbsorb, lengthOf}
-use Rattle.pattern.specs.Pattern.{merge, phases, mergedWords}
-use Rattle.pattern.specs.Opening.{tooLong, given, withWords, answerWith}
-use Rattle.pattern.specs.Steps.{mergeNumber, merged, Holds, Stepped}
+use Rattle.pattern.specs.Pattern.{phases, mergedWords}
+use Rattle.pattern.specs.Opening.{tooLong, withWords}
+use Rattle.pattern.specs.Steps.{merged, Holds, Stepped}
 use Rattle.pattern.specs.declared.Merged.{Merged}
-use Rattle.pattern.proofs.MergeStep.{stays-too-long, merged-refused, merged-accepted, merged-words-length, lastWord, step-first, step-other-kind, step-too-long, step-same-kind}
+use Rattle.pattern.proofs.MergeStep.{merged-refused, merged-accepted, merged-words-length, lastWord, step-first, step-other-kind, step-too-long, step-same-kind}
 
 -- an answer with another word at a place, and another count
 abbrev changed : Merged → ℕ → ℕ → ℕ → Merged
@@ -62,23 +62,7 @@ unfolding withWords
 if-accepted ws e =
     cases (any tooLong (phases ws)) (λ t. absurd (omega (arith, e, ap (λ (m : Merged). m .number) (merged-refused ws t)))) λ f. f
 
-pub if-refused : (ws : List ℕ) → merged ws .number ≢ 0 → any tooLong (phases ws) ≡ true
-unfolding withWords
-if-refused ws e =
-    cases (any tooLong (phases ws)) (λ t. t) λ f. absurd (e (ap (λ (m : Merged). m .number) (merged-accepted ws f)))
-
--- a merged length that is too long stays so
-pub merged-stays : (ws vs : List ℕ) → merged ws ≡ withWords mergedLengthTooLong [] → merged (ws ++ vs) ≡ withWords mergedLengthTooLong []
-unfolding withWords
-merged-stays ws vs e =
-    let long = if-refused ws (λ z. omega (arith, z, ap (λ (m : Merged). m .number) e)) in
-    merged-refused (ws ++ vs) (stays-too-long ws vs long)
-
 -- ---- a list that holds merged words
-
-pub holds-none : Holds [] (replicate 64 0) 0
-unfolding merged mergeNumber mergedWords phases merge answerWith given withWords any if_then_else_
-holds-none = record { holds = refl }
 
 module _ (ws list : List ℕ) (count : ℕ) (h : Holds ws list count) where
   fine : any tooLong (phases ws) ≡ false
