@@ -1,20 +1,33 @@
 -- START's one pass over the declared words. `passStep` is what the pass does with one word: the contract of the private function that takes a word
 -- cites it. `passed ws` is what document 02, P2, has the pass hold after the words ws, and `pass ws` the steps, word by word.
 use mathlib.Core.Path.{_≡_, refl, sym}
+use mathlib.Core.Bool.{not}
 use mathlib.Core.List.{List, [], _∷_, _++_}
 use mathlib.Core.Logic.{_≢_}
 use Prim.Native.Nat.{ℕ, suc, _-_, _≤_, _<_}
 use native.Mathlib.Omega.{arith}
+use lib.Dec.{ltb, eqb}
 use lib.ListN.{length, getD, take, replicate}
 use Rattle.basics.specs.Logic.{if_then_else_, _or_, same, any}
-use Rattle.basics.specs.Numbers.{wordCountOutOfRange}
-use Rattle.basics.specs.Refusals.{firstNumber}
+use Rattle.basics.specs.Numbers.{wordCountOutOfRange, wordLengthZero, firstWordSqueeze, mergedLengthTooLong}
+use Rattle.basics.specs.Refusals.{_gets_⨾_, firstNumber}
 use Rattle.words.specs.Words.{isAbsorb, lengthOf, phaseOf}
 use Rattle.pattern.specs.Pattern.{join, merge, phases}
 use Rattle.pattern.specs.Opening.{Opening, opening, tooLong, wordRows, startNumber, withWords}
 use Rattle.pattern.specs.Pass.{without, passNumber, passed, passBegin, lower, passStep, pass, heldAfter, ending}
 use Rattle.pattern.proofs.PassStep.{step-holds, pass-from, held-over}
 use Rattle.pattern.proofs.FromPass.{start-by-pass}
+
+-- "the lowest number that the words so far earn, number 4 aside": the first that applies of 1, 2, 3 and 5, which is the lowest.
+pub numbers-of-the-pass : (ws : List ℕ) → passNumber ws
+    ≡ firstNumber
+    (eqb (length ws) 0 or ltb 64 (length ws) gets wordCountOutOfRange ⨾
+    any (λ w. eqb (lengthOf w) 0) ws gets wordLengthZero ⨾
+    not (isAbsorb (getD ws 0 0)) gets firstWordSqueeze ⨾
+    any tooLong (phases ws) gets mergedLengthTooLong ⨾
+    [])
+unfolding passNumber without wordRows if_then_else_
+numbers-of-the-pass ws = refl
 
 -- "After each word the pass holds the lowest number that the words so far earn, number 4 aside, else their merged words; this is proved.": of the
 -- first word,

@@ -15,7 +15,8 @@ use Rattle.basics.proofs.Zeros.{push-number}
 use Rattle.words.specs.Words.{isAbsorb, lengthOf}
 use Rattle.pattern.specs.Pattern.{phases, mergedWords}
 use Rattle.pattern.specs.Opening.{tooLong, withWords}
-use Rattle.pattern.specs.Steps.{merged, Holds, Stepped}
+use Rattle.pattern.specs.Steps.{Holds, Stepped}
+use Rattle.pattern.specs.Pass.{merged}
 use Rattle.pattern.specs.declared.Merged.{Merged}
 use Rattle.pattern.proofs.MergeStep.{merged-refused, merged-accepted, merged-words-length, lastWord, step-first, step-other-kind, step-too-long, step-same-kind}
 

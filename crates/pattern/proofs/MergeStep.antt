@@ -15,7 +15,7 @@ use Rattle.basics.proofs.Cases.{by, if-true, if-false, or-false, or-end, or-eit
 use Rattle.words.specs.Words.{isAbsorb, lengthOf, Phase, phaseOf, wordOf}
 use Rattle.pattern.specs.Pattern.{join, merge, phases, mergedWords}
 use Rattle.pattern.specs.Opening.{tooLong, withWords}
-use Rattle.pattern.specs.Steps.{mergeNumber, merged}
+use Rattle.pattern.specs.Pass.{mergeNumber, merged}
 use Rattle.pattern.proofs.Given.{answer-accepted, answer-refused}
 use Rattle.words.proofs.WordKinds.{word-kind, word-length, word-longer, word-of-phase, length-below}
 

@@ -18,8 +18,8 @@ use Rattle.basics.proofs.Cases.{by, cases, and-stop, if-true, if-false, or-righ
 use Rattle.words.specs.Words.{isAbsorb, lengthOf, Phase, phaseOf, wordOf}
 use Rattle.pattern.specs.Pattern.{merge, phases, mergedWords}
 use Rattle.pattern.specs.Opening.{tooLong, wordRows, given, withWords, answerWith}
-use Rattle.pattern.specs.Steps.{merged, mergeNumber, Holds, holding}
-use Rattle.pattern.specs.Pass.{without, passNumber, passed, passBegin, earned, lower, passStep, passFrom, heldAfter}
+use Rattle.pattern.specs.Steps.{Holds, holding}
+use Rattle.pattern.specs.Pass.{merged, mergeNumber, without, passNumber, passed, passBegin, earned, lower, passStep, passFrom, heldAfter}
 use Rattle.pattern.specs.declared.Merged.{Merged}
 use Rattle.pattern.proofs.Given.{answer-accepted, answer-refused}
 use Rattle.pattern.proofs.Answers.{words-used, holds-few}

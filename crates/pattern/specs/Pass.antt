@@ -4,13 +4,12 @@ use mathlib.Core.List.{List, [], _∷_, _++_}
 use Prim.Native.Nat.{ℕ, suc}
 use lib.Dec.{leb, ltb, eqb}
 use lib.ListN.{take}
-use Rattle.basics.specs.Logic.{if_then_else_, _and_}
-use Rattle.basics.specs.Numbers.{accepted, wordCountOutOfRange, wordLengthZero, firstWordSqueeze, lastWordAbsorb, separatorTooLong}
+use Rattle.basics.specs.Logic.{if_then_else_, _and_, any}
+use Rattle.basics.specs.Numbers.{accepted, wordCountOutOfRange, wordLengthZero, firstWordSqueeze, lastWordAbsorb, mergedLengthTooLong, separatorTooLong}
 use Rattle.basics.specs.Refusals.{Row, _gets_⨾_, firstNumber}
 use Rattle.words.specs.Words.{isAbsorb, lengthOf}
-use Rattle.pattern.specs.Pattern.{maxWords, mergedWords}
-use Rattle.pattern.specs.Opening.{maxSeparator, wordRows, withWords, answerWith}
-use Rattle.pattern.specs.Steps.{merged}
+use Rattle.pattern.specs.Pattern.{maxWords, phases, mergedWords}
+use Rattle.pattern.specs.Opening.{maxSeparator, tooLong, wordRows, withWords, answerWith}
 use Rattle.pattern.specs.declared.Merged.{Merged}
 
 -- the rows of a table but those of one number
@@ -29,6 +28,14 @@ passed ws = answerWith (passNumber ws) (mergedWords ws)
 -- what it holds before the first word: no number, and no words
 abbrev pub passBegin : Merged
 passBegin = withWords accepted []
+
+-- the row 5 of the start check alone
+unfoldable pub mergeNumber : List ℕ → ℕ
+mergeNumber ws = if any tooLong (phases ws) then mergedLengthTooLong else accepted
+
+-- number 5, or the merged words
+unfoldable pub merged : List ℕ → Merged
+merged ws = answerWith (mergeNumber ws) (mergedWords ws)
 
 -- the number that a word earns by itself behind n words
 unfoldable pub earned : ℕ → ℕ → ℕ

@@ -4,19 +4,11 @@ use mathlib.Core.List.{List, []}
 use mathlib.Core.Logic.{_≢_}
 use Prim.Native.Nat.{ℕ}
 use lib.Dec.{eqb}
-use Rattle.basics.specs.Logic.{if_then_else_, any}
+use Rattle.basics.specs.Logic.{if_then_else_}
 use Rattle.basics.specs.Numbers.{accepted, mergedLengthTooLong}
-use Rattle.pattern.specs.Pattern.{phases, mergedWords}
-use Rattle.pattern.specs.Opening.{tooLong, withWords, answerWith}
+use Rattle.pattern.specs.Opening.{withWords}
+use Rattle.pattern.specs.Pass.{merged}
 use Rattle.pattern.specs.declared.Merged.{Merged}
-
--- the row 5 of the start check alone
-unfoldable pub mergeNumber : List ℕ → ℕ
-mergeNumber ws = if any tooLong (phases ws) then mergedLengthTooLong else accepted
-
--- number 5, or the merged words
-unfoldable pub merged : List ℕ → Merged
-merged ws = answerWith (mergeNumber ws) (mergedWords ws)
 
 -- a list of 64 places holds the merged words of ws, which are so many
 pub record Holds (ws list : List ℕ) (count : ℕ) : Type 0 where

@@ -6,8 +6,8 @@ use Prim.Native.Nat.{ℕ}
 use native.Mathlib.Omega.{arith}
 use lib.ListN.{length}
 use Rattle.basics.specs.Numbers.{accepted}
-use Rattle.pattern.specs.Steps.{merged, Stepped, holding}
-use Rattle.pattern.specs.Pass.{earned, lower, passStep, heldAfter}
+use Rattle.pattern.specs.Steps.{Stepped, holding}
+use Rattle.pattern.specs.Pass.{merged, earned, lower, passStep, heldAfter}
 use Rattle.pattern.specs.declared.Merged.{Merged}
 use Rattle.pattern.proofs.PassStep.{step-number, step-holds, lower-zero, earned-few, holding-number, holding-words, holding-refused, holding-holds, merges-more}
 use borrow.Author.Needs.{needs}
