@@ -102,6 +102,14 @@ def write_cases():
         if number % 7 == 0:
             words[random.randrange(len(words))] &= ABSORB
         yield words, separator(random.choice([0, 1, 2, 8, 31])), random.choice([-1, 0, 0, 0, 1, 4])
+    # numbers that later words lower, word by word: 5 then 2, 3 then 2, 5 then 4 and not, and 1 behind each
+    for words in (long + [0], [1, 0], long + [1, ABSORB + 1, ABSORB], [1] + long + [0, 1], [ABSORB + 1, 1, ABSORB + 1] + long + [2, ABSORB + 3, 0]):
+        for end in range(1, len(words)):
+            yield words[:end], b"", 4
+    for first in ([1], long, [ABSORB, 1], [ABSORB + 1]):
+        for count in (64, 65):
+            yield (first + [2, ABSORB + 1] * 33)[:count], b"", 4
+            yield (first + [2, ABSORB + 1] * 33)[:count], separator(257), 4
 
 
 def read_cases():

@@ -29,7 +29,7 @@ fn lengthened(word: u32, elements: u32) -> u32
     word + elements
 }
 
-// One step of the pass: a word behind the words of a list. Answers how many words there are then, and 0 where a length is too long.
+// A word merged behind the words of a list. Answers how many words there are then, and 0 where a length is too long.
 fn add_word(list: &mut [u32; 64], count: usize, word: u32) -> usize
     requires { ⌜ count < 64 ⌝ }
     ensures { λ r. ⌜ ((ws : List ℕ) → Holds ws (now (list .entry)) count → Stepped (ws ++ (word ∷ [])) (now (list .exit)) r) ⌝ }
