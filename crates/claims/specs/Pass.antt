@@ -1,21 +1,25 @@
 -- START's one pass over the declared words. `passStep` is what the pass does with one word: the contract of the private function that takes a word
 -- cites it. `passed ws` is what document 02, P2, has the pass hold after the words ws, and `pass ws` the steps, word by word.
-use mathlib.Core.Path.{_≡_, refl, sym}
+use mathlib.Core.Path.{_≡_, refl, sym, _∙_}
 use mathlib.Core.Bool.{not}
 use mathlib.Core.List.{List, [], _∷_, _++_}
 use mathlib.Core.Logic.{_≢_}
 use Prim.Native.Nat.{ℕ, suc, _-_, _≤_, _<_}
 use native.Mathlib.Omega.{arith}
+use borrow.Author.Tests.{eqb-false, ne-eqb}
 use lib.Dec.{ltb, eqb}
 use lib.ListN.{length, getD, take, replicate}
 use Rattle.basics.specs.Logic.{if_then_else_, _or_, same, any}
-use Rattle.basics.specs.Numbers.{wordCountOutOfRange, wordLengthZero, firstWordSqueeze, mergedLengthTooLong}
+use Rattle.basics.specs.Numbers.{accepted, wordCountOutOfRange, wordLengthZero, firstWordSqueeze, mergedLengthTooLong}
 use Rattle.basics.specs.Refusals.{_gets_⨾_, firstNumber}
 use Rattle.words.specs.Words.{isAbsorb, lengthOf, phaseOf}
-use Rattle.pattern.specs.Pattern.{join, merge, phases}
-use Rattle.pattern.specs.Opening.{Opening, opening, tooLong, wordRows, startNumber, withWords}
+use Rattle.pattern.specs.Pattern.{join, merge, phases, mergedWords}
+use Rattle.pattern.specs.Opening.{Opening, opening, tooLong, wordRows, startNumber, withWords, answerWith, checked}
 use Rattle.pattern.specs.Pass.{without, passNumber, passed, passBegin, lower, passStep, pass, heldAfter, ending}
-use Rattle.pattern.proofs.PassStep.{step-holds, pass-from, held-over}
+use Rattle.basics.proofs.Cases.{or-false}
+use Rattle.pattern.proofs.Given.{answer-accepted, answer-refused}
+use Rattle.pattern.proofs.StartCheck.{passed-rows, checked-accepted}
+use Rattle.pattern.proofs.PassStep.{step-holds, pass-from, held-over, lower-zero}
 use Rattle.pattern.proofs.FromPass.{start-by-pass}
 
 -- "the lowest number that the words so far earn, number 4 aside": the first that applies of 1, 2, 3 and 5, which is the lowest.
@@ -46,6 +50,15 @@ unfolding pass heldAfter
 at-every-prefix [] k h l = absurd (omega arith)
 at-every-prefix (w ∷ ws) (suc k) h l = pass-from [] (take (suc k) (w ∷ ws))
 
+-- With a number it holds no words, and without one the merged words.
+pub number-without-words : (ws : List ℕ) → passed ws .number ≢ accepted → passed ws ≡ withWords (passed ws .number) []
+unfolding passed answerWith withWords
+number-without-words ws n = answer-refused (passNumber ws) (passNumber ws) (mergedWords ws) refl (ne-eqb _ _ n)
+
+pub else-merged-words : (ws : List ℕ) → passed ws .number ≡ accepted → passed ws ≡ withWords accepted (mergedWords ws)
+unfolding passed answerWith withWords
+else-merged-words ws e = answer-accepted (passNumber ws) (mergedWords ws) e
+
 -- Over 64 words it holds number 1, whatever they are, so the 65th word is the last that it looks at.
 pub number-1-over-64 : (ws : List ℕ) → 64 < length ws → passed ws ≡ withWords wordCountOutOfRange []
 unfolding heldAfter
@@ -63,6 +76,13 @@ lowest separator (w ∷ ws) some = sym (start-by-pass separator (w ∷ ws) _ som
 pub lowest-number-wins : (o : Opening) → length (o .words) ≢ 0
     → startNumber o ≡ lower (passed (o .words) .number) (ending (getD (o .words) (length (o .words) - 1) 0) (length (o .separator)))
 lowest-number-wins o = lowest (o .separator) (o .words)
+
+-- And an opening that START accepts gets what the pass holds.
+pub accepted-gets-what-is-held : (o : Opening) → startNumber o ≡ accepted → checked o ≡ passed (o .words)
+accepted-gets-what-is-held o e =
+    let some : length (o .words) ≢ 0 = eqb-false _ 0 (or-false _ _ (passed-rows o e .of-words .e1) .0) in
+    let (none, _) = lower-zero _ _ (sym (lowest-number-wins o some) ∙ e) in
+    checked-accepted o e ∙ sym (else-merged-words (o .words) none)
 
 -- A 5 is held, then a word of length 0 gives 2; and a 3 is held, then a 65th word gives 1.
 pub later-words-at-fault :

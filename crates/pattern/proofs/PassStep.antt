@@ -336,16 +336,16 @@ step-holds ws w =
 
 module _ (number count : ℕ) (list : List ℕ) where
   pub holding-number : holding number list count .number ≡ number
-  unfolding holding withWords
-  holding-number = by (λ (m : Merged). m .number ≡ number) (eqb number accepted) _ _ (λ e. sym (eqb-true number accepted e)) (λ _. refl)
+  unfolding holding
+  holding-number = refl
 
   pub holding-words : number ≡ accepted → holding number list count ≡ record { number = accepted; words = list; count = count }
   unfolding holding
-  holding-words e = if-true _ _ _ (eq-eqb _ _ e)
+  holding-words e = λ i. record { number = e i; words = if-true _ list (replicate 64 0) (eq-eqb _ _ e) i; count = count }
 
-  pub holding-refused : number ≢ accepted → holding number list count ≡ withWords number []
-  unfolding holding
-  holding-refused n = if-false _ _ _ (ne-eqb _ _ n)
+  pub holding-refused : number ≢ accepted → count ≡ 0 → holding number list count ≡ withWords number []
+  unfolding holding withWords
+  holding-refused n z = λ i. record { number = number; words = if-false _ list (replicate 64 0) (ne-eqb _ _ n) i; count = z i }
 
 -- ---- where no number is held and none is earned
 

@@ -51,7 +51,8 @@ pub fn check(words: &[u32], separator: &[u8]) -> Merged
         return refused(basics::WORD_COUNT_OUT_OF_RANGE);
     }
     let mut list = [0u32; 64];
-    let passed = pass::pass(words, &mut list);
+    let count = pass::looked_at(words.len());
+    let passed = pass::pass(&words[..count], &mut list);
     let number = pass::lower_of(passed.number, ending_of(passed.last, separator.len()));
     if number != basics::ACCEPTED {
         return refused(number);

@@ -2,6 +2,7 @@
 use crate::MAX_WORDS;
 ghost use mathlib.Core.Path.{_≡_};
 ghost use mathlib.Core.List.{List, [], _∷_, _++_};
+ghost use mathlib.Core.Logic.{_≢_};
 ghost use Prim.Native.Nat.{ℕ, _+_, _-_, _≤_, _<_, min};
 ghost use lib.ListN.{length, getD, replicate};
 ghost use Rattle.words.specs.Words.{lengthOf};
@@ -32,7 +33,8 @@ fn lengthened(word: u32, elements: u32) -> u32
 // A word merged behind the words of a list. Answers how many words there are then, and 0 where a length is too long.
 fn add_word(list: &mut [u32; 64], count: usize, word: u32) -> usize
     requires { ⌜ count < 64 ⌝ }
-    ensures { λ r. ⌜ ((ws : List ℕ) → Holds ws (now (list .entry)) count → Stepped (ws ++ (word ∷ [])) (now (list .exit)) r) ⌝ }
+    ensures { λ r. ⌜ ((ws : List ℕ) → Holds ws (now (list .entry)) count → Stepped (ws ++ (word ∷ [])) (now (list .exit)) r) ×
+        (r ≡ 0 → now (list .exit) ≡ now (list .entry)) ⌝ }
 {
     if count == 0 {
         list[count] = word;
@@ -91,7 +93,8 @@ pub(crate) fn lower_of(a: u32, b: u32) -> u32
 fn pass_word(list: &mut [u32; 64], held: Held, n: usize, word: u32) -> Held
     requires { ⌜ (held .number ≡ 0 → held .count ≤ n) ⌝ }
     ensures { λ r. ⌜ ((ws : List ℕ) → length ws ≡ n → holding (held .number) (now (list .entry)) (held .count) ≡ heldAfter ws
-        → holding (r .number) (now (list .exit)) (r .count) ≡ passStep n (heldAfter ws) word) ⌝ }
+        → holding (r .number) (now (list .exit)) (r .count) ≡ passStep n (heldAfter ws) word) ×
+        (r .number ≢ 0 → now (list .exit) ≡ now (list .entry)) ⌝ }
 {
     let number = lower_of(held.number, earned_by(n, word));
     if number != basics::ACCEPTED {
@@ -110,8 +113,8 @@ fn pass_word(list: &mut [u32; 64], held: Held, n: usize, word: u32) -> Held
     }
 }
 
-// How many of so many words the pass looks at.
-fn looked_at(count: usize) -> usize
+// How many of so many words the pass looks at: the 65th settles the number.
+pub(crate) fn looked_at(count: usize) -> usize
     ensures { λ r. ⌜ r ≡ min count 65 ⌝ }
 {
     if count > MAX_WORDS {
@@ -121,20 +124,18 @@ fn looked_at(count: usize) -> usize
     }
 }
 
-// The pass over the words, or over the first 65 of them: the 65th settles the number. The list has to be zeros.
+// The pass over the words, of which there are 65 at most. The list has to be zeros.
 pub(crate) fn pass(words: &[u32], list: &mut [u32; 64]) -> Passed
-    requires { ⌜ now list ≡ replicate 64 0 ⌝ }
+    requires { ⌜ (length (now words) ≤ 65) × (now list ≡ replicate 64 0) ⌝ }
     ensures { λ r. ⌜ (holding (r .number) (now (list .exit)) (r .count) ≡ heldAfter (now (words .entry))) ×
-        (1 ≤ length (now (words .entry)) → length (now (words .entry)) ≤ 64
-        → r .last ≡ getD (now (words .entry)) (length (now (words .entry)) - 1) 0) ⌝ }
+        (1 ≤ length (now (words .entry)) → r .last ≡ getD (now (words .entry)) (length (now (words .entry)) - 1) 0) ⌝ }
 {
     let mut held = Held {
         number: basics::ACCEPTED,
         count: 0,
     };
     let mut last: u32 = 0;
-    let end = looked_at(words.len());
-    for i in 0..end {
+    for i in 0..words.len() {
         last = words[i];
         let next = pass_word(list, held, i, last);
         held = next;

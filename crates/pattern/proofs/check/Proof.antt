@@ -3,17 +3,18 @@
 use mathlib.Core.Path.{_≡_, refl, sym, ap, ap₂, _∙_}
 use mathlib.Core.List.{List, []}
 use mathlib.Core.Logic.{_≢_}
-use Prim.Native.Nat.{ℕ}
+use Prim.Native.Nat.{ℕ, _≤_, min}
 use native.Mathlib.Omega.{arith}
 use borrow.Author.Tests.{ne-eqb}
-use lib.ListN.{length}
-use lib.Seq.{take-all}
+use lib.ListN.{length, take}
+use lib.Seq.{length-take-le, take-all}
 use Rattle.pattern.specs.Opening.{opening, startNumber}
+use Rattle.pattern.specs.Steps.{holding}
 use Rattle.pattern.specs.Pass.{lower, heldAfter}
 use Rattle.pattern.specs.declared.Merged.{Merged}
 use Rattle.pattern.proofs.StartCheck.{checked-refused, checked-accepted}
-use Rattle.pattern.proofs.PassStep.{holding-number, holding-words, lower-zero}
-use Rattle.pattern.proofs.FromPass.{start-none, start-by-pass, words-by-pass}
+use Rattle.pattern.proofs.PassStep.{held-65, holding-number, holding-words, lower-zero}
+use Rattle.pattern.proofs.FromPass.{lastOf, start-none, start-by-pass, words-by-pass}
 use borrow.Author.Needs.{needs}
 use Rattle.pattern.proofs.check.Statement.{statement}
 use Rattle.pattern.proofs.check.Tie as tie
@@ -25,20 +26,45 @@ returns c =
     c .refused .ensures
     ∙ sym (checked-refused (opening (args .words .now) (args .separator .now)) 1 refl (rw none (start-none (args .separator .now))))
 
+slice-aggregate-pass : tie.Need-slice-aggregate-pass
+slice-aggregate-pass c = sym (length-take-le _ _ (omega (arith, c .before .looked-at .ensures)))
+
+pass-requires : tie.Need-pass-requires
+pass-requires c κs =
+    let words = c .before .before .before .before .before .before .args .words .now in
+    let looked = c .before .before .looked-at .ensures in
+    (omega (arith, looked, length-take-le (c .before .before .looked-at .result) words (omega (arith, looked))), search needs)
+
 -- what was lent, where the number is known
 words : tie.After-lower-of → List ℕ
-words c = c .before .before .before .before .before .before .before .args .words .now
+words c = c .before .before .before .before .before .before .before .before .before .args .words .now
 
 separator : tie.After-lower-of → List ℕ
-separator c = c .before .before .before .before .before .before .before .args .separator .now
+separator c = c .before .before .before .before .before .before .before .before .before .args .separator .now
 
 some : (c : tie.After-lower-of) → length (words c) ≢ 0
 unfolding words
 some c = λ e. omega arith
 
+-- the pass gets 65 words at most, which tell
+looked : (c : tie.After-lower-of) → c .before .before .before .before .before .looked-at .result ≡ min (length (words c)) 65
+unfolding words
+looked c = c .before .before .before .before .before .looked-at .ensures
+
+pass-held : (c : tie.After-lower-of) → holding (c .before .before .pass .result .number) (c .before .before .pass .last .1 .0) (c .before .before .pass .result .count) ≡ heldAfter (words c)
+unfolding words
+pass-held c = c .before .before .pass .ensures .0 ∙ ap (λ (n : ℕ). heldAfter (take n (words c))) (looked c) ∙ held-65 (words c)
+
+last-held : (c : tie.After-lower-of) → 1 ≤ length (words c) → length (words c) ≤ 64
+    → c .before .before .pass .result .last ≡ lastOf (words c)
+unfolding words
+last-held c some few =
+    let all = take-all (c .before .before .before .before .before .looked-at .result) (words c) (omega (arith, looked c)) in
+    c .before .before .pass .ensures .1 (rw all some) ∙ ap lastOf all
+
 number-held : (c : tie.After-lower-of) → c .before .before .pass .result .number ≡ heldAfter (words c) .number
 unfolding words
-number-held c = sym (holding-number _ _ _) ∙ ap (λ (m : Merged). m .number) (c .before .before .pass .ensures .0)
+number-held c = sym (holding-number _ _ _) ∙ ap (λ (m : Merged). m .number) (pass-held c)
 
 number-is : (c : tie.After-lower-of) → c .lower-of .result ≡ startNumber (opening (words c) (separator c))
 unfolding words separator
@@ -46,7 +72,7 @@ number-is c =
     let last = c .before .before .pass .result .last in
     c .lower-of .ensures
     ∙ ap₂ (λ (held end : ℕ). lower held end) (number-held c) (c .before .ending-of .ensures)
-    ∙ start-by-pass (separator c) (words c) last (some c) (c .before .before .pass .ensures .1)
+    ∙ start-by-pass (separator c) (words c) last (some c) (last-held c)
 
 returns-2 : tie.Need-returns-2
 unfolding words separator
@@ -61,7 +87,7 @@ returns-3 c =
     let at-number = c .before in
     let accepts = sym (number-is at-number) ∙ c .if2 .left in
     let (held, _) = lower-zero _ _ (sym (at-number .lower-of .ensures) ∙ c .if2 .left) in
-    let list = sym (holding-words _ _ _ held) ∙ at-number .before .before .pass .ensures .0 in
+    let list = sym (holding-words _ _ _ held) ∙ pass-held at-number in
     list
     ∙ words-by-pass (words at-number) (some at-number) (sym (number-held at-number) ∙ held)
     ∙ sym (checked-accepted (opening (words at-number) (separator at-number)) accepts)
@@ -73,6 +99,8 @@ check-spec =
     (λ c κs. search needs)
     returns
     (λ c κs. search needs)
+    slice-aggregate-pass
+    pass-requires
     (λ c κs. search needs)
     (λ c κs. search needs)
     (λ c κs. search needs)

@@ -2,59 +2,57 @@
 -- Assumes nothing.
 use mathlib.Core.Path.{_≡_, sym, ap, _∙_}
 use mathlib.Core.List.{List}
-use Prim.Native.Nat.{ℕ, _+_, _-_, _≤_, min}
+use Prim.Native.Nat.{ℕ, _+_, _-_, _≤_}
 use native.Mathlib.Omega.{arith}
 use lib.ListN.{length, getD, take}
-use lib.Seq.{length-take-le}
+use lib.Seq.{length-take-le, take-all}
 use Rattle.pattern.specs.Steps.{holding}
 use Rattle.pattern.specs.Pass.{heldAfter}
-use Rattle.pattern.proofs.PassStep.{begins, next-word, held-65, holding-few}
+use Rattle.pattern.proofs.PassStep.{begins, next-word, holding-few}
 use borrow.Author.Needs.{needs}
 use Rattle.pattern.proofs.pass.pass.Statement.{statement}
 use Rattle.pattern.proofs.pass.pass.Tie as tie
 
 abbrev Inv-loop : tie.InvT-loop
 Inv-loop words list₀ held₀ last₀ end i₀ list held last i =
-    (i ≤ min (length words) 65)
+    (i ≤ length words)
     × (holding (held .number) list (held .count) ≡ heldAfter (take i words))
     × (1 ≤ i → last ≡ getD words (i - 1) 0)
 
 abbrev μ-loop : tie.MeasureT-loop
-μ-loop words list₀ held₀ last₀ end i₀ list held last i = min (length words) 65 - i
+μ-loop words list₀ held₀ last₀ end i₀ list held last i = length words - i
 
 loop-holds : tie.Need-loop-holds Inv-loop μ-loop
 loop-holds c = (
   search needs,
-  ap (λ (l : List ℕ). holding 0 l 0) (c .before .before .pre) ∙ begins,
+  ap (λ (l : List ℕ). holding 0 l 0) (c .before .pre .1) ∙ begins,
   λ h. absurd (omega arith),
 )
 
 pass-word-requires : tie.Need-pass-word-requires Inv-loop μ-loop
 pass-word-requires c κs =
     let loop = c .before .before .before .loop in
-    let words = c .before .before .before .before .before .before .args .words .now in
+    let words = c .before .before .before .before .before .args .words .now in
     λ e. omega (arith, holding-few (take (loop .i) words) _ _ _ (loop .inv .1) e, length-take-le (loop .i) words (omega arith))
 
 loop-again : tie.Need-loop-again Inv-loop μ-loop
 loop-again c =
     let loop = c .before .before .before .before .loop in
-    let words = c .before .before .before .before .before .before .before .args .words .now in
+    let words = c .before .before .before .before .before .before .args .words .now in
     let i = loop .i in
     let place : i + 1 - 1 ≡ i = omega arith in (
       search needs,
-      c .pass-word .ensures (take i words) (length-take-le i words (omega arith)) (loop .inv .1) ∙ next-word words i (omega arith),
+      c .pass-word .ensures .0 (take i words) (length-take-le i words (omega arith)) (loop .inv .1) ∙ next-word words i (omega arith),
       λ _. ap (λ (k : ℕ). getD words k 0) (sym place),
     )
 
 returns : tie.Need-returns Inv-loop μ-loop
 returns c =
     let loop = c .before .loop in
-    let words = c .before .before .before .before .args .words .now in
-    let end : loop .i ≡ min (length words) 65 = omega (arith, c .before .before .looked-at .ensures) in (
-      loop .inv .1 ∙ ap (λ (n : ℕ). heldAfter (take n words)) end ∙ held-65 words,
-      λ some few.
-          let all : loop .i ≡ length words = omega arith in
-          loop .inv .2 (omega arith) ∙ ap (λ (n : ℕ). getD words (n - 1) 0) all,
+    let words = c .before .before .before .args .words .now in
+    let all : loop .i ≡ length words = omega arith in (
+      loop .inv .1 ∙ ap heldAfter (take-all (loop .i) words (omega arith)),
+      λ some. loop .inv .2 (omega arith) ∙ ap (λ (n : ℕ). getD words (n - 1) 0) all,
     )
 
 pub pass-spec : {M : Type 1} → statement M
@@ -63,7 +61,6 @@ pass-spec =
     (tie.spec
     Inv-loop
     μ-loop
-    (λ c κs. search needs)
     loop-holds
     (λ c. search needs)
     (λ c. search needs)

@@ -23,13 +23,15 @@ kept c ws e h =
     c .lower-of .ensures ∙ rw (held, e) (ap (lower (heldAfter ws .number)) (c .before .earned-by .ensures))
 
 returns : tie.Need-returns
-returns c =
-    λ ws e h.
-    let w = c .before .before .before .args .word in
-    holding-refused _ _ _ (c .if1 .taken)
-    ∙ sym
-    (ap (λ (n : ℕ). passStep n (heldAfter ws) w) (sym e)
-    ∙ step-number (length ws) (heldAfter ws) w _ (sym (kept (c .before) ws e h)) (c .if1 .taken))
+returns c = (
+  λ ws e h.
+      let w = c .before .before .before .args .word in
+      holding-refused _ _ _ (c .if1 .taken) refl
+      ∙ sym
+      (ap (λ (n : ℕ). passStep n (heldAfter ws) w) (sym e)
+      ∙ step-number (length ws) (heldAfter ws) w _ (sym (kept (c .before) ws e h)) (c .if1 .taken)),
+  λ _. refl,
+)
 
 -- no number is held or earned
 none : (c : tie.Else1) → lower (c .before .before .before .args .held .number) (earned (c .before .before .before .args .n) (c .before .before .before .args .word)) ≡ accepted
@@ -59,19 +61,23 @@ stepped : (c : tie.After-add-word) (ws : List ℕ) → length ws ≡ c .before .
     → Stepped (ws ++ (c .before .before .before .before .before .args .word ∷ [])) (c .add-word .last .0) (c .add-word .result)
 stepped c ws e h =
     let (held, _) = lower-zero _ _ (none (c .before .before)) in
-    c .add-word .ensures ws (holding-holds ws _ _ _ h held)
+    c .add-word .ensures .0 ws (holding-holds ws _ _ _ h held)
 
 returns-2 : tie.Need-returns-2
-returns-2 c =
-    λ ws e h.
-    holding-refused 5 _ _ (λ z. omega arith)
-    ∙ sym (more (c .before .before .before) ws e h ∙ stepped (c .before) ws e h .refuses (c .if2 .taken))
+returns-2 c = (
+  λ ws e h.
+      holding-refused 5 _ _ (λ z. omega arith) refl
+      ∙ sym (more (c .before .before .before) ws e h ∙ stepped (c .before) ws e h .refuses (c .if2 .taken)),
+  λ _. c .before .add-word .ensures .1 (c .if2 .taken),
+)
 
 returns-3 : tie.Need-returns-3
-returns-3 c =
-    λ ws e h.
-    holding-words 0 _ _ refl
-    ∙ sym (more (c .before .before .before) ws e h ∙ stepped (c .before) ws e h .merges (c .if2 .left) .holds)
+returns-3 c = (
+  λ ws e h.
+      holding-words 0 _ _ refl
+      ∙ sym (more (c .before .before .before) ws e h ∙ stepped (c .before) ws e h .merges (c .if2 .left) .holds),
+  λ n. absurd (n refl),
+)
 
 pub pass-word-spec : {M : Type 1} → statement M
 pass-word-spec =
