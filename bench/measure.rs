@@ -2,8 +2,14 @@
 use std::time::Instant;
 
 pub struct Way<'a> {
-    pub name: &'a str,
-    pub call: &'a mut dyn FnMut(),
+    name: &'a str,
+    call: Box<dyn FnMut() + 'a>,
+}
+
+impl<'a> Way<'a> {
+    pub fn new(name: &'a str, call: impl FnMut() + 'a) -> Way<'a> {
+        Way { name, call: Box::new(call) }
+    }
 }
 
 fn nanoseconds(calls: u32, call: &mut dyn FnMut()) -> f64 {
@@ -24,15 +30,15 @@ pub fn medians(calls: u32, ways: &mut [Way]) -> Vec<f64> {
     let mut times = vec![Vec::new(); ways.len()];
     for _ in 0..41 {
         for (times, way) in times.iter_mut().zip(ways.iter_mut()) {
-            times.push(nanoseconds(calls, way.call));
+            times.push(nanoseconds(calls, &mut way.call));
         }
     }
     times.into_iter().map(median).collect()
 }
 
 // The medians, compared with that of the last way, which is the library.
-pub fn compare(job: &str, calls: u32, ways: &mut [Way]) {
-    let medians = medians(calls, ways);
+pub fn compare(job: &str, calls: u32, mut ways: Vec<Way>) {
+    let medians = medians(calls, &mut ways);
     println!("{job:44}{:>9}   library's speed", "ns");
     for (way, time) in ways.iter().zip(&medians) {
         println!("{:44}{time:>9.0}   {:.2} times", way.name, time / medians[ways.len() - 1]);

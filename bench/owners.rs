@@ -1,20 +1,23 @@
 // Who owns a separator, by a table of 1 row and by one of 128: asked of the library, of the independent implementation in Rust, and of plain
 // Rust that goes over the rows once. Each checks the whole table in each call, and all must answer the same.
-#[allow(dead_code)]
-#[path = "../bindings/rust/src/ffi.rs"]
-mod ffi;
 #[path = "../bindings/rust/tests/independent/mod.rs"]
 mod independent;
+#[macro_use]
+mod library;
 mod measure;
 
 use measure::{compare, Way};
 use std::hint::black_box;
 
-fn library_owner(table: &[u8], separator: &[u8]) -> (u32, u32) {
+libraries! {
+    tuilarder_owner(*const u8, usize, *const u8, usize, *mut u32) -> u32;
+}
+
+fn library_owner(library: &Library, table: &[u8], separator: &[u8]) -> (u32, u32) {
     let mut value = 0;
     // SAFETY: the lists are valid for their lengths, and the value is this function's own.
     let number = unsafe {
-        ffi::tuilarder_owner(table.as_ptr(), table.len(), separator.as_ptr(), separator.len(), &mut value)
+        (library.tuilarder_owner)(table.as_ptr(), table.len(), separator.as_ptr(), separator.len(), &mut value)
     };
     (number, value)
 }
@@ -59,19 +62,21 @@ fn equal_rows(count: u64) -> Vec<u8> {
 // The separator is of the last row.
 fn ask(job: &str, table: &[u8]) {
     let separator = [0xff; 8];
-    let answer = library_owner(table, &separator);
-    assert_eq!(answer, (0, table.len() as u32 / 10));
+    let answer = (0, table.len() as u32 / 10);
     assert_eq!(answer, independent::owner(table, &separator));
     assert_eq!(answer, plain_owner(table, &separator));
-    compare(
-        job,
-        1000,
-        &mut [
-            Way { name: "independent Rust", call: &mut || { black_box(independent::owner(black_box(table), &separator)); } },
-            Way { name: "plain Rust, rows gone over once", call: &mut || { black_box(plain_owner(black_box(table), &separator)); } },
-            Way { name: "library", call: &mut || { black_box(library_owner(black_box(table), &separator)); } },
-        ],
-    );
+    for library in Library::all() {
+        assert_eq!(answer, library_owner(library, table, &separator));
+    }
+    let mut ways = vec![
+        Way::new("independent Rust", || { black_box(independent::owner(black_box(table), &separator)); }),
+        Way::new("plain Rust, rows gone over once", || { black_box(plain_owner(black_box(table), &separator)); }),
+    ];
+    for library in Library::all() {
+        let call = || { black_box(library_owner(library, black_box(table), &separator)); };
+        ways.push(Way::new(library.name, call));
+    }
+    compare(job, 1000, ways);
 }
 
 fn main() {

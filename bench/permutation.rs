@@ -4,14 +4,16 @@
 mod fast_permutation;
 #[path = "../bindings/rust/tests/independent/mod.rs"]
 mod independent;
+#[macro_use]
+mod library;
 mod measure;
 
 use fast_permutation::FastTables;
 use measure::{compare, Way};
 use std::hint::black_box;
 
-extern "C" {
-    fn tuilarder_permute(state: *mut [u32; 24]) -> u32;
+libraries! {
+    tuilarder_permute(*mut [u32; 24]) -> u32;
 }
 
 const P: u64 = independent::P as u64;
@@ -90,13 +92,9 @@ fn check(ways: &[(&str, Permutation)]) {
 // Each goes on from its own last state; in the end all must be in the same.
 fn time(ways: &[(&str, Permutation)]) {
     let mut states = vec![[7; 24]; ways.len()];
-    let calls = ways.iter().zip(&mut states);
-    let mut calls: Vec<_> = calls
-        .map(|((_, permute), state)| || permute(black_box(state)))
-        .collect();
-    let timed = ways.iter().zip(&mut calls);
-    let mut timed: Vec<Way> = timed.map(|((name, _), call)| Way { name, call }).collect();
-    compare("one permutation", 200, &mut timed);
+    let timed = ways.iter().zip(&mut states);
+    let timed = timed.map(|((name, permute), state)| Way::new(name, || permute(black_box(state))));
+    compare("one permutation", 200, timed.collect());
     assert!(states.iter().all(|state| *state == states[0]));
 }
 
@@ -107,8 +105,6 @@ fn main() {
     let plain: Permutation = Box::new(|state| assert_eq!(independent::permute(state), 0));
     let one_remainder: Permutation = Box::new(|state| permute(&constants, &inverses, state));
     let sse2: Permutation = Box::new(|state| fast_permutation::permute(fast, state));
-    // SAFETY: the state is lent for the call.
-    let library: Permutation = Box::new(|state| assert_eq!(unsafe { tuilarder_permute(state) }, 0));
     let mut ways = vec![
         ("independent Rust, % for every operation", plain),
         ("Rust, one % for a row, as the library", one_remainder),
@@ -118,7 +114,11 @@ fn main() {
         let avx2: Permutation = Box::new(move |state| permute(fast, state));
         ways.push(("fast Rust, AVX2", avx2));
     }
-    ways.push(("library", library));
+    for library in Library::all() {
+        // SAFETY: the state is lent for the call.
+        let permute: Permutation = Box::new(|state| assert_eq!(unsafe { (library.tuilarder_permute)(state) }, 0));
+        ways.push((library.name, permute));
+    }
     check(&ways);
     time(&ways);
 }

@@ -1,51 +1,86 @@
-// The calls of a session by the library and by the independent implementation in Rust, in one run. Both must leave the same record and
-// squeeze the same elements. Then how the time of hashing grows with the number of elements.
-#[allow(dead_code)]
-#[path = "../bindings/rust/src/ffi.rs"]
-mod ffi;
+// The calls of a session, and the writing of a tag string, by the library and by the independent implementation in Rust, in one run. Both
+// must leave the same record, write the same string and squeeze the same elements. Then how the time of hashing grows with the number of
+// elements.
 #[path = "../bindings/rust/tests/independent/mod.rs"]
 mod independent;
+#[macro_use]
+mod library;
 mod measure;
 #[macro_use]
 #[path = "../bindings/rust/tests/same_fields/mod.rs"]
 mod same_fields;
 
-use ffi::Record;
 use independent::Session;
+use library::ffi::Record;
 use measure::{compare, medians, Way};
+use std::cell::RefCell;
 use std::hint::black_box;
 
 const ABSORB: u32 = 1 << 31;
 
-// SAFETY of the calls of the library: each gets a record and lists that are valid for their lengths, and apart.
-fn library_start(words: &[u32], separator: &[u8]) -> Record {
-    let mut record = Record::WIPED;
-    let number =
-        unsafe { ffi::tuilarder_start(&mut record, words.as_ptr(), words.len(), separator.as_ptr(), separator.len()) };
-    assert_eq!(number, 0);
-    record
+libraries! {
+    tuilarder_start(*mut Record, *const u32, usize, *const u8, usize) -> u32;
+    tuilarder_absorb(*mut Record, *const u32, usize) -> u32;
+    tuilarder_squeeze(*mut Record, *mut u32, usize) -> u32;
+    tuilarder_finish(*mut Record) -> u32;
+    tuilarder_write_tag(*const u32, usize, *const u8, usize, *mut u8, usize, *mut usize) -> u32;
 }
 
-fn library_absorb(record: &mut Record, elements: &[u32]) {
-    assert_eq!(unsafe { ffi::tuilarder_absorb(record, elements.as_ptr(), elements.len()) }, 0);
+// SAFETY of the library's functions: each gets a record and lists that are valid for their lengths, and apart.
+impl Library {
+    fn start(&self, words: &[u32], separator: &[u8]) -> Record {
+        let mut record = Record::WIPED;
+        let number =
+            unsafe { (self.tuilarder_start)(&mut record, words.as_ptr(), words.len(), separator.as_ptr(), separator.len()) };
+        assert_eq!(number, 0);
+        record
+    }
+
+    fn absorb(&self, record: &mut Record, elements: &[u32]) {
+        assert_eq!(unsafe { (self.tuilarder_absorb)(record, elements.as_ptr(), elements.len()) }, 0);
+    }
+
+    fn squeeze(&self, record: &mut Record, out: &mut [u32]) {
+        assert_eq!(unsafe { (self.tuilarder_squeeze)(record, out.as_mut_ptr(), out.len()) }, 0);
+    }
+
+    // START, and the first phases of the pattern.
+    fn reach(&self, words: &[u32], phases: usize) -> Record {
+        let mut record = self.start(words, b"AB");
+        for word in &words[..phases] {
+            let mut list = vec![7; (word % ABSORB) as usize];
+            if *word >= ABSORB {
+                self.absorb(&mut record, &list);
+            } else {
+                self.squeeze(&mut record, &mut list);
+            }
+        }
+        record
+    }
+
+    // A whole session that absorbs the elements and squeezes eight.
+    fn hash(&self, elements: &[u32]) -> [u32; 8] {
+        let mut out = [0; 8];
+        let mut record = self.start(&[ABSORB + elements.len() as u32, 8], b"hash");
+        self.absorb(&mut record, elements);
+        self.squeeze(&mut record, &mut out);
+        assert_eq!(unsafe { (self.tuilarder_finish)(&mut record) }, 0);
+        out
+    }
+
+    fn write_tag(&self, words: &[u32], separator: &[u8], out: &mut [u8]) -> usize {
+        let mut written = 0;
+        let (separator, separator_length) = (separator.as_ptr(), separator.len());
+        let number = unsafe {
+            (self.tuilarder_write_tag)(words.as_ptr(), words.len(), separator, separator_length, out.as_mut_ptr(), out.len(), &mut written)
+        };
+        assert_eq!(number, 0);
+        written
+    }
 }
 
 fn session_of(record: &Record) -> Session {
     same_fields!(Session, record)
-}
-
-// START, and the first phases of the pattern.
-fn library_reach(words: &[u32], phases: usize) -> Record {
-    let mut record = library_start(words, b"AB");
-    for word in &words[..phases] {
-        let mut list = vec![7; (word % ABSORB) as usize];
-        if *word >= ABSORB {
-            library_absorb(&mut record, &list);
-        } else {
-            assert_eq!(unsafe { ffi::tuilarder_squeeze(&mut record, list.as_mut_ptr(), list.len()) }, 0);
-        }
-    }
-    record
 }
 
 fn independent_start(words: &[u32], separator: &[u8]) -> Session {
@@ -58,18 +93,6 @@ fn independent_absorb(record: &mut Session, elements: &[u32]) {
     assert_eq!(independent::absorb(record, elements), 0);
 }
 
-// A whole session that absorbs the elements and squeezes eight.
-fn library_hash(elements: &[u32]) -> [u32; 8] {
-    let mut out = [0; 8];
-    let mut record = library_start(&[ABSORB + elements.len() as u32, 8], b"hash");
-    library_absorb(&mut record, elements);
-    unsafe {
-        assert_eq!(ffi::tuilarder_squeeze(&mut record, out.as_mut_ptr(), out.len()), 0);
-        assert_eq!(ffi::tuilarder_finish(&mut record), 0);
-    }
-    out
-}
-
 fn independent_hash(elements: &[u32]) -> [u32; 8] {
     let mut out = [0; 8];
     let mut record = independent_start(&[ABSORB + elements.len() as u32, 8], b"hash");
@@ -80,57 +103,64 @@ fn independent_hash(elements: &[u32]) -> [u32; 8] {
 }
 
 fn start(job: &str, words: &[u32], separator: &[u8]) {
-    assert_eq!(independent_start(words, separator), session_of(&library_start(words, separator)));
-    compare(
-        job,
-        1000,
-        &mut [
-            Way { name: "independent Rust", call: &mut || { black_box(independent_start(black_box(words), separator)); } },
-            Way { name: "library", call: &mut || { black_box(library_start(black_box(words), separator)); } },
-        ],
-    );
+    let expected = independent_start(words, separator);
+    let independent = || { black_box(independent_start(black_box(words), separator)); };
+    let mut ways = vec![Way::new("independent Rust", independent)];
+    for library in Library::all() {
+        assert_eq!(session_of(&library.start(words, separator)), expected);
+        ways.push(Way::new(library.name, || { black_box(library.start(black_box(words), separator)); }));
+    }
+    compare(&format!("START, {job}"), 1000, ways);
+}
+
+// All ways write to one buffer, so that none has it at a better place.
+fn write_tag(job: &str, words: &[u32], separator: &[u8]) {
+    let mut expected = [0; 512];
+    let length = independent::write_tag(words, separator, &mut expected).unwrap();
+    let buffer = RefCell::new([0; 512]);
+    let independent = || { black_box(independent::write_tag(black_box(words), separator, &mut *buffer.borrow_mut()).unwrap()); };
+    let mut ways = vec![Way::new("independent Rust", independent)];
+    for library in Library::all() {
+        let mut out = [0; 512];
+        assert_eq!((library.write_tag(words, separator, &mut out), out), (length, expected));
+        let by_library = || { black_box(library.write_tag(black_box(words), separator, &mut *buffer.borrow_mut())); };
+        ways.push(Way::new(library.name, by_library));
+    }
+    compare(&format!("tag string, {job}"), 10_000, ways);
 }
 
 // Each call gets its own copy of the record at that place, and permutes nothing.
 fn absorb_one(job: &str, words: &[u32], phases: usize) {
-    let library = library_reach(words, phases);
-    let independent = session_of(&library);
-    let (mut by_independent, mut by_library) = (independent.clone(), library);
-    independent_absorb(&mut by_independent, &[7]);
-    library_absorb(&mut by_library, &[7]);
-    assert_eq!(by_independent, session_of(&by_library));
-    compare(
-        job,
-        10_000,
-        &mut [
-            Way {
-                name: "independent Rust",
-                call: &mut || {
-                    let mut record = independent.clone();
-                    independent_absorb(black_box(&mut record), &[7]);
-                },
-            },
-            Way {
-                name: "library",
-                call: &mut || {
-                    let mut record = library;
-                    library_absorb(black_box(&mut record), &[7]);
-                },
-            },
-        ],
-    );
+    let reached = Library::NOW.reach(words, phases);
+    let independent = session_of(&reached);
+    let mut expected = independent.clone();
+    independent_absorb(&mut expected, &[7]);
+    let by_independent = || {
+        let mut record = independent.clone();
+        independent_absorb(black_box(&mut record), &[7]);
+    };
+    let mut ways = vec![Way::new("independent Rust", by_independent)];
+    for library in Library::all() {
+        let mut record = reached;
+        library.absorb(&mut record, &[7]);
+        assert_eq!(session_of(&record), expected);
+        let by_library = || {
+            let mut record = reached;
+            library.absorb(black_box(&mut record), &[7]);
+        };
+        ways.push(Way::new(library.name, by_library));
+    }
+    compare(job, 10_000, ways);
 }
 
 fn hash(job: &str, elements: &[u32]) {
-    assert_eq!(independent_hash(elements), library_hash(elements));
-    compare(
-        job,
-        1,
-        &mut [
-            Way { name: "independent Rust", call: &mut || { black_box(independent_hash(black_box(elements))); } },
-            Way { name: "library", call: &mut || { black_box(library_hash(black_box(elements))); } },
-        ],
-    );
+    let expected = independent_hash(elements);
+    let mut ways = vec![Way::new("independent Rust", || { black_box(independent_hash(black_box(elements))); })];
+    for library in Library::all() {
+        assert_eq!(library.hash(elements), expected);
+        ways.push(Way::new(library.name, || { black_box(library.hash(black_box(elements))); }));
+    }
+    compare(job, 1, ways);
 }
 
 fn growth() {
@@ -138,18 +168,37 @@ fn growth() {
     for count in [1, 10, 100, 1_000, 10_000, 100_000] {
         let elements: Vec<u32> = (0..count).collect();
         let permutations = u64::from(count.div_ceil(8));
-        let mut call = || {
-            black_box(library_hash(black_box(&elements)));
-        };
-        let time = medians(1 + 1000 / count, &mut [Way { name: "library", call: &mut call }])[0];
+        let call = || { black_box(Library::NOW.hash(black_box(&elements))); };
+        let time = medians(1 + 1000 / count, &mut [Way::new("library", call)])[0];
         println!("{count:>20}{permutations:>14}{time:>14.0}{:>19.0}", time / permutations as f64);
     }
 }
 
+// So many words, ABSORB and SQUEEZE in turn: none is merged.
+fn alternating(count: usize) -> Vec<u32> {
+    (0..count).map(|k| if k % 2 == 0 { ABSORB + 9 } else { 9 }).collect()
+}
+
+// So many words, ABSORB but for the last: they merge to two.
+fn neighbours(count: usize) -> Vec<u32> {
+    let mut words = vec![ABSORB + 9; count];
+    words[count - 1] = 9;
+    words
+}
+
+// A separator has 2 bytes unless its length is named.
 fn main() {
-    let longest: Vec<u32> = (0..64).map(|k| if k % 2 == 0 { ABSORB + 9 } else { 9 }).collect();
-    start("START, 2 words, separator of 2 bytes", &[ABSORB + 8, 8], b"AB");
-    start("START, 64 words, separator of 256 bytes", &longest, &[7; 256]);
+    let longest = alternating(64);
+    for (job, words) in [
+        ("2 words", vec![ABSORB + 8, 1]),
+        ("16 words", alternating(16)),
+        ("64 words", alternating(64)),
+        ("64 words that merge to 2", neighbours(64)),
+    ] {
+        start(job, &words, b"AB");
+        write_tag(job, &words, b"AB");
+    }
+    start("64 words, separator of 256 bytes", &longest, &[7; 256]);
     absorb_one("ABSORB of 1 element, 2 words", &[ABSORB + 8, 8], 0);
     absorb_one("ABSORB of 1 element, in phase 62 of 64", &longest, 62);
     hash("a session that hashes 1,000 elements to 8", &(0..1000).collect::<Vec<u32>>());

@@ -1,5 +1,7 @@
 // SHA3-256 of 512 bytes, by the library and by OpenSSL: in one call, and with algorithm and context kept from call to call, which is
 // OpenSSL's fastest way. Each digest goes into the next message, and all must end in the same message.
+#[macro_use]
+mod library;
 mod measure;
 
 use measure::{compare, Way};
@@ -7,8 +9,8 @@ use std::ffi::{c_char, c_int, c_uint, c_void};
 use std::hint::black_box;
 use std::ptr::{null, null_mut};
 
-extern "C" {
-    fn tuilarder_sha3_256(data: *const u8, size: usize, digest: *mut [u8; 32]);
+libraries! {
+    tuilarder_sha3_256(*const u8, usize, *mut [u8; 32]);
 }
 
 #[link(name = "crypto")]
@@ -22,14 +24,16 @@ extern "C" {
     fn EVP_DigestFinal_ex(context: *mut c_void, digest: *mut u8, written: *mut c_uint) -> c_int;
 }
 
-fn hash_into(message: &mut [u8; 512], hash: impl Fn(&[u8; 512], &mut [u8; 32])) {
+type Hash<'a> = Box<dyn Fn(&[u8; 512], &mut [u8; 32]) + 'a>;
+
+fn hash_into(message: &mut [u8; 512], hash: &Hash) {
     let mut digest = [0; 32];
     hash(black_box(message), &mut digest);
     message[..32].copy_from_slice(&digest);
 }
 
-fn by_library(message: &[u8; 512], digest: &mut [u8; 32]) {
-    unsafe { tuilarder_sha3_256(message.as_ptr(), message.len(), digest) }
+fn by_library(library: &Library, message: &[u8; 512], digest: &mut [u8; 32]) {
+    unsafe { (library.tuilarder_sha3_256)(message.as_ptr(), message.len(), digest) }
 }
 
 fn by_one_call(message: &[u8; 512], digest: &mut [u8; 32]) {
@@ -44,15 +48,14 @@ fn main() {
         assert_eq!(EVP_DigestUpdate(context, message.as_ptr(), message.len()), 1);
         assert_eq!(EVP_DigestFinal_ex(context, digest.as_mut_ptr(), null_mut()), 1);
     };
-    let [mut one_call, mut kept, mut library] = [[7u8; 512]; 3];
-    compare(
-        "SHA3-256 of 512 bytes",
-        1000,
-        &mut [
-            Way { name: "OpenSSL, one call", call: &mut || hash_into(&mut one_call, by_one_call) },
-            Way { name: "OpenSSL, algorithm and context kept", call: &mut || hash_into(&mut kept, by_context) },
-            Way { name: "library", call: &mut || hash_into(&mut library, by_library) },
-        ],
-    );
-    assert!(one_call == library && kept == library);
+    let mut hashes: Vec<(&str, Hash)> =
+        vec![("OpenSSL, one call", Box::new(by_one_call)), ("OpenSSL, algorithm and context kept", Box::new(by_context))];
+    for library in Library::all() {
+        hashes.push((library.name, Box::new(|message, digest| by_library(library, message, digest))));
+    }
+    let mut messages = vec![[7; 512]; hashes.len()];
+    let timed = hashes.iter().zip(&mut messages);
+    let ways = timed.map(|((name, hash), message)| Way::new(name, || hash_into(message, hash))).collect();
+    compare("SHA3-256 of 512 bytes", 1000, ways);
+    assert!(messages.iter().all(|message| *message == messages[0]));
 }
