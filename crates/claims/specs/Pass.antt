@@ -1,5 +1,5 @@
 -- START's one pass over the declared words. `passStep` is what the pass does with one word: the contract of the private function that takes a word
--- cites it. `passed ws` is what document 02, P2, has the pass hold after the words ws, and `pass ws` the steps, word by word.
+-- cites it, and the loop's invariant is the equation that stands here. `passed ws` is what document 02, P2, has the pass hold after the words ws, and `pass ws` the steps, word by word.
 use mathlib.Core.Path.{_≡_, refl, sym, _∙_}
 use mathlib.Core.Bool.{not}
 use mathlib.Core.List.{List, [], _∷_, _++_}
@@ -59,7 +59,7 @@ pub else-merged-words : (ws : List ℕ) → passed ws .number ≡ accepted → p
 unfolding passed answerWith withWords
 else-merged-words ws e = answer-accepted (passNumber ws) (mergedWords ws) e
 
--- Over 64 words it holds number 1, whatever they are, so the 65th word is the last that it looks at.
+-- Over 64 words it holds number 1, whatever they are, so no word behind the 65th can change it.
 pub number-1-over-64 : (ws : List ℕ) → 64 < length ws → passed ws ≡ withWords wordCountOutOfRange []
 unfolding heldAfter
 number-1-over-64 [] h = absurd (omega arith)

@@ -1,4 +1,4 @@
--- START's pass over the declared words: what it holds after each word. From document 02, P2.
+-- START's pass over the declared words: what it holds after each word. From document 02, P2. Private contracts cite these, and no public one.
 use mathlib.Core.Bool.{not}
 use mathlib.Core.List.{List, [], _∷_, _++_}
 use Prim.Native.Nat.{ℕ, suc}
@@ -50,7 +50,8 @@ earned n w =
 unfoldable pub lower : ℕ → ℕ → ℕ
 lower a b = if eqb a accepted then b else if eqb b accepted then a else if ltb b a then b else a
 
--- one word more behind n words: a number that is held stays, unless the word earns a lower one; while there is none, the word is merged
+-- one word more behind n words: a number that is held stays, unless the word earns a lower one; while there is none, the word is merged behind the
+-- merged words, which is as merging all of them
 unfoldable pub passStep : ℕ → Merged → ℕ → Merged
 passStep n held w =
     let k = lower (held .number) (earned n w) in
