@@ -2,7 +2,7 @@
 -- Assumes nothing.
 use mathlib.Core.Path.{_≡_, _∙_, sym, ap, refl}
 use Prim.Native.Nat.{ℕ, _+_, _*_, _/_, _%_}
-use native.Mathlib.Nat.{add-mul, mul-assoc, mul-comm, add-mod, mod-add-div, mod-mod, add-mul-mod-self-left}
+use native.Mathlib.Nat.{add-mul, mul-assoc, mul-comm, mul-one, add-mod, mod-add-div, mod-mod, add-mul-mod-self-left}
 
 pub record Congruent (m a b : ℕ) : Type 0 where
   pub same : a % m ≡ b % m
@@ -38,3 +38,11 @@ add-congruent {m} {a} {b} {c} {d} ab cd =
 -- what a reduced result is congruent to
 pub reduced : {m a b : ℕ} → a ≡ b % m → Congruent m a b
 reduced {m} {a} {b} e = rw e (remainder m b)
+
+-- what a factor does, one that is its inverse undoes
+pub inverse-undoes : (m a b x : ℕ) → a * b % m ≡ 1 % m → x * a % m * b % m ≡ x % m
+inverse-undoes m a b x e =
+    mul-congruent (remainder m (x * a)) (reflexive b) .same
+    ∙ ap (λ (y : ℕ). y % m) (mul-assoc x a b)
+    ∙ mul-congruent (reflexive x) (record { same = e }) .same
+    ∙ ap (λ (y : ℕ). y % m) (mul-one x)
