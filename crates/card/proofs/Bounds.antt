@@ -13,7 +13,7 @@ use Rattle.basics.specs.Numbers.{accepted, notCard}
 use Rattle.basics.proofs.Cases.{by, cases}
 use Rattle.basics.proofs.FirstRow.{number-bound}
 use Rattle.pattern.specs.Pattern.{mergedWords}
-use Rattle.pattern.specs.Opening.{Opening, opening, wordRows, startRows, startNumber}
+use Rattle.pattern.specs.Opening.{Opening, opening, wordRows, openingRows, openingNumber}
 use Rattle.pattern.proofs.StartCheck.{few-words}
 use Rattle.tag.specs.TagString.{tagString}
 use Rattle.tag.proofs.Writing.{tag-string-short}
@@ -59,7 +59,7 @@ count-digits n h = few-digits 10 n (omega arith)
 
 -- ---- an accepted pattern
 
-pub few-permutations : (o : Opening) → startNumber o ≡ accepted → fullPermutations (o .words) ≤ 99999999999
+pub few-permutations : (o : Opening) → openingNumber o ≡ accepted → fullPermutations (o .words) ≤ 99999999999
 unfolding fullPermutations permutationsAt
 few-permutations o e =
     let few = few-words o e in
@@ -68,9 +68,9 @@ few-permutations o e =
     let behind = phase-bound (getD (mergedWords (o .words)) count 0) 0 in
     omega arith
 
-pub small-number : (o : Opening) → startNumber o ≤ 99
-unfolding startNumber startRows wordRows all _and_
-small-number o = number-bound 99 (startRows o) refl
+pub small-number : (o : Opening) → openingNumber o ≤ 99
+unfolding openingNumber openingRows wordRows all _and_
+small-number o = number-bound 99 (openingRows o) refl
 
 -- ---- answers
 
@@ -92,7 +92,7 @@ length-with-newline text = length-append text (10 ∷ [])
 no-short : (number : ℕ) → number ≤ 99 → length (withNewline (noText number)) ≤ longestAnswer
 no-short number h = omega (arith, length-with-newline (noText number), length-no number, number-digits number h)
 
-ok-short : (o : Opening) → startNumber o ≡ accepted → length (withNewline (okText (tagString o) (fullPermutations (o .words)))) ≤ longestAnswer
+ok-short : (o : Opening) → openingNumber o ≡ accepted → length (withNewline (okText (tagString o) (fullPermutations (o .words)))) ≤ longestAnswer
 ok-short o e =
     let text = okText (tagString o) (fullPermutations (o .words)) in
     let string = tag-string-short o e in
@@ -103,8 +103,8 @@ card-answer-short : (o : Opening) → length (withNewline (cardAnswer o)) ≤ lo
 unfolding cardAnswer
 card-answer-short o =
     by (λ (text : List ℕ). length (withNewline text) ≤ longestAnswer) _ _ _
-    (λ t. ok-short o (eqb-true (startNumber o) accepted t))
-    λ _. no-short (startNumber o) (small-number o)
+    (λ t. ok-short o (eqb-true (openingNumber o) accepted t))
+    λ _. no-short (openingNumber o) (small-number o)
 
 -- every answer, with its newline
 pub answer-short : (line : List ℕ) → length (withNewline (answer line)) ≤ longestAnswer

@@ -8,7 +8,7 @@ use borrow.Author.Tests.{eq-eqb, ne-eqb}
 use lib.ListN.{take}
 use Rattle.basics.specs.Numbers.{accepted}
 use Rattle.basics.proofs.Cases.{if-true, if-false}
-use Rattle.pattern.specs.Opening.{Opening, startNumber, checked}
+use Rattle.pattern.specs.Opening.{Opening, openingNumber, checked}
 use Rattle.pattern.specs.declared.Merged.{Merged}
 use Rattle.pattern.proofs.Checked.{number-checked, started, count-checked, words-checked}
 use Rattle.tag.specs.TagString.{tagString}
@@ -16,13 +16,13 @@ use Rattle.counters.specs.Permutations.{permutationsAt, fullPermutations}
 use Rattle.card.specs.Answer.{okText, noText, cardAnswer}
 
 module _ (o : Opening) where
-  pub accepted-answer : startNumber o ≡ accepted → cardAnswer o ≡ okText (tagString o) (fullPermutations (o .words))
+  pub accepted-answer : openingNumber o ≡ accepted → cardAnswer o ≡ okText (tagString o) (fullPermutations (o .words))
   unfolding cardAnswer
-  accepted-answer e = if-true _ _ _ (eq-eqb (startNumber o) accepted e)
+  accepted-answer e = if-true _ _ _ (eq-eqb (openingNumber o) accepted e)
 
-  pub refused-answer : startNumber o ≢ accepted → cardAnswer o ≡ noText (startNumber o)
+  pub refused-answer : openingNumber o ≢ accepted → cardAnswer o ≡ noText (openingNumber o)
   unfolding cardAnswer
-  refused-answer e = if-false _ _ _ (ne-eqb (startNumber o) accepted e)
+  refused-answer e = if-false _ _ _ (ne-eqb (openingNumber o) accepted e)
 
 -- ---- from the answer r of the start check
 

@@ -13,25 +13,25 @@ use Rattle.basics.specs.Numbers.{accepted, wordCountOutOfRange}
 use Rattle.basics.specs.Refusals.{firstNumber}
 use Rattle.basics.proofs.Cases.{cases, if-true}
 use Rattle.pattern.specs.Pattern.{maxWords}
-use Rattle.pattern.specs.Opening.{opening, maxSeparator, wordRows, startRows, startNumber}
+use Rattle.pattern.specs.Opening.{opening, maxSeparator, wordRows, openingRows, openingNumber}
 use Rattle.pattern.proofs.StartCheck.{passed-rows, over-64-words}
 use Rattle.card.specs.Answer.{noText, cardAnswer}
 use Rattle.card.proofs.CardAnswer.{refused-answer}
 
 -- more than 64 words, whatever they are
 many-words : (ws separator : List ℕ) → maxWords < length ws → cardAnswer (opening ws separator) ≡ noText wordCountOutOfRange
-unfolding startNumber startRows wordRows firstNumber
+unfolding openingNumber openingRows wordRows firstNumber
 many-words ws separator h =
-    let e : startNumber (opening ws separator) ≡ wordCountOutOfRange = if-true _ _ _ (over-64-words ws h) in
+    let e : openingNumber (opening ws separator) ≡ wordCountOutOfRange = if-true _ _ _ (over-64-words ws h) in
     refused-answer (opening ws separator) (λ z. omega (arith, e, z)) ∙ ap noText e
 
 -- more than 256 bytes, whatever they are
 long-number : (ws s t : List ℕ) → maxSeparator < length s → maxSeparator < length t
-    → startNumber (opening ws s) ≡ startNumber (opening ws t)
-unfolding startNumber startRows
+    → openingNumber (opening ws s) ≡ openingNumber (opening ws t)
+unfolding openingNumber openingRows
 long-number ws s t h k = rw (lt-ltb maxSeparator (length s) h, lt-ltb maxSeparator (length t) k)
 
-long-refused : (ws s : List ℕ) → maxSeparator < length s → startNumber (opening ws s) ≢ accepted
+long-refused : (ws s : List ℕ) → maxSeparator < length s → openingNumber (opening ws s) ≢ accepted
 long-refused ws s h e = let short = passed-rows (opening ws s) e .short in omega arith
 
 long-separator : (ws s t : List ℕ) → maxSeparator < length s → maxSeparator < length t → cardAnswer (opening ws s) ≡ cardAnswer (opening ws t)

@@ -5,7 +5,7 @@ use Prim.Native.Nat.{ℕ}
 use lib.Dec.{eqb}
 use Rattle.basics.specs.Logic.{if_then_else_}
 use Rattle.basics.specs.Numbers.{accepted, notCard}
-use Rattle.pattern.specs.Opening.{Opening, opening, startNumber}
+use Rattle.pattern.specs.Opening.{Opening, opening, openingNumber}
 use Rattle.tag.specs.TagString.{tagString}
 use Rattle.counters.specs.Permutations.{fullPermutations}
 use Rattle.card_grammar.specs.Text.{ascii, hex, decimal}
@@ -22,7 +22,7 @@ noText number = ascii "(no " ++ (decimal number ++ ascii ")")
 
 -- the answer to a card: START's numbers 1 to 6
 unfoldable pub cardAnswer : Opening → List ℕ
-cardAnswer o = if eqb (startNumber o) accepted then okText (tagString o) (fullPermutations (o .words)) else noText (startNumber o)
+cardAnswer o = if eqb (openingNumber o) accepted then okText (tagString o) (fullPermutations (o .words)) else noText (openingNumber o)
 
 -- "14 before 1 to 6"
 unfoldable pub readingAnswer : Reading → List ℕ

@@ -1,14 +1,19 @@
 -- Poseidon's Grain generator of round constants (document 01, "Field and permutation"), on lists of bits.
+use mathlib.Core.Bool.{not}
 use mathlib.Core.List.{List, [], _∷_, _++_}
-use Prim.Native.Nat.{ℕ, zero, suc, _+_, _/_, _%_}
+use Prim.Native.Nat.{ℕ, zero, suc, _+_, _*_, _/_, _%_}
 use lib.Dec.{eqb, ltb}
 use lib.ListN.{length, getD, take, drop, replicate}
 use Rattle.basics.specs.Logic.{if_then_else_}
+use Rattle.basics.specs.Lists.{zeroPadded}
 use Rattle.basics.specs.Digits.{digits, number}
-use Rattle.field.specs.Field.{p}
+use Rattle.basics.specs.Numbers.{accepted, fieldUnknown}
+use Rattle.field.specs.Field.{modulus, partialRounds, isField, fieldOf}
+use Rattle.field.specs.declared.Field.{Field}
+use Rattle.generator.specs.declared.Generated.{Generated}
 
 -- "An 80-bit register starts as, from bit 0 on and each number high bit first: field kind 1 (2 bits), power 0 (4),
--- 31 (12), 24 (12), 8 (10), 21 (10), thirty ones.", where 21 is how many partial rounds the permutation has
+-- 31 (12), 24 (12), 8 (10), 21 (10), thirty ones.", where 21 is how many partial rounds the permutation has: "with the register's 21 changed to 23"
 unfoldable pub firstRegister : ℕ → List ℕ
 firstRegister partialRounds =
     digits 2 2 1 ++ (digits 2 4 0 ++ (digits 2 12 31 ++ (digits 2 12 24 ++ (digits 2 10 8 ++ (digits 2 10 partialRounds ++ replicate 30 1)))))
@@ -51,6 +56,18 @@ kept modulus (candidate ∷ rest) = (if ltb candidate modulus then candidate ∷
 unfoldable pub found : List ℕ → ℕ → ℕ → ℕ → List ℕ
 found register modulus wanted limit = take wanted (kept modulus (candidates (outputBits (drop 160 (newBits limit register)))))
 
--- the constants of the permutation: the register for 21 partial rounds; "It stops at 696 constants or 262,144 new bits"
-unfoldable pub generated : List ℕ
-generated = found (firstRegister 21) p 696 262144
+-- how many constants a field's permutation has, 24 to a round: 696, "so 744 constants"
+abbrev pub constantCount : Field → ℕ
+constantCount f = 24 * (4 + partialRounds f + 4)
+
+-- the constants of a field's permutation: the register for its partial rounds, candidates below its p; "It stops at 696 constants or 262,144 new bits"
+unfoldable pub generated : Field → List ℕ
+generated f = found (firstRegister (partialRounds f)) (modulus f) (constantCount f) 262144
+
+-- a number with constants: "whose list has 744 places in either field", zeros in the places left, and how many were found
+unfoldable pub withConstants : ℕ → List ℕ → Generated
+withConstants number constants = record { number = number; constants = zeroPadded 744 constants; count = length constants }
+
+-- "18: field number neither 1 nor 2 .. in the generator, whose list .. then holds zeros, none found"
+unfoldable pub generation : ℕ → Generated
+generation field = if not (isField field) then withConstants fieldUnknown [] else withConstants accepted (generated (fieldOf field))

@@ -1,15 +1,27 @@
 // The generator of the round constants (Grain).
 mod tables;
 
+use field::Field;
 ghost use mathlib.Core.Path.{_≡_};
 ghost use Prim.Native.Nat.{_-_, _<_};
 ghost use lib.ListN.{length, drop, replicate};
 ghost use Rattle.basics.specs.Lists.{zeroPadded, placed};
-ghost use Rattle.generator.specs.Generator.{firstRegister, nextBit, shifted, newBits, found};
+ghost use Rattle.field.specs.Field.{partialRounds};
+ghost use Rattle.generator.specs.Generator.{firstRegister, nextBit, shifted, newBits, found, generation};
 ghost use Rattle.generator.specs.Steps.{bitsLeft, foundFrom, NextOutput, NextCandidate};
 
 // How many new bits are dropped at the start.
 const DROPPED: usize = 160;
+
+// How many new bits are taken at most, the dropped ones included.
+const LIMIT: usize = 262144;
+
+// Number 0 with the constants of a field, zeros behind them and how many they are; or number 18 with zeros alone, and none found.
+pub struct Generated {
+    pub number: u32,
+    pub constants: [u32; 744],
+    pub count: usize,
+}
 
 // Where the generator stands: the register, oldest bit first, and how many new bits may still be taken.
 struct Source {
@@ -77,10 +89,10 @@ fn usable(limit: usize) -> usize
 }
 
 // The source behind the new bits that are dropped.
-fn start(limit: usize) -> Source
-    ensures { λ r. ⌜ bitsLeft r ≡ drop 160 (newBits limit (firstRegister 21)) ⌝ }
+fn start(first: [u8; 80], limit: usize) -> Source
+    ensures { λ r. ⌜ bitsLeft r ≡ drop 160 (newBits limit first) ⌝ }
 {
-    let mut register = tables::FIRST_REGISTER;
+    let mut register = first;
     let mut i: usize = 0;
     while i < DROPPED {
         register = shift(&register);
@@ -175,14 +187,52 @@ fn clear(constants: &mut [u32], from: usize)
     }
 }
 
-// Runs the generator until the list lent is full or the limit of new bits is reached. Answers how many constants were found;
-// zeros stand behind them.
-pub fn generate(modulus: u32, limit: usize, constants: &mut [u32]) -> usize
-    ensures { λ r. ⌜ (r ≡ length (found (firstRegister 21) modulus (length (now (constants .entry))) limit)) ×
-        (now (constants .exit) ≡ zeroPadded (length (now (constants .entry))) (found (firstRegister 21) modulus (length (now (constants .entry))) limit)) ⌝ }
+// Runs the generator from a register on, until the list lent is full or the limit of new bits is reached. Answers how many constants were
+// found; zeros stand behind them.
+pub fn generate_from(
+    register: [u8; 80],
+    modulus: u32,
+    limit: usize,
+    constants: &mut [u32],
+) -> usize
+    ensures { λ r. ⌜ (r ≡ length (found register modulus (length (now (constants .entry))) limit)) ×
+        (now (constants .exit) ≡ zeroPadded (length (now (constants .entry))) (found register modulus (length (now (constants .entry))) limit)) ⌝ }
 {
-    let source = start(limit);
+    let source = start(register, limit);
     let count = fill(source, modulus, constants);
     clear(constants, count);
     count
+}
+
+// The register at its start, for the partial rounds of a field.
+pub fn first_register(field: Field) -> [u8; 80]
+    ensures { λ r. ⌜ r ≡ firstRegister (partialRounds field) ⌝ }
+{
+    match field {
+        Field::BabyBear => tables::BABY_BEAR_REGISTER,
+        Field::KoalaBear => tables::KOALA_BEAR_REGISTER,
+    }
+}
+
+// The round constants of the field that a number names, 24 to a round.
+pub fn generate(field: u32) -> Generated
+    ensures { λ r. ⌜ r ≡ generation field ⌝ }
+{
+    let mut constants = [0u32; 744];
+    if !field::is_field(field) {
+        return Generated {
+            number: basics::FIELD_UNKNOWN,
+            constants,
+            count: 0,
+        };
+    }
+    let named = field::field_of(field);
+    let register = first_register(named);
+    let wanted = 24 * (4 + field::partial_rounds(named) + 4);
+    let count = generate_from(register, field::modulus(named), LIMIT, &mut constants[..wanted]);
+    Generated {
+        number: basics::ACCEPTED,
+        constants,
+        count,
+    }
 }

@@ -5,17 +5,17 @@ use Prim.Native.Nat.{_≤_}
 use lib.ListN.{length, take}
 use Rattle.basics.specs.Numbers.{accepted}
 use Rattle.pattern.specs.Pattern.{maxWords, mergedWords}
-use Rattle.pattern.specs.Opening.{Opening, startNumber, withWords, checked}
+use Rattle.pattern.specs.Opening.{Opening, openingNumber, withWords, checked}
 use Rattle.pattern.specs.declared.Merged.{Merged}
 use Rattle.pattern.proofs.Answers.{count-at, count-within, words-used}
 use Rattle.pattern.proofs.StartCheck.{checked-number, checked-accepted, few-words}
 
 module _ (o : Opening) (r : Merged) (e : r ≡ checked o) where
-  pub number-checked : r .number ≡ startNumber o
+  pub number-checked : r .number ≡ openingNumber o
   number-checked = ap (λ (m : Merged). m .number) e ∙ checked-number o
 
   module _ (n : r .number ≡ accepted) where
-    pub started : startNumber o ≡ accepted
+    pub started : openingNumber o ≡ accepted
     started = sym number-checked ∙ n
 
     pub answer-checked : r ≡ withWords accepted (mergedWords (o .words))

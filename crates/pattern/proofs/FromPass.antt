@@ -14,7 +14,7 @@ use Rattle.basics.specs.Numbers.{accepted, wordCountOutOfRange}
 use Rattle.basics.specs.Refusals.{_gets_⨾_, firstNumber}
 use Rattle.basics.proofs.Cases.{by, cases, if-true}
 use Rattle.pattern.specs.Pattern.{mergedWords}
-use Rattle.pattern.specs.Opening.{wordRows, startRows, startNumber, withWords, answerWith}
+use Rattle.pattern.specs.Opening.{wordRows, openingRows, openingNumber, withWords, answerWith}
 use Rattle.pattern.specs.Pass.{passNumber, passed, lower, heldAfter, ending}
 use Rattle.pattern.specs.declared.Merged.{Merged}
 use Rattle.pattern.proofs.Given.{answer-accepted}
@@ -56,14 +56,14 @@ lastOf ws = getD ws (length ws - 1) 0
 
 module _ (separator : List ℕ) where
   abbrev start : List ℕ → ℕ
-  start ws = startNumber (record { words = ws; separator = separator })
+  start ws = openingNumber (record { words = ws; separator = separator })
 
   pub start-none : start [] ≡ wordCountOutOfRange
-  unfolding startNumber startRows wordRows firstNumber
+  unfolding openingNumber openingRows wordRows firstNumber
   start-none = if-true _ _ _ (no-words [] refl)
 
   start-some : (w : ℕ) (ws : List ℕ) → start (w ∷ ws) ≡ lower (passNumber (w ∷ ws)) (ending (lastOf (w ∷ ws)) (length separator))
-  unfolding startNumber startRows wordRows ending _or_
+  unfolding openingNumber openingRows wordRows ending _or_
   start-some w ws = rw (pass-number w ws, ne-eqb (suc (length ws)) 0 (λ e. omega arith)) (by-ending _ _ _ _ _ _)
 
   -- the last word counts where the pass has seen it, and otherwise number 1 is held

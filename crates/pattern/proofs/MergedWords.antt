@@ -15,7 +15,7 @@ use Rattle.basics.proofs.Below.{below-nil, below-cons, below-head, below-tail}
 use Rattle.basics.proofs.Cases.{by, if-false, and-left, and-right, and-both, or-false, same-self, same-other, same-true, same-false}
 use Rattle.words.specs.Words.{isAbsorb, lengthOf, Phase, phaseOf, wordOf}
 use Rattle.pattern.specs.Pattern.{join, merge, phases, mergedWords, alternate, soundWords}
-use Rattle.pattern.specs.Opening.{Opening, maxSeparator, tooLong, startNumber}
+use Rattle.pattern.specs.Opening.{Opening, maxSeparator, tooLong, openingNumber}
 use Rattle.words.proofs.WordKinds.{word-kind, word-length, word-of-phase, phase-of-word, word-below, length-below}
 use Rattle.pattern.proofs.MergeStep.{merged-words-length}
 use Rattle.pattern.proofs.Soundness.{long, right-count, sound}
@@ -148,7 +148,7 @@ words-sound [] r = absurd (true≢false (or-false _ _ (r .e1) .0))
 words-sound (w ∷ ws) r = rows-sound w ws r
 
 -- the merged words of an accepted pattern are sound
-pub merged-sound : (o : Opening) → startNumber o ≡ accepted → soundWords (mergedWords (o .words)) ≡ true
+pub merged-sound : (o : Opening) → openingNumber o ≡ accepted → soundWords (mergedWords (o .words)) ≡ true
 merged-sound o e = words-sound (o .words) (passed-rows o e .of-words)
 
 -- ---- sound words merge to themselves
@@ -232,7 +232,7 @@ unfolding alternate
 first-kind first [] e p = absurd (omega arith)
 first-kind first (w ∷ ws) e p = sym (same-true first (isAbsorb w) (and-left _ _ e))
 
-pub sound-accepted : (o : Opening) → soundWords (o .words) ≡ true → length (o .separator) ≤ maxSeparator → startNumber o ≡ accepted
+pub sound-accepted : (o : Opening) → soundWords (o .words) ≡ true → length (o .separator) ≤ maxSeparator → openingNumber o ≡ accepted
 unfolding shift
 sound-accepted o e h =
     let ws = o .words in

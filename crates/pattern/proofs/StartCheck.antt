@@ -15,7 +15,7 @@ use Rattle.basics.proofs.Cases.{or-false}
 use Rattle.basics.proofs.FirstRow.{none-applies, accepted-none}
 use Rattle.words.specs.Words.{isAbsorb, lengthOf}
 use Rattle.pattern.specs.Pattern.{maxWords, phases, mergedWords}
-use Rattle.pattern.specs.Opening.{Opening, maxSeparator, tooLong, wordRows, startRows, startNumber, withWords, answerWith, checked}
+use Rattle.pattern.specs.Opening.{Opening, maxSeparator, tooLong, wordRows, openingRows, openingNumber, withWords, answerWith, checked}
 use Rattle.pattern.proofs.Given.{answer-accepted, answer-refused}
 use Rattle.pattern.proofs.MergeStep.{merged-words-length}
 
@@ -65,10 +65,10 @@ module _ (o : Opening) where
     pub of-words : PassedWords (o .words)
     pub short : length (o .separator) ≤ maxSeparator
 
-  pub passed-rows : startNumber o ≡ accepted → PassedRows
-  unfolding startNumber startRows wordRows all any _and_
+  pub passed-rows : openingNumber o ≡ accepted → PassedRows
+  unfolding openingNumber openingRows wordRows all any _and_
   passed-rows e =
-      let a1 = or-false _ _ (accepted-none (startRows o) refl e) in
+      let a1 = or-false _ _ (accepted-none (openingRows o) refl e) in
       let a2 = or-false _ _ (a1 .1) in
       let a3 = or-false _ _ (a2 .1) in
       let a4 = or-false _ _ (a3 .1) in
@@ -79,23 +79,23 @@ module _ (o : Opening) where
         short = ltb-false maxSeparator (length (o .separator)) (a6 .0);
       }
 
-  pub passes : PassedRows → startNumber o ≡ accepted
-  unfolding startNumber startRows wordRows any _or_
+  pub passes : PassedRows → openingNumber o ≡ accepted
+  unfolding openingNumber openingRows wordRows any _or_
   passes t =
       let w = t .of-words in
-      none-applies (startRows o) (rw (w .e1, w .e2, w .e3, w .e4, w .e5, le-ltb maxSeparator (length (o .separator)) (t .short)))
+      none-applies (openingRows o) (rw (w .e1, w .e2, w .e3, w .e4, w .e5, le-ltb maxSeparator (length (o .separator)) (t .short)))
 
-  pub checked-refused : (n : ℕ) → eqb n 0 ≡ false → startNumber o ≡ n → checked o ≡ withWords n []
+  pub checked-refused : (n : ℕ) → eqb n 0 ≡ false → openingNumber o ≡ n → checked o ≡ withWords n []
   unfolding checked
   checked-refused n z e = answer-refused _ n _ e z
 
-  pub checked-accepted : startNumber o ≡ accepted → checked o ≡ withWords accepted (mergedWords (o .words))
+  pub checked-accepted : openingNumber o ≡ accepted → checked o ≡ withWords accepted (mergedWords (o .words))
   unfolding checked
   checked-accepted e = answer-accepted _ _ e
 
-  pub checked-number : checked o .number ≡ startNumber o
+  pub checked-number : checked o .number ≡ openingNumber o
   unfolding checked answerWith withWords
   checked-number = refl
 
-  pub few-words : startNumber o ≡ accepted → length (mergedWords (o .words)) ≤ maxWords
+  pub few-words : openingNumber o ≡ accepted → length (mergedWords (o .words)) ≤ maxWords
   few-words e = omega (arith, few-declared (o .words) (passed-rows e .of-words .e1), merged-words-length (o .words))

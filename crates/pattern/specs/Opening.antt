@@ -1,4 +1,5 @@
--- What START gets, and the start check of document 01, "Calls turned away": "START checks 1 to 6 in number order, whichever word is at fault".
+-- What a tag string is made from, and the start check of document 01, "Calls turned away": "START checks 1 to 6 in number order, whichever word is
+-- at fault".
 use mathlib.Core.Bool.{Bool, not}
 use mathlib.Core.List.{List, [], _++_}
 use Prim.Native.Nat.{ℕ, _-_}
@@ -12,7 +13,8 @@ use Rattle.words.specs.Words.{maxLength, isAbsorb, lengthOf, Phase}
 use Rattle.pattern.specs.Pattern.{maxWords, phases, mergedWords}
 use Rattle.pattern.specs.declared.Merged.{Merged}
 
--- what START gets: the words that declare a pattern, and the separator (SAFE's domain separator), a string of bytes
+-- what a tag string is made from, and START gets beside a field number: the words that declare a pattern, and the separator (SAFE's domain
+-- separator), a string of bytes
 pub record Opening : Type 0 where
   pub words : List ℕ
   pub separator : List ℕ
@@ -40,12 +42,12 @@ wordRows ws =
     []
 
 -- all rows, in the order in which they count: behind those about words the one about the separator
-unfoldable pub startRows : Opening → List Row
-startRows o = wordRows (o .words) ++ (ltb maxSeparator (length (o .separator)) gets separatorTooLong ⨾ [])
+unfoldable pub openingRows : Opening → List Row
+openingRows o = wordRows (o .words) ++ (ltb maxSeparator (length (o .separator)) gets separatorTooLong ⨾ [])
 
 -- the number that an opening gets
-unfoldable pub startNumber : Opening → ℕ
-startNumber o = firstNumber (startRows o)
+unfoldable pub openingNumber : Opening → ℕ
+openingNumber o = firstNumber (openingRows o)
 
 -- what comes with a number: nothing if the call is refused
 unfoldable pub given : ℕ → List ℕ → List ℕ
@@ -61,4 +63,4 @@ answerWith number ws = withWords number (given number ws)
 
 -- the start check's answer: its number and the merged words
 unfoldable pub checked : Opening → Merged
-checked o = answerWith (startNumber o) (mergedWords (o .words))
+checked o = answerWith (openingNumber o) (mergedWords (o .words))

@@ -1,12 +1,14 @@
--- The Poseidon permutation, as document 01 fixes it under "Field and permutation". A state is a list of 24 numbers.
+-- The Poseidon permutation, as document 01 fixes it under "Field and permutation", and document 02 for a second field. A state is a list of 24 numbers.
+use mathlib.Core.Bool.{not}
 use mathlib.Core.List.{List}
 use Prim.Native.Nat.{ℕ, zero, suc, _+_, _*_, _%_, _^_}
 use lib.Dec.{ltb}
 use lib.ListN.{getD, set}
 use Rattle.basics.specs.Logic.{if_then_else_, all}
 use Rattle.basics.specs.Lists.{tabulate, sum}
-use Rattle.basics.specs.Numbers.{accepted, elementNotReduced}
-use Rattle.field.specs.Field.{p, isElement}
+use Rattle.basics.specs.Numbers.{accepted, elementNotReduced, fieldUnknown}
+use Rattle.field.specs.Field.{modulus, power, partialRounds, isField, fieldOf, isElement}
+use Rattle.field.specs.declared.Field.{Field}
 use Rattle.poseidon_tables.specs.Tables.{constants, inverses}
 use Rattle.poseidon.specs.declared.Permuted.{Permuted}
 
@@ -44,7 +46,8 @@ matrix F i j = getD (F .inverses) (i + j) 0
 unfoldable pub multiply : Parameters → List ℕ → List ℕ
 multiply F s = tabulate 24 (λ i. sum 24 (λ j. matrix F i j * getD s j 0) % F .modulus)
 
--- "A round adds its 24 constants; raises all elements (full) or element 0 alone (partial) to the seventh power; then multiplies by the matrix"
+-- "A round adds its 24 constants; raises all elements (full) or element 0 alone (partial) to the seventh power; then multiplies by the matrix";
+-- "Field 2 uses the third power"
 abbrev pub round : Parameters → ℕ → List ℕ → List ℕ
 round F r s = multiply F (raise F r (addConstants F r s))
 
@@ -53,16 +56,17 @@ unfoldable pub rounds : Parameters → ℕ → List ℕ → List ℕ
 rounds F zero s = s
 rounds F (suc r) s = round F r (rounds F r s)
 
--- "One permutation is 29 rounds: 4 full, 21 partial, 4 full."
+-- "One permutation is 29 rounds: 4 full, 21 partial, 4 full."; "4 full, 23 partial and 4 full rounds"
 unfoldable pub permutation : Parameters → List ℕ → List ℕ
 permutation F s = rounds F (4 + F .partialRounds + 4) s
 
--- the parameters of document 01's permutation
-unfoldable pub babyBear : Parameters
-babyBear = record { modulus = p; power = 7; partialRounds = 21; constants = constants; inverses = inverses }
+-- the parameters of a field's permutation
+unfoldable pub parameters : Field → Parameters
+parameters f = record { modulus = modulus f; power = power f; partialRounds = partialRounds f; constants = constants f; inverses = inverses f }
 
--- "The permutation gives 10 and its input back.": 10 is for "an element of p or more"
-unfoldable pub permuted : List ℕ → Permuted
-permuted s =
-    if all isElement s then record { number = accepted; state = permutation babyBear s }
-    else record { number = elementNotReduced; state = s }
+-- "18: field number neither 1 nor 2 .. before 10 in the bare permutation, which gives its input back"; 10 is for "an element of p or more"
+unfoldable pub permuted : ℕ → List ℕ → Permuted
+permuted field s =
+    if not (isField field) then record { number = fieldUnknown; state = s }
+    else if not (all (isElement (fieldOf field)) s) then record { number = elementNotReduced; state = s }
+    else record { number = accepted; state = permutation (parameters (fieldOf field)) s }

@@ -7,3 +7,7 @@ use Rattle.basics.specs.Lists.{tabulate}
 -- a state's remainders modulo m
 unfoldable pub remainders : ℕ → List ℕ → List ℕ
 remainders m s = tabulate 24 (λ i. getD s i 0 % m)
+
+-- the larger modulus, below which the elements of either field are
+abbrev pub largest : ℕ
+largest = 2130706433

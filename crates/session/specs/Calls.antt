@@ -5,16 +5,16 @@ use Prim.Native.Nat.{ℕ}
 use lib.Dec.{eqb}
 use lib.ListN.{length}
 use Rattle.basics.specs.Logic.{if_then_else_, _or_, all}
-use Rattle.basics.specs.Numbers.{accepted, recordNotOpen, recordNotSound, callNotInPattern, elementNotReduced, patternNotDone}
+use Rattle.basics.specs.Numbers.{accepted, recordNotOpen, recordNotSound, callNotInPattern, elementNotReduced, patternNotDone, fieldUnknown}
 use Rattle.basics.specs.Refusals.{Row, _gets_⨾_, firstNumber}
-use Rattle.field.specs.Field.{isElement}
+use Rattle.field.specs.Field.{isField, isElement}
 use Rattle.sha3.specs.Sponge.{sha3}
 use Rattle.pattern.specs.Pattern.{mergedWords}
-use Rattle.pattern.specs.Opening.{Opening, startNumber}
+use Rattle.pattern.specs.Opening.{Opening, openingRows}
 use Rattle.progress.specs.Place.{inPattern}
 use Rattle.tag.specs.TagString.{tagString}
 use Rattle.tag.specs.Elements.{tagElements}
-use Rattle.session.specs.Record.{tagState, opened, wiped, openRecord, absorbAll, squeezeAll, squeezedAll}
+use Rattle.session.specs.Record.{tagState, opened, wiped, openRecord, fieldIn, absorbAll, squeezeAll, squeezedAll}
 use Rattle.session.specs.Soundness.{sound}
 use Rattle.session.specs.declared.Session.{Session}
 use Rattle.session.specs.declared.Answer.{Answer}
@@ -23,13 +23,22 @@ use Rattle.session.specs.declared.Answer.{Answer}
 unfoldable pub giving : ℕ → Session → Answer
 giving number r = record { number = number; session = r }
 
--- the record that START gives to an accepted opening: "SHA3-256 (FIPS 202) of that string is the digest."
-unfoldable pub startRecord : Opening → Session
-startRecord o = openRecord (tagState (tagElements (sha3 (tagString o)))) (mergedWords (o .words))
+-- "18: field number neither 1 nor 2, before 1 at START"; "START checks 1 to 6 in number order, whichever word is at fault"
+unfoldable pub startRows : ℕ → Opening → List Row
+startRows field o = not (isField field) gets fieldUnknown ⨾ openingRows o
 
--- "START checks 1 to 6 in number order, whichever word is at fault, and a refusal gives a wiped record."
-unfoldable pub start : Opening → Answer
-start o = if eqb (startNumber o) accepted then giving accepted (startRecord o) else giving (startNumber o) wiped
+-- the number that START gives
+unfoldable pub startNumber : ℕ → Opening → ℕ
+startNumber field o = firstNumber (startRows field o)
+
+-- the record that START gives to a field number and an opening that are accepted: "SHA3-256 (FIPS 202) of that string is the digest."
+unfoldable pub startRecord : ℕ → Opening → Session
+startRecord field o = openRecord field (tagState (tagElements (sha3 (tagString o)))) (mergedWords (o .words))
+
+-- START: "a refusal gives a wiped record."
+unfoldable pub start : ℕ → Opening → Answer
+start field o =
+    if eqb (startNumber field o) accepted then giving accepted (startRecord field o) else giving (startNumber field o) wiped
 
 -- the rows about the record, which ABSORB, SQUEEZE and FINISH check first: 7 and 8
 unfoldable pub recordRows : Session → List Row
@@ -43,7 +52,7 @@ callRows absorbs n r =
 
 -- "then 10 (ABSORB only)"
 unfoldable pub absorbRows : Session → List ℕ → List Row
-absorbRows r xs = callRows true (length xs) r ++ (not (all isElement xs) gets elementNotReduced ⨾ [])
+absorbRows r xs = callRows true (length xs) r ++ (not (all (isElement (fieldIn r)) xs) gets elementNotReduced ⨾ [])
 
 -- "FINISH checks 7, 8, 11."
 unfoldable pub finishRows : Session → List Row

@@ -7,7 +7,9 @@ use Rattle.basics.specs.Figures.{rate, capacity, width}
 use Rattle.pattern.specs.Pattern.{maxWords}
 use Rattle.progress.specs.Place.{nextPlace}
 use Rattle.progress.specs.declared.place.Place.{Place}
-use Rattle.poseidon.specs.Permutation.{babyBear}
+use Rattle.field.specs.Field.{fieldOf}
+use Rattle.field.specs.declared.Field.{Field}
+use Rattle.poseidon.specs.Permutation.{Parameters, parameters}
 use Rattle.sponge.specs.Sponge.{sponge, absorbElement, squeezeElement, squeezedElement}
 use Rattle.sponge.specs.declared.Sponge.{Sponge}
 use Rattle.session.specs.declared.Session.{Session}
@@ -21,6 +23,7 @@ unfoldable pub wiped : Session
 wiped =
     record {
       status = 0;
+      field = 0;
       state = replicate width 0;
       words = replicate maxWords 0;
       count = 0;
@@ -37,11 +40,12 @@ unfoldable pub tagState : List ℕ → List ℕ
 tagState elements = replicate rate 0 ++ elements ++ replicate (capacity - 8) 0
 
 -- "START makes it open, with the merged words and their number; phase number, elements done, positions, permutations and unused words are
--- 0.": the record of a state and merged words
-unfoldable pub openRecord : List ℕ → List ℕ → Session
-openRecord state ws =
+-- 0."; "START takes a field number .. and the record keeps it": the record of a field number, a state and merged words
+unfoldable pub openRecord : ℕ → List ℕ → List ℕ → Session
+openRecord field state ws =
     record {
       status = opened;
+      field = field;
       state = state;
       words = zeroPadded maxWords ws;
       count = length ws;
@@ -61,6 +65,7 @@ unfoldable pub moved : Session → Sponge → Place → Session
 moved r s place =
     record {
       status = r .status;
+      field = r .field;
       state = s .state;
       words = r .words;
       count = r .count;
@@ -75,17 +80,25 @@ moved r s place =
 abbrev pub nextPlaceOf : Session → Place
 nextPlaceOf r = nextPlace (r .words) (r .phase) (r .done)
 
+-- "the field that the record .. names"
+abbrev pub fieldIn : Session → Field
+fieldIn r = fieldOf (r .field)
+
+-- the parameters of its permutation
+abbrev pub parametersIn : Session → Parameters
+parametersIn r = parameters (fieldIn r)
+
 -- the record after one element is absorbed
 unfoldable pub absorbOne : Session → ℕ → Session
-absorbOne r x = moved r (absorbElement babyBear (spongeOf r) x) (nextPlaceOf r)
+absorbOne r x = moved r (absorbElement (parametersIn r) (spongeOf r) x) (nextPlaceOf r)
 
 -- the record after one element is squeezed
 unfoldable pub squeezeOne : Session → Session
-squeezeOne r = moved r (squeezeElement babyBear (spongeOf r)) (nextPlaceOf r)
+squeezeOne r = moved r (squeezeElement (parametersIn r) (spongeOf r)) (nextPlaceOf r)
 
 -- the element that comes out then
 unfoldable pub squeezedOne : Session → ℕ
-squeezedOne r = squeezedElement babyBear (spongeOf r)
+squeezedOne r = squeezedElement (parametersIn r) (spongeOf r)
 
 -- the record after a list is absorbed, element by element
 unfoldable pub absorbAll : Session → List ℕ → Session

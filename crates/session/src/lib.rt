@@ -14,6 +14,8 @@ ghost use Rattle.session.specs.Steps.{refusedWith, movedOn, Countable};
 pub struct Session {
     // OPEN, otherwise closed
     pub status: u32,
+    // the field number
+    pub field: u32,
     pub state: [u32; Session::WIDTH],
     // the merged words of the pattern, with unused ones 0
     pub words: [u32; 64],
@@ -56,6 +58,7 @@ fn wipe(number: u32) -> Answer
         number,
         session: Session {
             status: 0,
+            field: 0,
             state: [0; Session::WIDTH],
             words: [0; 64],
             count: 0,
@@ -91,10 +94,13 @@ impl Session {
     // How many elements it has in all.
     pub const WIDTH: usize = Session::RATE + Session::CAPACITY;
 
-    // START: opens a session for a pattern and a separator.
-    pub fn start(words: &[u32], separator: &[u8]) -> Answer
-        ensures { λ r. ⌜ r ≡ start (opening (now (words .entry)) (now (separator .entry))) ⌝ }
+    // START: opens a session in the field of a number, for a pattern and a separator.
+    pub fn start(field: u32, words: &[u32], separator: &[u8]) -> Answer
+        ensures { λ r. ⌜ r ≡ start field (opening (now (words .entry)) (now (separator .entry))) ⌝ }
     {
+        if !field::is_field(field) {
+            return wipe(basics::FIELD_UNKNOWN);
+        }
         let merged = pattern::check(words, separator);
         if merged.number != basics::ACCEPTED {
             return wipe(merged.number);
@@ -110,6 +116,7 @@ impl Session {
             number: basics::ACCEPTED,
             session: Session {
                 status: OPEN,
+                field,
                 state,
                 words: merged_words,
                 count: count as u32,
@@ -130,11 +137,18 @@ impl Session {
         if number != basics::ACCEPTED {
             return refuse(number, self);
         }
-        if !field::is_reduced(input) {
+        let field = field::field_of(self.field);
+        if !field::is_reduced(field, input) {
             return refuse(basics::ELEMENT_NOT_REDUCED, self);
         }
         let state = self.state;
-        let sponge = sponge::absorb(state, self.absorb_position, self.squeeze_position, input);
+        let sponge = sponge::absorb(
+            field,
+            state,
+            self.absorb_position,
+            self.squeeze_position,
+            input,
+        );
         Answer {
             number,
             session: self.move_on(sponge, input.len()),
@@ -150,8 +164,15 @@ impl Session {
         if number != basics::ACCEPTED {
             return refuse(number, self);
         }
+        let field = field::field_of(self.field);
         let state = self.state;
-        let sponge = sponge::squeeze(state, self.absorb_position, self.squeeze_position, output);
+        let sponge = sponge::squeeze(
+            field,
+            state,
+            self.absorb_position,
+            self.squeeze_position,
+            output,
+        );
         Answer {
             number,
             session: self.move_on(sponge, output.len()),
@@ -176,6 +197,9 @@ impl Session {
     fn is_sound(self) -> bool
         ensures { λ r. ⌜ r ≡ sound self ⌝ }
     {
+        if !field::is_field(self.field) {
+            return false;
+        }
         let words = self.words;
         if !sound_words::places_sound(&words, self.count) {
             return false;
@@ -184,7 +208,7 @@ impl Session {
             return false;
         }
         let state = self.state;
-        if !field::is_reduced(&state) {
+        if !field::is_reduced(field::field_of(self.field), &state) {
             return false;
         }
         if self.permutations
@@ -253,6 +277,7 @@ impl Session {
         let state = sponge.state;
         Session {
             status: self.status,
+            field: self.field,
             state,
             words,
             count: self.count,

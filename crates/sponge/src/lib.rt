@@ -1,8 +1,9 @@
 // The sponge, element by element: SAFE's state, with an absorb and a squeeze position from 0 to 8.
+use field::Field;
 ghost use mathlib.Core.Path.{_≡_};
 ghost use Prim.Native.Nat.{_+_};
 ghost use lib.ListN.{length, getD};
-ghost use Rattle.poseidon.specs.Permutation.{babyBear};
+ghost use Rattle.poseidon.specs.Permutation.{parameters};
 ghost use Rattle.sponge.specs.Sponge.{sponge, outer, absorbElements, squeezeElements, squeezedElements};
 ghost use Rattle.sponge.specs.Steps.{stateFor, permutationsFor, stateWith, absorbFor};
 
@@ -18,13 +19,13 @@ pub struct Sponge {
 }
 
 // Permutes the state where a position is RATE. Answers how many permutations that is.
-fn permute_if_full(state: &mut [u32; 24], position: u32) -> u64
-    ensures { λ r. ⌜ (r ≡ permutationsFor position) × (now (state .exit) ≡ stateFor babyBear position (now (state .entry))) ⌝ }
+fn permute_if_full(field: Field, state: &mut [u32; 24], position: u32) -> u64
+    ensures { λ r. ⌜ (r ≡ permutationsFor position) × (now (state .exit) ≡ stateFor (parameters field) position (now (state .entry))) ⌝ }
 {
     if position != RATE {
         return 0;
     }
-    let permuted = poseidon::permutation(*state);
+    let permuted = poseidon::permutation(field, *state);
     *state = permuted;
     1
 }
@@ -37,12 +38,17 @@ fn next_position(position: u32) -> u32
 }
 
 // Adds an element at a position, and permutes first where that is RATE. Answers how many permutations that is.
-fn absorb_element(state: &mut [u32; 24], position: u32, element: u32) -> u64
-    ensures { λ r. ⌜ (r ≡ permutationsFor position) × (now (state .exit) ≡ stateWith babyBear position (now (state .entry)) element) ⌝ }
+fn absorb_element(
+    field: Field,
+    state: &mut [u32; 24],
+    position: u32,
+    element: u32,
+) -> u64
+    ensures { λ r. ⌜ (r ≡ permutationsFor position) × (now (state .exit) ≡ stateWith (parameters field) position (now (state .entry)) element) ⌝ }
 {
-    let permutations = permute_if_full(state, position);
+    let permutations = permute_if_full(field, state, position);
     let at = (position % RATE) as usize;
-    state[at] = field::add(state[at], element);
+    state[at] = field::add(field, state[at], element);
     permutations
 }
 
@@ -67,19 +73,20 @@ fn absorb_position_after(absorb_position: u32, squeeze_position: u32) -> u32
 
 // Absorbs elements one after the other.
 pub fn absorb(
+    field: Field,
     state: [u32; 24],
     absorb_position: u32,
     squeeze_position: u32,
     input: &[u32],
 ) -> Sponge
-    ensures { λ r. ⌜ r ≡ absorbElements babyBear (sponge state «absorb_position» «squeeze_position» 0) (now (input .entry)) ⌝ }
+    ensures { λ r. ⌜ r ≡ absorbElements (parameters field) (sponge state «absorb_position» «squeeze_position» 0) (now (input .entry)) ⌝ }
 {
     let mut next = state;
     let mut position = absorb_position;
     let mut squeeze = squeeze_position;
     let mut permutations: u64 = 0;
     for i in 0..input.len() {
-        permutations += absorb_element(&mut next, position, input[i]);
+        permutations += absorb_element(field, &mut next, position, input[i]);
         position = next_position(position);
         squeeze = RATE;
     }
@@ -93,20 +100,21 @@ pub fn absorb(
 
 // Squeezes elements one after the other, until the output is full.
 pub fn squeeze(
+    field: Field,
     state: [u32; 24],
     absorb_position: u32,
     squeeze_position: u32,
     output: &mut [u32],
 ) -> Sponge
-    ensures { λ r. ⌜ (r ≡ squeezeElements babyBear (sponge state «absorb_position» «squeeze_position» 0) (length (now (output .entry)))) ×
-        (now (output .exit) ≡ squeezedElements babyBear (sponge state «absorb_position» «squeeze_position» 0) (length (now (output .entry)))) ⌝ }
+    ensures { λ r. ⌜ (r ≡ squeezeElements (parameters field) (sponge state «absorb_position» «squeeze_position» 0) (length (now (output .entry)))) ×
+        (now (output .exit) ≡ squeezedElements (parameters field) (sponge state «absorb_position» «squeeze_position» 0) (length (now (output .entry)))) ⌝ }
 {
     let mut next = state;
     let mut absorb = absorb_position;
     let mut position = squeeze_position;
     let mut permutations: u64 = 0;
     for i in 0..output.len() {
-        permutations += permute_if_full(&mut next, position);
+        permutations += permute_if_full(field, &mut next, position);
         absorb = absorb_position_after(absorb, position);
         output[i] = element_at(&next, position);
         position = next_position(position);

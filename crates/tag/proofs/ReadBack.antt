@@ -20,7 +20,7 @@ use Rattle.basics.proofs.Parts.{four-bytes-below}
 use Rattle.basics.proofs.Positional.{number-digits, digits-number}
 use Rattle.words.specs.Words.{Phase, phaseOf, wordOf}
 use Rattle.pattern.specs.Pattern.{phases, mergedWords, soundWords}
-use Rattle.pattern.specs.Opening.{Opening, opening, startNumber, withWords}
+use Rattle.pattern.specs.Opening.{Opening, opening, openingNumber, withWords}
 use Rattle.tag.specs.TagString.{wordBytes, stringOf, tagString, wordAt, wordsOf, wordsPart, separatorPart, soundBytes, readNumber, readWords, wordsRead, readSeparator}
 use Rattle.pattern.specs.declared.Merged.{Merged}
 use Rattle.tag.proofs.WordBytes.{length-word-bytes}
@@ -84,7 +84,7 @@ words-below (a ∷ b ∷ c ∷ d ∷ s) e h =
 
 -- ---- reading what was written
 
-module _ (o : Opening) (e : startNumber o ≡ accepted) where
+module _ (o : Opening) (e : openingNumber o ≡ accepted) where
   abbrev s : List ℕ
   s = tagString o
 
@@ -158,9 +158,9 @@ module _ (s : List ℕ) (n : ℕ) (bytes : Below 256 s) (e : readNumber s n ≡ 
   again-parts : again ≡ opening (wordsOf head) (separatorPart s n)
   again-parts = ap₂ opening words-read (separator-accepted s n e)
 
-  pub writes : startNumber (opening (wordsRead s n) (readSeparator s n)) ≡ accepted
+  pub writes : openingNumber (opening (wordsRead s n) (readSeparator s n)) ≡ accepted
   writes =
-      ap startNumber again-parts
+      ap openingNumber again-parts
       ∙ sound-accepted (opening (wordsOf head) (separatorPart s n)) sound-words (rw separator-length (passed s n e .short))
 
   pub writes-string : tagString (opening (wordsRead s n) (readSeparator s n)) ≡ s
@@ -175,20 +175,20 @@ module _ (s : List ℕ) (n : ℕ) (bytes : Below 256 s) (e : readNumber s n ≡ 
 
 -- number 13: no accepted opening with a separator of that length has this string
 pub refused-string : (s : List ℕ) (n : ℕ) → readNumber s n ≡ notTagString
-    → (o : Opening) → startNumber o ≡ accepted → length (o .separator) ≡ n → tagString o ≢ s
+    → (o : Opening) → openingNumber o ≡ accepted → length (o .separator) ≡ n → tagString o ≢ s
 refused-string s n r o e l q =
     let z : accepted ≡ notTagString = sym (reads o e) ∙ ap₂ readNumber q l ∙ r in
     absurd (omega arith)
 
 -- an accepted pattern's kinds and lengths are those of its merged words
-pub phases-read : (o : Opening) → startNumber o ≡ accepted → map phaseOf (mergedWords (o .words)) ≡ phases (o .words)
+pub phases-read : (o : Opening) → openingNumber o ≡ accepted → map phaseOf (mergedWords (o .words)) ≡ phases (o .words)
 unfolding mergedWords
 phases-read o e = phases-of-words (phases (o .words)) (passed-rows o e .of-words .e5) .0
 
 module _
     (a b : Opening)
-    (e : startNumber a ≡ accepted)
-    (f : startNumber b ≡ accepted)
+    (e : openingNumber a ≡ accepted)
+    (f : openingNumber b ≡ accepted)
     (l : length (a .separator) ≡ length (b .separator))
   where
     tell : tagString a ≡ tagString b → (phases (a .words) ≡ phases (b .words)) × (a .separator ≡ b .separator)

@@ -15,7 +15,7 @@ use Rattle.basics.proofs.Cases.{if-true, if-false}
 use Rattle.basics.proofs.Placed.{placed-none, placed-behind, placed-start, placed-front}
 use Rattle.basics.proofs.FirstRow.{behind, refused-before, accepted-none}
 use Rattle.pattern.specs.Pattern.{mergedWords}
-use Rattle.pattern.specs.Opening.{Opening, wordRows, startRows, startNumber, given}
+use Rattle.pattern.specs.Opening.{Opening, wordRows, openingRows, openingNumber, given}
 use Rattle.pattern.proofs.Given.{given-accepted, given-refused}
 use Rattle.pattern.proofs.StartCheck.{passed-rows, few-words}
 use Rattle.tag.specs.TagString.{wordBytes, maxString, stringOf, tagString, bufferRows, bufferNumber, writeRows, writeNumber, writtenWith, bufferWith, stringWritten, stringBuffer, written, bufferAfter}
@@ -110,23 +110,23 @@ module _ (o : Opening) where
   length-tag-string = length-string (mergedWords (o .words)) (o .separator)
 
   -- every accepted opening's: 64 words of four bytes, and 256 bytes
-  pub tag-string-short : startNumber o ≡ accepted → length (tagString o) ≤ maxString
+  pub tag-string-short : openingNumber o ≡ accepted → length (tagString o) ≤ maxString
   tag-string-short e = omega (arith, length-tag-string, few-words o e, passed-rows o e .short)
 
   module _ (buffer : List ℕ) where
-    pub number-of-check : startNumber o ≢ accepted → writeNumber o buffer ≡ startNumber o
-    unfolding writeNumber writeRows startNumber
-    number-of-check n = refused-before (startRows o) (bufferRows (tagString o) buffer) n
+    pub number-of-check : openingNumber o ≢ accepted → writeNumber o buffer ≡ openingNumber o
+    unfolding writeNumber writeRows openingNumber
+    number-of-check n = refused-before (openingRows o) (bufferRows (tagString o) buffer) n
 
-    pub number-of-buffer : startNumber o ≡ accepted → writeNumber o buffer ≡ bufferNumber (tagString o) buffer
-    unfolding writeNumber writeRows startNumber bufferNumber startRows wordRows all _and_
-    number-of-buffer e = behind (startRows o) (bufferRows (tagString o) buffer) (accepted-none (startRows o) refl e)
+    pub number-of-buffer : openingNumber o ≡ accepted → writeNumber o buffer ≡ bufferNumber (tagString o) buffer
+    unfolding writeNumber writeRows openingNumber bufferNumber openingRows wordRows all _and_
+    number-of-buffer e = behind (openingRows o) (bufferRows (tagString o) buffer) (accepted-none (openingRows o) refl e)
 
     -- a buffer of so many bytes holds every tag string
-    pub room-for-any : startNumber o ≡ accepted → maxString ≤ length buffer → bufferNumber (tagString o) buffer ≡ accepted
+    pub room-for-any : openingNumber o ≡ accepted → maxString ≤ length buffer → bufferNumber (tagString o) buffer ≡ accepted
     room-for-any e h = number-0 (tagString o) buffer (omega (arith, tag-string-short e))
 
-    pub check-refuses : (number : ℕ) → number ≡ startNumber o → number ≢ accepted
+    pub check-refuses : (number : ℕ) → number ≡ openingNumber o → number ≢ accepted
         → (record { number = number; length = 0 } ≡ written o buffer) × (buffer ≡ bufferAfter o buffer)
     unfolding written bufferAfter
     check-refuses number e n =
@@ -136,7 +136,7 @@ module _ (o : Opening) where
           sym (buffer-left (writeNumber o buffer) (tagString o) buffer refused),
         )
 
-    module _ (e : startNumber o ≡ accepted) where
+    module _ (e : openingNumber o ≡ accepted) where
       pub written-accepted : stringWritten (tagString o) buffer ≡ written o buffer
       unfolding written stringWritten
       written-accepted = ap (λ (n : ℕ). writtenWith n (tagString o)) (sym (number-of-buffer e))

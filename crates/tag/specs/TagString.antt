@@ -10,7 +10,7 @@ use Rattle.basics.specs.Digits.{digits, number}
 use Rattle.basics.specs.Numbers.{separatorTooLong, bufferTooShort, notTagString}
 use Rattle.basics.specs.Refusals.{Row, _gets_⨾_, firstNumber}
 use Rattle.pattern.specs.Pattern.{maxWords, mergedWords, soundWords}
-use Rattle.pattern.specs.Opening.{Opening, maxSeparator, startRows, given, answerWith}
+use Rattle.pattern.specs.Opening.{Opening, maxSeparator, openingRows, given, answerWith}
 use Rattle.pattern.specs.declared.Merged.{Merged}
 use Rattle.tag.specs.declared.Written.{Written}
 
@@ -41,7 +41,7 @@ bufferNumber string buffer = firstNumber (bufferRows string buffer)
 
 -- "Writing checks 1 to 6, then 12"
 unfoldable pub writeRows : Opening → List ℕ → List Row
-writeRows o buffer = startRows o ++ bufferRows (tagString o) buffer
+writeRows o buffer = openingRows o ++ bufferRows (tagString o) buffer
 
 -- the number that writing gets
 unfoldable pub writeNumber : Opening → List ℕ → ℕ

@@ -7,16 +7,22 @@ ghost use Rattle.sha3.specs.Sponge.{sha3};
 ghost use Rattle.pattern.specs.Opening.{opening};
 ghost use Rattle.tag.specs.TagString.{written as writing, bufferAfter, readWords};
 ghost use Rattle.poseidon.specs.Permutation.{permuted};
+ghost use Rattle.generator.specs.Generator.{generation};
 ghost use Rattle.owners.specs.Owners.{tableOf, checked, asked, valueOf};
 ghost use Rattle.session.specs.Calls.{giving, start, absorb, squeeze, squeezeBuffer, finish};
 ghost use Rattle.tuilarder.specs.Layout.{layout};
 
 // START into a lent record, whatever that held.
 #[no_mangle]
-pub extern "C" fn tuilarder_start(record: &mut Session, words: &[u32], separator: &[u8]) -> u32
-    ensures { λ r. ⌜ giving r (now («record» .exit)) ≡ start (opening (now (words .entry)) (now (separator .entry))) ⌝ }
+pub extern "C" fn tuilarder_start(
+    record: &mut Session,
+    field: u32,
+    words: &[u32],
+    separator: &[u8],
+) -> u32
+    ensures { λ r. ⌜ giving r (now («record» .exit)) ≡ start field (opening (now (words .entry)) (now (separator .entry))) ⌝ }
 {
-    let opened = Session::start(words, separator);
+    let opened = Session::start(field, words, separator);
     *record = opened.session;
     opened.number
 }
@@ -52,16 +58,36 @@ pub extern "C" fn tuilarder_finish(record: &mut Session) -> u32
     answer.number
 }
 
-// One permutation in place. Answers 0, or 10 with the state as it was where an element is p or more.
+// One permutation in place, in the field of a number. Answers 0; or 18 where the number names no field, or 10 where an element is p or more, with the
+// state as it was.
 #[no_mangle]
-pub extern "C" fn tuilarder_permute(state: &mut [u32; 24]) -> u32
-    ensures { λ r. ⌜ (r ≡ permuted (now (state .entry)) .number) ×
-        (now (state .exit) ≡ permuted (now (state .entry)) .state) ⌝ }
+pub extern "C" fn tuilarder_permute(field: u32, state: &mut [u32; 24]) -> u32
+    ensures { λ r. ⌜ (r ≡ permuted field (now (state .entry)) .number) ×
+        (now (state .exit) ≡ permuted field (now (state .entry)) .state) ⌝ }
 {
-    let permutation = poseidon::permute(*state);
+    let permutation = poseidon::permute(field, *state);
     let permuted = permutation.state;
     *state = permuted;
     permutation.number
+}
+
+// The round constants of the field of a number, from the list's start on, zeros behind them, and how many they are. Refused, with 18, the list holds
+// zeros, and the count is 0.
+#[no_mangle]
+pub extern "C" fn tuilarder_generate(
+    field: u32,
+    constants: &mut [u32; 744],
+    count: &mut usize,
+) -> u32
+    ensures { λ r. ⌜ (r ≡ generation field .number) ×
+        (now (constants .exit) ≡ generation field .constants) ×
+        (now (count .exit) ≡ generation field .count) ⌝ }
+{
+    let generated = generator::generate(field);
+    let found = generated.constants;
+    *constants = found;
+    *count = generated.count;
+    generated.number
 }
 
 // The tag string of a pattern and a separator, from the buffer's start on, with how many bytes it has. Refused, it writes no byte, and
@@ -134,15 +160,15 @@ pub extern "C" fn tuilarder_owner(table: &[u8], separator: &[u8], value: &mut u3
 }
 
 // The version of these functions. It rises whenever one of them, or the record, changes for a caller.
-const VERSION: u64 = 1;
+const VERSION: u64 = 2;
 
 // The bytes of a record.
-const RECORD_BYTES: u64 = 384;
+const RECORD_BYTES: u64 = 392;
 
 // What the library was compiled for, to be compared with what its caller was. The version is in the name too, so that a caller of another one is
 // not linked.
 #[no_mangle]
-pub extern "C" fn tuilarder_layout_1() -> u64
+pub extern "C" fn tuilarder_layout_2() -> u64
     ensures { λ r. ⌜ r ≡ layout ⌝ }
 {
     VERSION * 4294967296 + RECORD_BYTES

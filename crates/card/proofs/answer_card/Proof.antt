@@ -7,7 +7,7 @@ use lib.ListN.{length, take}
 use lib.Seq.{length-take-le}
 use Rattle.basics.specs.Lists.{placed}
 use Rattle.basics.specs.Numbers.{accepted}
-use Rattle.pattern.specs.Opening.{Opening, opening, startNumber}
+use Rattle.pattern.specs.Opening.{Opening, opening, openingNumber}
 use Rattle.pattern.proofs.Checked.{number-checked, started, count-fits, count-inside}
 use Rattle.tag.specs.TagString.{tagString}
 use Rattle.tag.proofs.Writing.{tag-string-short}
@@ -24,7 +24,7 @@ abbrev opened : tie.After-check → Opening
 opened c = let args = c .before .before .before .args in opening (args .words .now) (args .separator .now)
 
 -- what is known where it is accepted
-starts : (c : tie.Else1) → startNumber (opened (c .before .before)) ≡ accepted
+starts : (c : tie.Else1) → openingNumber (opened (c .before .before)) ≡ accepted
 starts c = started (opened (c .before .before)) _ (c .before .before .check .ensures) (c .if1 .left)
 
 count-in : (c : tie.Else1) → c .before .before .check .result .count ≤ length (c .before .before .check .result .words)

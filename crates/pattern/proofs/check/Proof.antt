@@ -8,7 +8,7 @@ use native.Mathlib.Omega.{arith}
 use borrow.Author.Tests.{ne-eqb}
 use lib.ListN.{length, take}
 use lib.Seq.{length-take-le, take-all}
-use Rattle.pattern.specs.Opening.{opening, startNumber}
+use Rattle.pattern.specs.Opening.{opening, openingNumber}
 use Rattle.pattern.specs.Steps.{holding}
 use Rattle.pattern.specs.Pass.{lower, heldAfter}
 use Rattle.pattern.specs.declared.Merged.{Merged}
@@ -66,7 +66,7 @@ number-held : (c : tie.After-lower-of) → c .before .before .pass .result .numb
 unfolding words
 number-held c = sym (holding-number _ _ _) ∙ ap (λ (m : Merged). m .number) (pass-held c)
 
-number-is : (c : tie.After-lower-of) → c .lower-of .result ≡ startNumber (opening (words c) (separator c))
+number-is : (c : tie.After-lower-of) → c .lower-of .result ≡ openingNumber (opening (words c) (separator c))
 unfolding words separator
 number-is c =
     let last = c .before .before .pass .result .last in
