@@ -2,7 +2,8 @@
 -- Assumes nothing.
 use mathlib.Core.Path.{refl}
 use mathlib.Core.List.{List, [], _∷_, _++_}
-use Prim.Native.Nat.{ℕ, zero, suc, _<_}
+use Prim.Native.Nat.{ℕ, zero, suc, _<_, _≤_}
+use native.Mathlib.Nat.{lt-of-lt-of-le}
 use borrow.Author.Tests.{ltb-true, lt-ltb}
 use lib.ListN.{getD, take}
 use Rattle.basics.specs.Logic.{all}
@@ -47,3 +48,8 @@ module _ (m : ℕ) where
   pub at-below : (xs : List ℕ) → ((k : ℕ) → getD xs k 0 < m) → Below m xs
   at-below [] h = below-nil
   at-below (x ∷ xs) h = below-cons x xs (h 0) (at-below xs (λ k. h (suc k)))
+
+-- what is below a bound is below a larger one
+pub below-larger : {m n : ℕ} → m ≤ n → (xs : List ℕ) → Below m xs → Below n xs
+below-larger l [] h = below-nil _
+below-larger {m} {n} l (x ∷ xs) h = below-cons n x xs (lt-of-lt-of-le (below-head m x xs h) l) (below-larger l xs (below-tail m x xs h))

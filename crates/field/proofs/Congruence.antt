@@ -16,6 +16,9 @@ transitive ab bc = record { same = ab .same ∙ bc .same }
 pub remainder : (m a : ℕ) → Congruent m (a % m) a
 remainder m a = record { same = mod-mod a m }
 
+pub add-multiple : (m a k : ℕ) → Congruent m (a + m * k) a
+add-multiple m a k = record { same = add-mul-mod-self-left a m k }
+
 mul-left : (m a b : ℕ) → (a % m * b) % m ≡ (a * b) % m
 mul-left m a b =
     sym (add-mul-mod-self-left (a % m * b) m (a / m * b))

@@ -1,30 +1,34 @@
--- The permutation of a state is that of its remainders, since the first step adds constants modulo the modulus. Over any parameters.
+-- A round goes by the remainders of the state's elements alone, so that the permutation of a state is that of its remainders. Over any parameters.
 -- Assumes nothing.
 use mathlib.Core.Path.{_≡_, _∙_, ap, subst}
 use mathlib.Core.List.{List}
-use Prim.Native.Nat.{ℕ, zero, suc, _+_, _*_, _%_}
-use native.Mathlib.Nat.{mod-add-mod}
+use Prim.Native.Nat.{ℕ, zero, suc, _+_, _*_, _%_, _<_}
+use native.Mathlib.Nat.{mod-mod}
 use native.Mathlib.Omega.{arith}
 use lib.ListN.{getD}
 use Rattle.basics.proofs.Fill.{tabulate-at, tabulate-same}
-use Rattle.poseidon.specs.Permutation.{Parameters, addConstants, raise, multiply, rounds, permutation}
+use Rattle.field.proofs.Congruence.{Congruent, reflexive, add-congruent}
+use Rattle.poseidon.specs.Permutation.{Parameters, addConstants, raise, multiply, round, rounds, permutation}
 use Rattle.poseidon.specs.Steps.{remainders}
 
+-- states that are congruent element by element have equal rounds
+pub round-congruent : (F : Parameters) (r : ℕ) (s t : List ℕ)
+    → ((k : ℕ) → k < 24 → Congruent (F .modulus) (getD s k 0) (getD t k 0)) → round F r s ≡ round F r t
+unfolding addConstants
+round-congruent F r s t h =
+    ap (λ (u : List ℕ). multiply F (raise F r u))
+    (tabulate-same 24 _ _ (λ k l. add-congruent (h k l) (reflexive (getD (F .constants) (24 * r + k) 0)) .same))
+
 module _ (F : Parameters) (s : List ℕ) where
-  added-remainders : (r : ℕ) → addConstants F r (remainders (F .modulus) s) ≡ addConstants F r s
-  unfolding addConstants remainders
-  added-remainders r =
-      let m = F .modulus in
-      tabulate-same 24 _ _
-      (λ i below.
-      ap (λ (x : ℕ). (x + getD (F .constants) (24 * r + i) 0) % m) (tabulate-at 24 (λ k. getD s k 0 % m) i below)
-      ∙ mod-add-mod (getD s i 0) m _)
+  congruent : (k : ℕ) → k < 24 → Congruent (F .modulus) (getD (remainders (F .modulus) s) k 0) (getD s k 0)
+  unfolding remainders
+  congruent k l = record { same = ap (λ (x : ℕ). x % F .modulus) (tabulate-at 24 (λ k. getD s k 0 % F .modulus) k l) ∙ mod-mod (getD s k 0) (F .modulus) }
 
   -- one round at least
   rounds-remainders : (n : ℕ) → rounds F (suc n) (remainders (F .modulus) s) ≡ rounds F (suc n) s
   unfolding rounds
-  rounds-remainders zero = ap (λ (t : List ℕ). multiply F (raise F 0 t)) (added-remainders 0)
-  rounds-remainders (suc n) = ap (λ (t : List ℕ). multiply F (raise F (suc n) (addConstants F (suc n) t))) (rounds-remainders n)
+  rounds-remainders zero = round-congruent F 0 _ s congruent
+  rounds-remainders (suc n) = ap (round F (suc n)) (rounds-remainders n)
 
   pub permutation-of-remainders : permutation F (remainders (F .modulus) s) ≡ permutation F s
   unfolding permutation

@@ -8,7 +8,7 @@ use native.Mathlib.Numerals.{add-one}
 use native.Mathlib.Omega.{arith}
 use lib.ListN.{getD}
 use Rattle.basics.specs.Lists.{sum}
-use Rattle.field.proofs.Congruence.{reflexive, remainder, add-congruent, mul-congruent}
+use Rattle.field.proofs.Congruence.{reflexive, reduced, add-congruent, mul-congruent}
 
 -- one term further, at a place that is written as the code writes it
 sum-next : (f : ℕ → ℕ) (n k : ℕ) → k ≡ n + 1 → sum k f ≡ sum n f + f n
@@ -39,7 +39,10 @@ row-four table state start n =
 pub product-bound : (m a b : ℕ) → a < m → b < m → a * b ≤ (m - 1) * (m - 1)
 product-bound m a b ha hb = mul-le-mul (omega arith) (omega arith)
 
+-- the high half of a row's sum, times what 2^32 is modulo m
+pub high-bound : (high word : ℕ) → high ≤ 25368723456 → word ≤ 268435454 → high * word ≤ 6809864798311809024
+high-bound high word h w = mul-le-mul h w
+
 -- the high 32 bits of a sum count as 2^32 does modulo m
-pub high-half : (m high low : ℕ) → (high * (2 ^ 32 % m) + low) % m ≡ (high * 2 ^ 32 + low) % m
-high-half m high low =
-    add-congruent (mul-congruent (reflexive high) (remainder m (2 ^ 32))) (reflexive low) .same
+pub high-half : (m high low : ℕ) {word : ℕ} → word ≡ 2 ^ 32 % m → (high * word + low) % m ≡ (high * 2 ^ 32 + low) % m
+high-half m high low e = add-congruent (mul-congruent (reflexive high) (reduced e)) (reflexive low) .same

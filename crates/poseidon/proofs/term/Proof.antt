@@ -1,9 +1,9 @@
--- `poseidon::term` meets its contract: the product of two numbers below p.
+-- `poseidon::term` meets its contract: the product of two numbers below the larger modulus.
 -- Assumes nothing.
 use native.Mathlib.Omega.{arith}
 use lib.Dec.{lit<}
 use Rattle.basics.proofs.Below.{below-at}
-use Rattle.field.specs.Field.{p}
+use Rattle.poseidon.specs.Steps.{largest}
 use Rattle.poseidon.proofs.Sums.{product-bound}
 use borrow.Author.Needs.{needs}
 use Rattle.poseidon.proofs.term.Statement.{statement}
@@ -12,9 +12,9 @@ use Rattle.poseidon.proofs.term.Tie as tie
 returns : tie.Need-returns
 returns c =
     let at-start = c .before .before .before .before in
-    let entry = below-at p (lit< tt) _ (at-start .pre .2) (at-start .args .place) in
-    let element = below-at p (lit< tt) _ (at-start .pre .3) (at-start .args .j) in
-    (c .wide-mul .ensures, omega (arith, product-bound p _ _ entry element))
+    let entry = below-at largest (lit< tt) _ (at-start .pre .2) (at-start .args .place) in
+    let element = below-at largest (lit< tt) _ (at-start .pre .3) (at-start .args .j) in
+    (c .wide-mul .ensures, omega (arith, product-bound largest _ _ entry element))
 
 pub term-spec : {M : Type 1} → statement M
 term-spec =
