@@ -15,13 +15,13 @@ use Rattle.basics.specs.Refusals.{firstNumber}
 use Rattle.basics.proofs.Cases.{by, cases, if-true, if-false}
 use Rattle.basics.proofs.FirstRow.{refused-before}
 use Rattle.field.specs.Field.{isElement}
+use Rattle.field.specs.declared.Field.{Field}
 use Rattle.words.proofs.WordKinds.{length-below}
 use Rattle.progress.specs.Place.{inPattern}
 use Rattle.progress.proofs.Calls.{in-phase, in-pattern}
-use Rattle.poseidon.specs.Permutation.{babyBear}
 use Rattle.sponge.specs.Sponge.{absorbElements, squeezeElements}
 use Rattle.sponge.proofs.Folds.{absorb-bound, squeeze-bound}
-use Rattle.session.specs.Record.{opened, wiped}
+use Rattle.session.specs.Record.{opened, wiped, fieldIn, parametersIn}
 use Rattle.session.specs.Soundness.{sound}
 use Rattle.session.specs.Calls.{giving, recordRows, callRows, absorbRows, finishRows, wipes, answerOf}
 use Rattle.session.specs.Steps.{refusedWith, Countable}
@@ -41,9 +41,9 @@ pub record Takes (r : Session) (absorbs : Bool) (n : ℕ) : Type 0 where
   pub fits : 0 < n → InPhase r absorbs n
 
 -- an empty list holds elements alone
-none-listed : accepted ≡ (if not (all isElement []) then elementNotReduced else accepted)
+none-listed : (f : Field) → accepted ≡ (if not (all (isElement f) []) then elementNotReduced else accepted)
 unfolding all if_then_else_
-none-listed = refl
+none-listed f = refl
 
 -- ---- the answer, by its number
 
@@ -125,20 +125,20 @@ module _ (r : Session) where
     absorb-refused z = refused-before (callRows true (length xs) r) _ z
 
   to-elements : (xs : List ℕ) → Takes r true (length xs)
-      → firstNumber (absorbRows r xs) ≡ (if not (all isElement xs) then elementNotReduced else accepted)
+      → firstNumber (absorbRows r xs) ≡ (if not (all (isElement (fieldIn r)) xs) then elementNotReduced else accepted)
   unfolding firstNumber absorbRows callRows recordRows
   to-elements [] t =
-      if-false _ _ _ (ap not (t .opens)) ∙ if-false _ _ _ (ap not (t .sounds)) ∙ if-true _ _ _ refl ∙ none-listed
+      if-false _ _ _ (ap not (t .opens)) ∙ if-false _ _ _ (ap not (t .sounds)) ∙ if-true _ _ _ refl ∙ none-listed (fieldIn r)
   to-elements (x ∷ xs) t =
       if-false _ _ _ (ap not (t .opens))
       ∙ if-false _ _ _ (ap not (t .sounds))
       ∙ if-false _ _ _ (ne-eqb (length (x ∷ xs)) 0 (λ e. omega arith))
       ∙ if-false _ _ _ (ap not (in-pattern _ _ _ _ _ _ (t .fits (omega arith))))
 
-  pub absorb-unreduced : (xs : List ℕ) → Takes r true (length xs) → all isElement xs ≡ false → firstNumber (absorbRows r xs) ≡ elementNotReduced
+  pub absorb-unreduced : (xs : List ℕ) → Takes r true (length xs) → all (isElement (fieldIn r)) xs ≡ false → firstNumber (absorbRows r xs) ≡ elementNotReduced
   absorb-unreduced xs t e = to-elements xs t ∙ if-true _ _ _ (ap not e)
 
-  pub absorb-passes : (xs : List ℕ) → Takes r true (length xs) → all isElement xs ≡ true → firstNumber (absorbRows r xs) ≡ accepted
+  pub absorb-passes : (xs : List ℕ) → Takes r true (length xs) → all (isElement (fieldIn r)) xs ≡ true → firstNumber (absorbRows r xs) ≡ accepted
   absorb-passes xs t e = to-elements xs t ∙ if-false _ _ _ (ap not e)
 
   -- ---- FINISH: behind those about the record the row about the end
@@ -168,12 +168,12 @@ module _ (r : Session) where
       λ e. let i = t .fits (omega (arith, eqb-false n 0 e)) in
       omega (arith, i .room, length-below (phaseWord r))
 
-  pub absorb-countable : (xs : List ℕ) → Takes r true (length xs) → Countable r (absorbElements babyBear (uncounted r) xs)
+  pub absorb-countable : (xs : List ℕ) → Takes r true (length xs) → Countable r (absorbElements (parametersIn r) (uncounted r) xs)
   absorb-countable xs t =
       let few = some-or-none true (length xs) t in
-      record { fits = omega (arith, few-permutations r (parts r (t .sounds)), absorb-bound babyBear xs (uncounted r)) }
+      record { fits = omega (arith, few-permutations r (parts r (t .sounds)), absorb-bound (parametersIn r) xs (uncounted r)) }
 
-  pub squeeze-countable : (n : ℕ) → Takes r false n → Countable r (squeezeElements babyBear (uncounted r) n)
+  pub squeeze-countable : (n : ℕ) → Takes r false n → Countable r (squeezeElements (parametersIn r) (uncounted r) n)
   squeeze-countable n t =
       let few = some-or-none false n t in
-      record { fits = omega (arith, few-permutations r (parts r (t .sounds)), squeeze-bound babyBear n (uncounted r)) }
+      record { fits = omega (arith, few-permutations r (parts r (t .sounds)), squeeze-bound (parametersIn r) n (uncounted r)) }

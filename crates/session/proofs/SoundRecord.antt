@@ -10,7 +10,7 @@ use lib.ListN.{length, getD, take, drop}
 use lib.Seq.{length-take-le}
 use Rattle.basics.specs.Logic.{if_then_else_, all}
 use Rattle.basics.proofs.Cases.{cases, if-true, if-false, and-left, and-right, and-both}
-use Rattle.field.specs.Field.{isElement}
+use Rattle.field.specs.Field.{isField, isElement}
 use Rattle.words.specs.Words.{lengthOf}
 use Rattle.words.proofs.WordKinds.{length-below}
 use Rattle.pattern.specs.Pattern.{maxWords, soundWords, soundPlaces}
@@ -19,6 +19,7 @@ use Rattle.counters.specs.Permutations.{permutationsAt}
 use Rattle.counters.specs.Positions.{positionsAt}
 use Rattle.progress.specs.Place.{soundPlace}
 use Rattle.counters.proofs.Bounds.{count-bound}
+use Rattle.session.specs.Record.{fieldIn}
 use Rattle.session.specs.Soundness.{sound}
 use Rattle.session.specs.declared.Session.{Session}
 
@@ -27,12 +28,13 @@ abbrev pub phaseWord : Session → ℕ
 phaseWord r = getD (r .words) (r .phase) 0
 
 pub record Sound (r : Session) : Type 0 where
+  pub known : isField (r .field) ≡ true
   pub long : r .count ≤ length (r .words)
   pub pattern : soundWords (take (r .count) (r .words)) ≡ true
   pub unused : all (λ w. eqb w 0) (drop (r .count) (r .words)) ≡ true
   pub within : r .phase ≤ r .count
   pub place : (if ltb (r .phase) (r .count) then ltb (r .done) (lengthOf (phaseWord r)) else eqb (r .done) 0) ≡ true
-  pub reduced : all isElement (r .state) ≡ true
+  pub reduced : all (isElement (fieldIn r)) (r .state) ≡ true
   pub counted : r .permutations ≡ permutationsAt (r .words) (r .phase) (r .done)
   pub absorbs-at : r .«absorb_position» ≡ positionsAt (r .words) (r .phase) (r .done) .absorb
   pub squeezes-at : r .«squeeze_position» ≡ positionsAt (r .words) (r .phase) (r .done) .squeeze
@@ -41,13 +43,15 @@ module _ (r : Session) where
   pub parts : sound r ≡ true → Sound r
   unfolding sound soundPlaces soundPlace
   parts e =
-      let places = and-left _ _ e in
-      let e2 = and-right _ _ e in
+      let e1 = and-right _ _ e in
+      let places = and-left _ _ e1 in
+      let e2 = and-right _ _ e1 in
       let place = and-left _ _ e2 in
       let e3 = and-right _ _ e2 in
       let e4 = and-right _ _ e3 in
       let e5 = and-right _ _ e4 in
       record {
+        known = and-left _ _ e;
         long = leb-true _ _ (and-left _ _ places);
         pattern = and-left _ _ (and-right _ _ places);
         unused = and-right _ _ (and-right _ _ places);
@@ -62,10 +66,11 @@ module _ (r : Session) where
   pub whole : Sound r → sound r ≡ true
   unfolding sound soundPlaces soundPlace
   whole s =
-      and-both _ _ (and-both _ _ (le-leb _ _ (s .long)) (and-both _ _ (s .pattern) (s .unused)))
+      and-both _ _ (s .known)
+      (and-both _ _ (and-both _ _ (le-leb _ _ (s .long)) (and-both _ _ (s .pattern) (s .unused)))
       (and-both _ _ (and-both _ _ (le-leb _ _ (s .within)) (s .place))
       (and-both _ _ (s .reduced)
-      (and-both _ _ (eq-eqb _ _ (s .counted)) (and-both _ _ (eq-eqb _ _ (s .absorbs-at)) (eq-eqb _ _ (s .squeezes-at))))))
+      (and-both _ _ (eq-eqb _ _ (s .counted)) (and-both _ _ (eq-eqb _ _ (s .absorbs-at)) (eq-eqb _ _ (s .squeezes-at)))))))
 
   -- before the last phase's end there is an element to do
   pub element-left : Sound r → r .phase < r .count → r .done < lengthOf (phaseWord r)

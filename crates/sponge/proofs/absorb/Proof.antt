@@ -7,7 +7,7 @@ use native.Mathlib.Omega.{arith}
 use lib.ListN.{length, getD, take}
 use lib.Seq.{take-all, take-suc}
 use Rattle.basics.specs.Figures.{rate}
-use Rattle.poseidon.specs.Permutation.{babyBear}
+use Rattle.poseidon.specs.Permutation.{parameters}
 use Rattle.sponge.specs.Sponge.{sponge, absorbElement, absorbElements}
 use Rattle.sponge.specs.declared.Sponge.{Sponge}
 use Rattle.sponge.proofs.Elements.{at-most-one, absorb-parts}
@@ -17,13 +17,13 @@ use Rattle.sponge.proofs.absorb.Statement.{statement}
 use Rattle.sponge.proofs.absorb.Tie as tie
 
 abbrev Inv-loop : tie.InvT-loop
-Inv-loop absorb-position squeeze-position input next₀ position₀ squeeze₀ permutations₀ i₀ i-end next position squeeze permutations i =
+Inv-loop field absorb-position squeeze-position input next₀ position₀ squeeze₀ permutations₀ i₀ i-end next position squeeze permutations i =
     (i ≤ length input)
-    × (absorbElements babyBear (sponge next₀ absorb-position squeeze-position 0) (take i input) ≡ sponge next position squeeze permutations)
+    × (absorbElements (parameters field) (sponge next₀ absorb-position squeeze-position 0) (take i input) ≡ sponge next position squeeze permutations)
     × (permutations ≤ i)
 
 abbrev μ-loop : tie.MeasureT-loop
-μ-loop absorb-position squeeze-position input next₀ position₀ squeeze₀ permutations₀ i₀ i-end next position squeeze permutations i =
+μ-loop field absorb-position squeeze-position input next₀ position₀ squeeze₀ permutations₀ i₀ i-end next position squeeze permutations i =
     length input - i
 
 loop-holds : tie.Need-loop-holds Inv-loop μ-loop
@@ -43,6 +43,7 @@ loop-again c =
     let at-loop = c .before .before .before .before .before in
     let args = at-loop .before .before .args in
     let input = args .input .now in
+    let F = parameters (args .field) in
     let inv = at-loop .loop .inv in
     let i = at-loop .loop .i in
     let x = getD input i 0 in
@@ -50,12 +51,12 @@ loop-again c =
     let position = at-loop .loop .position in
     let n = at-loop .loop .permutations in
     let absorbed = c .before .absorb-element .ensures in
-    let parts = absorb-parts babyBear s position (at-loop .loop .squeeze) n x
+    let parts = absorb-parts F s position (at-loop .loop .squeeze) n x
     ∙ sym (λ j. sponge (absorbed .1 j) (c .next-position .ensures j) rate (n + absorbed .0 j)) in
     let start = sponge (args .state) (args .absorb-position) (args .squeeze-position) 0 in (
       search needs,
       rw (add-one i, take-suc input i 0 (omega arith))
-          (absorb-snoc babyBear (take i input) start x ∙ ap (λ (t : Sponge). absorbElement babyBear t x) (inv .1) ∙ parts),
+          (absorb-snoc F (take i input) start x ∙ ap (λ (t : Sponge). absorbElement F t x) (inv .1) ∙ parts),
       omega (arith, inv .2, absorbed .0, at-most-one position),
     )
 
@@ -64,8 +65,9 @@ returns c =
     let at-loop = c .before in
     let args = at-loop .before .before .args in
     let input = args .input .now in
+    let F = parameters (args .field) in
     let start = sponge (args .state) (args .absorb-position) (args .squeeze-position) 0 in
-    sym (ap (absorbElements babyBear start) (sym (take-all (at-loop .loop .i) input (omega arith))) ∙ at-loop .loop .inv .1)
+    sym (ap (absorbElements F start) (sym (take-all (at-loop .loop .i) input (omega arith))) ∙ at-loop .loop .inv .1)
 
 pub absorb-spec : {M : Type 1} → statement M
 absorb-spec =

@@ -1,14 +1,14 @@
 -- `sponge::absorb_element` meets its contract.
 -- Assumes nothing.
 use mathlib.Core.Path.{refl}
-use Rattle.poseidon.specs.Permutation.{babyBear}
+use Rattle.poseidon.specs.Permutation.{parameters}
 use Rattle.sponge.specs.Steps.{stateWith}
 use borrow.Author.Needs.{needs}
 use Rattle.sponge.proofs.absorb_element.Statement.{statement}
 use Rattle.sponge.proofs.absorb_element.Tie as tie
 
 returns : tie.Need-returns
-unfolding stateWith babyBear
+unfolding stateWith parameters
 returns c =
     let permuted = c .before .before .permute-if-full .ensures in
     (permuted .0, rw (c .add .ensures, permuted .1) refl)

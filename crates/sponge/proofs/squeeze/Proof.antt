@@ -8,7 +8,7 @@ use native.Mathlib.Omega.{arith}
 use lib.ListN.{length, getD, set}
 use Rattle.basics.specs.Lists.{placed}
 use Rattle.basics.proofs.Placed.{placed-none}
-use Rattle.poseidon.specs.Permutation.{babyBear}
+use Rattle.poseidon.specs.Permutation.{Parameters, parameters}
 use Rattle.sponge.specs.Sponge.{sponge, outer, squeezeElement, squeezedElement, squeezeElements, squeezedElements}
 use Rattle.sponge.specs.declared.Sponge.{Sponge}
 use Rattle.sponge.proofs.Elements.{at-most-one, squeeze-parts, squeezed-parts}
@@ -18,26 +18,29 @@ use Rattle.sponge.proofs.squeeze.Statement.{statement}
 use Rattle.sponge.proofs.squeeze.Tie as tie
 
 abbrev Inv-loop : tie.InvT-loop
-Inv-loop absorb-position squeeze-position output₀ next₀ absorb₀ position₀ permutations₀ i₀ i-end output next absorb position permutations i =
+Inv-loop field absorb-position squeeze-position output₀ next₀ absorb₀ position₀ permutations₀ i₀ i-end output next absorb position permutations i =
     (i ≤ length output₀)
-    × (squeezeElements babyBear (sponge next₀ absorb-position squeeze-position 0) i ≡ sponge next absorb position permutations)
-    × (output ≡ placed output₀ 0 (squeezedElements babyBear (sponge next₀ absorb-position squeeze-position 0) i))
+    × (squeezeElements (parameters field) (sponge next₀ absorb-position squeeze-position 0) i ≡ sponge next absorb position permutations)
+    × (output ≡ placed output₀ 0 (squeezedElements (parameters field) (sponge next₀ absorb-position squeeze-position 0) i))
     × (permutations ≤ i)
 
 abbrev μ-loop : tie.MeasureT-loop
-μ-loop absorb-position squeeze-position output₀ next₀ absorb₀ position₀ permutations₀ i₀ i-end output next absorb position permutations i =
+μ-loop field absorb-position squeeze-position output₀ next₀ absorb₀ position₀ permutations₀ i₀ i-end output next absorb position permutations i =
     length output₀ - i
 
 -- the sponge at entry, and the output there
 abbrev start : tie.At-loop Inv-loop μ-loop → Sponge
 start c = let args = c .before .before .args in sponge (args .state) (args .absorb-position) (args .squeeze-position) 0
 
+abbrev chosen : tie.At-loop Inv-loop μ-loop → Parameters
+chosen c = parameters (c .before .before .args .field)
+
 abbrev entry : tie.At-loop Inv-loop μ-loop → List ℕ
 entry c = c .before .before .args .output .now
 
 -- the output keeps its length
 same : (c : tie.At-loop Inv-loop μ-loop) → length (c .loop .output) ≡ length (entry c)
-same c = ap length (c .loop .inv .2) ∙ length-written babyBear (start c) (c .loop .i) (entry c) (c .loop .inv .0)
+same c = ap length (c .loop .inv .2) ∙ length-written (chosen c) (start c) (c .loop .i) (entry c) (c .loop .inv .0)
 
 loop-holds : tie.Need-loop-holds Inv-loop μ-loop
 unfolding squeezeElements squeezedElements
@@ -67,18 +70,18 @@ loop-again c =
     let q = at-loop .loop .position in
     let n = at-loop .loop .permutations in
     let permuted = c .before .before .before .before .permute-if-full .ensures in
-    let parts : squeezeElement babyBear (sponge s a q n) ≡ _ =
-    squeeze-parts babyBear s a q n
+    let parts : squeezeElement (chosen at-loop) (sponge s a q n) ≡ _ =
+    squeeze-parts (chosen at-loop) s a q n
     ∙ sym (λ j. sponge (permuted .1 j) (c .before .before .before .absorb-position-after .ensures j) (c .next-position .ensures j) (n + permuted .0 j)) in
     let element = c .before .element-at .ensures
     ∙ ap (λ (l : List ℕ). getD l (outer q) 0) (permuted .1)
-    ∙ sym (squeezed-parts babyBear s a q n)
-    ∙ ap (squeezedElement babyBear) (sym (inv .1)) in (
+    ∙ sym (squeezed-parts (chosen at-loop) s a q n)
+    ∙ ap (squeezedElement (chosen at-loop)) (sym (inv .1)) in (
       search needs,
-      rw (add-one i) (squeeze-snoc babyBear i (start at-loop) ∙ ap (squeezeElement babyBear) (inv .1) ∙ parts),
+      rw (add-one i) (squeeze-snoc (chosen at-loop) i (start at-loop) ∙ ap (squeezeElement (chosen at-loop)) (inv .1) ∙ parts),
       rw (add-one i)
           (ap (λ (l : List ℕ). set l i (c .before .element-at .result)) (inv .2)
-          ∙ write-next babyBear (start at-loop) i (entry at-loop) _ (omega arith) element),
+          ∙ write-next (chosen at-loop) (start at-loop) i (entry at-loop) _ (omega arith) element),
       omega (arith, inv .3, permuted .0, at-most-one q),
     )
 
@@ -89,8 +92,8 @@ returns : tie.Need-returns Inv-loop μ-loop
 returns c =
     let at-loop = c .before in
     let end : at-loop .loop .i ≡ length (entry at-loop) = omega arith in (
-      sym (ap (squeezeElements babyBear (start at-loop)) (sym end) ∙ at-loop .loop .inv .1),
-      at-loop .loop .inv .2 ∙ all-written babyBear (start at-loop) (at-loop .loop .i) (entry at-loop) end,
+      sym (ap (squeezeElements (chosen at-loop) (start at-loop)) (sym end) ∙ at-loop .loop .inv .1),
+      at-loop .loop .inv .2 ∙ all-written (chosen at-loop) (start at-loop) (at-loop .loop .i) (entry at-loop) end,
     )
 
 pub squeeze-spec : {M : Type 1} → statement M

@@ -1,7 +1,8 @@
 -- `session::Session::absorb_step` meets its contract.
 -- Assumes nothing.
-use mathlib.Core.Path.{_≡_, sym, ap, _∙_}
-use mathlib.Core.Bool.{true}
+use mathlib.Core.Path.{_≡_, sym, ap, subst, _∙_}
+use mathlib.Core.Bool.{Bool, true}
+use mathlib.Core.List.{List}
 use mathlib.Core.Logic.{_≢_}
 use Prim.Native.Nat.{ℕ}
 use native.Mathlib.Omega.{arith}
@@ -9,11 +10,17 @@ use borrow.Author.Tests.{not-true, not-false}
 use lib.ListN.{length}
 use Rattle.basics.specs.Numbers.{accepted, elementNotReduced}
 use Rattle.basics.specs.Refusals.{firstNumber}
+use Rattle.basics.specs.Logic.{all}
+use Rattle.field.specs.Field.{isElement}
+use Rattle.field.specs.declared.Field.{Field}
+use Rattle.poseidon.specs.Permutation.{parameters}
+use Rattle.sponge.specs.Sponge.{absorbElements}
 use Rattle.sponge.specs.declared.Sponge.{Sponge}
-use Rattle.session.specs.Record.{absorbAll}
+use Rattle.session.specs.Record.{fieldIn, absorbAll}
 use Rattle.session.specs.Calls.{giving, callRows, absorbRows, absorb}
 use Rattle.session.specs.Steps.{refusedWith, movedOn}
-use Rattle.session.proofs.Folds.{absorb-all}
+use Rattle.session.specs.declared.Session.{Session}
+use Rattle.session.proofs.Folds.{uncounted, absorb-all}
 use Rattle.session.proofs.Numbers.{Takes, answer-accepted, answer-refused, call-takes, absorb-countable, absorb-refused, absorb-unreduced, absorb-passes}
 use borrow.Author.Needs.{needs}
 use Rattle.session.proofs.Session.absorb_step.Statement.{statement}
@@ -22,6 +29,10 @@ use Rattle.session.proofs.Session.absorb_step.Tie as tie
 -- behind the rows of the call
 takes : (c : tie.Else1) → let args = c .before .before .before .args in Takes (args .self) true (length (args .input .now))
 takes c = call-takes _ _ _ (sym (c .before .call-number .ensures) ∙ c .if1 .left)
+
+-- what was found of the elements is so in the record's field
+elements : (r : Session) (xs : List ℕ) {f : Field} {b t : Bool} → f ≡ fieldIn r → b ≡ all (isElement f) xs → b ≡ t → all (isElement (fieldIn r)) xs ≡ t
+elements r xs {f} {b} {t} e h g = subst (λ (f : Field). all (isElement f) xs ≡ t) e (sym h ∙ g)
 
 returns : tie.Need-returns
 unfolding absorb
@@ -39,34 +50,38 @@ returns-2 : tie.Need-returns-2
 unfolding absorb
 returns-2 c =
     let at-reduced = c .before .before in
-    let at-takes = at-reduced .before in
+    let at-field = at-reduced .before in
+    let at-takes = at-field .before in
     let args = at-takes .before .before .before .args in
     let r = args .self in
     let xs = args .input .now in
     let number : firstNumber (absorbRows r xs) ≡ elementNotReduced =
-    absorb-unreduced r xs (takes at-takes) (sym (at-reduced .is-reduced .ensures) ∙ not-true _ (c .before .if2 .taken)) in
+    absorb-unreduced r xs (takes at-takes) (elements r xs (at-field .field-of .ensures) (at-reduced .is-reduced .ensures) (not-true _ (c .before .if2 .taken))) in
     c .refuse2 .ensures
     ∙ ap (λ (n : ℕ). refusedWith n r) (sym number)
     ∙ sym (answer-refused r (absorbAll r xs) _ (λ e. omega (arith, number, e)))
 
 move-on-requires : tie.Need-move-on-requires
 move-on-requires c κs =
-    let at-takes = c .before .before .before .before in
+    let at-field = c .before .before .before .before in
+    let at-takes = at-field .before in
     let args = at-takes .before .before .before .args in
-    rw (c .absorb .ensures) (absorb-countable (args .self) (args .input .now) (takes at-takes))
+    rw (c .absorb .ensures, at-field .field-of .ensures) (absorb-countable (args .self) (args .input .now) (takes at-takes))
 
 returns-3 : tie.Need-returns-3
 unfolding absorb giving
 returns-3 c =
     let at-absorbed = c .before in
     let at-reduced = at-absorbed .before .before in
-    let at-takes = at-reduced .before .before in
+    let at-field = at-reduced .before .before in
+    let at-takes = at-field .before in
     let args = at-takes .before .before .before .args in
     let r = args .self in
     let xs = args .input .now in
-    let reduced = sym (at-reduced .before .is-reduced .ensures) ∙ not-false _ (at-reduced .if2 .left) in
+    let reduced = elements r xs (at-field .field-of .ensures) (at-reduced .before .is-reduced .ensures) (not-false _ (at-reduced .if2 .left)) in
+    let absorbed = at-absorbed .absorb .ensures ∙ ap (λ (f : Field). absorbElements (parameters f) (uncounted r) xs) (at-field .field-of .ensures) in
     let next = c .move-on .ensures
-    ∙ ap (λ (s : Sponge). movedOn r s (length xs)) (at-absorbed .absorb .ensures)
+    ∙ ap (λ (s : Sponge). movedOn r s (length xs)) absorbed
     ∙ absorb-all r xs (takes at-takes .fits) in
     (λ i. record { number = at-takes .if1 .left i; session = next i })
     ∙ sym (answer-accepted r (absorbAll r xs) _ (absorb-passes r xs (takes at-takes) reduced))
@@ -78,6 +93,7 @@ absorb-step-spec =
     (λ c κs. search needs)
     (λ c κs. search needs)
     returns
+    (λ c κs. search needs)
     (λ c κs. search needs)
     (λ c κs. search needs)
     returns-2

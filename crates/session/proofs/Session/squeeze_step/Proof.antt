@@ -7,11 +7,14 @@ use Prim.Native.Nat.{ℕ}
 use lib.ListN.{length}
 use Rattle.basics.specs.Numbers.{accepted}
 use Rattle.basics.specs.Refusals.{firstNumber}
+use Rattle.field.specs.declared.Field.{Field}
+use Rattle.poseidon.specs.Permutation.{parameters}
+use Rattle.sponge.specs.Sponge.{squeezeElements, squeezedElements}
 use Rattle.sponge.specs.declared.Sponge.{Sponge}
 use Rattle.session.specs.Record.{squeezeAll}
 use Rattle.session.specs.Calls.{giving, callRows, squeeze}
 use Rattle.session.specs.Steps.{refusedWith, movedOn}
-use Rattle.session.proofs.Folds.{squeeze-all, squeezed-all}
+use Rattle.session.proofs.Folds.{uncounted, squeeze-all, squeezed-all}
 use Rattle.session.proofs.Numbers.{Takes, answer-accepted, answer-refused, call-takes, squeeze-countable}
 use Rattle.session.proofs.Buffers.{buffer-left, buffer-written}
 use borrow.Author.Needs.{needs}
@@ -38,27 +41,31 @@ returns c =
 move-on-requires : tie.Need-move-on-requires
 move-on-requires c κs =
     let at-squeezed = c .before .before in
-    let at-takes = at-squeezed .before .before .before in
+    let at-field = at-squeezed .before .before .before in
+    let at-takes = at-field .before in
     let args = at-takes .before .before .before .args in
-    rw (at-squeezed .squeeze .ensures .0) (squeeze-countable (args .self) (length (args .output .now)) (takes at-takes))
+    rw (at-squeezed .squeeze .ensures .0, at-field .field-of .ensures) (squeeze-countable (args .self) (length (args .output .now)) (takes at-takes))
 
 returns-2 : tie.Need-returns-2
 unfolding squeeze giving
 returns-2 c =
     let at-squeezed = c .before .before .before in
-    let at-takes = at-squeezed .before .before .before in
+    let at-field = at-squeezed .before .before .before in
+    let at-takes = at-field .before in
     let args = at-takes .before .before .before .args in
     let r = args .self in
     let buffer = args .output .now in
     let n = length buffer in
     let number = sym (at-takes .before .call-number .ensures) ∙ at-takes .if1 .left in
+    let left = at-squeezed .squeeze .ensures .0 ∙ ap (λ (f : Field). squeezeElements (parameters f) (uncounted r) n) (at-field .field-of .ensures) in
+    let out = at-squeezed .squeeze .ensures .1 ∙ ap (λ (f : Field). squeezedElements (parameters f) (uncounted r) n) (at-field .field-of .ensures) in
     let same : length (at-squeezed .squeeze .last .1 .1 .1 .0) ≡ n = search needs in
     let next = c .move-on .ensures
     ∙ ap (movedOn r _) same
-    ∙ ap (λ (s : Sponge). movedOn r s n) (at-squeezed .squeeze .ensures .0)
+    ∙ ap (λ (s : Sponge). movedOn r s n) left
     ∙ squeeze-all r n (takes at-takes .fits) in (
       (λ i. record { number = at-takes .if1 .left i; session = next i }) ∙ sym (answer-accepted r (squeezeAll r n) _ number),
-      at-squeezed .squeeze .ensures .1 ∙ squeezed-all r n ∙ sym (buffer-written r buffer number),
+      out ∙ squeezed-all r n ∙ sym (buffer-written r buffer number),
     )
 
 pub squeeze-step-spec : {M : Type 1} → statement M
@@ -68,6 +75,7 @@ squeeze-step-spec =
     (λ c κs. search needs)
     (λ c κs. search needs)
     returns
+    (λ c κs. search needs)
     (λ c κs. search needs)
     move-on-requires
     (λ c. search needs)
