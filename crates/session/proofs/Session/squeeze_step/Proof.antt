@@ -59,7 +59,7 @@ returns-2 c =
     let number = sym (at-takes .before .call-number .ensures) ∙ at-takes .if1 .left in
     let left = at-squeezed .squeeze .ensures .0 ∙ ap (λ (f : Field). squeezeElements (parameters f) (uncounted r) n) (at-field .field-of .ensures) in
     let out = at-squeezed .squeeze .ensures .1 ∙ ap (λ (f : Field). squeezedElements (parameters f) (uncounted r) n) (at-field .field-of .ensures) in
-    let same : length (at-squeezed .squeeze .last .1 .1 .1 .0) ≡ n = search needs in
+    let same : length (at-squeezed .squeeze .last .1 .1 .1 .1 .0) ≡ n = search needs in
     let next = c .move-on .ensures
     ∙ ap (movedOn r _) same
     ∙ ap (λ (s : Sponge). movedOn r s n) left
