@@ -12,7 +12,7 @@ use Rattle.basics.specs.Logic.{all}
 use Rattle.basics.specs.Numbers.{accepted}
 use Rattle.basics.proofs.Cases.{all-append}
 use Rattle.field.specs.Field.{isElement}
-use Rattle.session.specs.Record.{opened, squeezedOne, absorbOne, squeezeOne, absorbAll, squeezeAll, squeezedAll}
+use Rattle.session.specs.Record.{opened, squeezedOne, absorbOne, squeezeOne, absorbAll, squeezeAll, squeezedAll, fieldIn}
 use Rattle.session.specs.Calls.{giving, absorb, squeeze}
 use Rattle.session.specs.declared.Session.{Session}
 use Rattle.session.specs.declared.Answer.{Answer}
@@ -70,7 +70,7 @@ module _ (r : Session) (xs ys : List ℕ) (e : absorb r (xs ++ ys) .number ≡ a
   takes-both : Takes r true (length xs + length ys)
   takes-both = rw (length-append xs ys) at (absorb-takes r (xs ++ ys) e .0)
 
-  reduced-both : (all isElement xs ≡ true) × (all isElement ys ≡ true)
+  reduced-both : (all (isElement (fieldIn r)) xs ≡ true) × (all (isElement (fieldIn r)) ys ≡ true)
   reduced-both = all-append _ xs ys (absorb-takes r (xs ++ ys) e .1)
 
   absorb-first : absorb r xs ≡ giving accepted (absorbAll r xs)
@@ -93,7 +93,7 @@ module _ (r : Session) (xs ys : List ℕ) (e : absorb r (xs ++ ys) .number ≡ a
   unfolding giving
   absorb-cut =
       ap (λ (a : Answer). absorb (a .session) ys) absorb-first
-      ∙ absorb-accepted (absorbAll r xs) ys takes-second (reduced-both .1)
+      ∙ absorb-accepted (absorbAll r xs) ys takes-second (rw (absorb-all-same r xs .field) (reduced-both .1))
       ∙ ap (giving accepted) (sym (absorb-all-append r xs ys))
       ∙ sym (absorb-accepted r (xs ++ ys) (absorb-takes r (xs ++ ys) e .0) (absorb-takes r (xs ++ ys) e .1))
 

@@ -14,12 +14,12 @@ use Rattle.basics.specs.Logic.{if_then_else_, _and_, _or_, all}
 use Rattle.basics.specs.Numbers.{accepted, callNotInPattern, elementNotReduced}
 use Rattle.basics.specs.Refusals.{firstNumber}
 use Rattle.basics.proofs.Cases.{by, cases, if-false}
-use Rattle.field.specs.Field.{isElement}
+use Rattle.field.specs.Field.{fieldOf, isElement}
 use Rattle.pattern.specs.Opening.{Opening}
 use Rattle.pattern.proofs.Soundness as words
 use Rattle.pattern.proofs.SoundPattern.{begins-absorbing}
 use Rattle.progress.specs.Place.{inPattern}
-use Rattle.session.specs.Record.{wiped, openRecord, absorbAll, squeezeAll}
+use Rattle.session.specs.Record.{wiped, openRecord, absorbAll, squeezeAll, fieldIn}
 use Rattle.session.specs.Calls.{giving, startRecord, start, recordRows, callRows, wipes, answerOf, absorb, squeeze, finish}
 use Rattle.session.specs.Steps.{refusedWith}
 use Rattle.session.specs.declared.Session.{Session}
@@ -31,13 +31,14 @@ use Rattle.session.proofs.Numbers.{absorb-refused, absorb-unreduced, absorb-pas
 use Rattle.runs.specs.Calls.{Call, ABSORB, SQUEEZE, FINISH, answered, left, leftBy}
 use Rattle.runs.specs.Runs.{Run, startedOf}
 use Rattle.runs.proofs.Opened.{start-open, start-record, start-sound}
+use Rattle.runs.proofs.Counted.{start-field}
 use Rattle.runs.proofs.Forks.{left-by-append}
 use Rattle.runs.proofs.Trace.{wiped-not-finished}
 
 -- a list of calls that START and an accepted FINISH enclose, whichever it is
-pub enclosed : (o : Opening) (cs : List Call) → start o .number ≡ accepted → finish (leftBy (start o .session) cs) .number ≡ accepted
-    → (a : Run) × (a .opening ≡ o) × (a .before ≡ cs)
-enclosed o cs e f = (record { opening = o; before = cs; opens = e; ends = f }, refl, refl)
+pub enclosed : (field : ℕ) (o : Opening) (cs : List Call) → start field o .number ≡ accepted → finish (leftBy (start field o .session) cs) .number ≡ accepted
+    → (a : Run) × (a .field ≡ field) × (a .opening ≡ o) × (a .before ≡ cs)
+enclosed field o cs e f = (record { field = field; opening = o; before = cs; opens = e; ends = f }, refl, refl, refl)
 
 -- ---- a record that is not open, or open and not sound, is refused every call and left as it is
 
@@ -102,7 +103,7 @@ module _ (r : Session) (s : OpenSound r) where
     unfolding absorb answerOf giving
     absorb-inside xs f =
         ⊎-elim
-        (λ t. cases (all isElement xs) (λ e. inl (absorb-passes r xs t e)) λ e. inr (absorb-unreduced r xs t e))
+        (λ t. cases (all (isElement (fieldIn r)) xs) (λ e. inl (absorb-passes r xs t e)) λ e. inr (absorb-unreduced r xs t e))
         (λ e.
         let refused : firstNumber (callRows true (length xs) r) ≢ accepted = λ z. omega (arith, e, z) in
         absurd (not-wiped _ (wiped-by-9 (absorbAll r xs) _ (absorb-refused r xs refused ∙ e)) f))
@@ -148,24 +149,24 @@ calls-inside a cs c ds e =
 
 -- ---- and 10 may be among them: before the first call of any
 
-module _ (o : Opening) (e : start o .number ≡ accepted) where
+module _ (field : ℕ) (o : Opening) (e : start field o .number ≡ accepted) where
   abbrev opened-record : Session
-  opened-record = start o .session
+  opened-record = start field o .session
 
   begins : opened-record .phase ≡ 0
   unfolding startRecord openRecord
-  begins = ap (λ (r : Session). r .phase) (start-record o e)
+  begins = ap (λ (r : Session). r .phase) (start-record field o e)
 
   absorbs-first : Takes opened-record true 1
   absorbs-first =
       let r = opened-record in
-      let s = parts r (start-sound o e) in
+      let s = parts r (start-sound field o e) in
       let long = length-take-le (r .count) (r .words) (s .long) in
       let some = words.sound (take (r .count) (r .words)) (s .pattern) .few in
       let early : r .phase < r .count = omega (arith, begins) in
       record {
-        opens = eq-eqb _ _ (start-open o e);
-        sounds = start-sound o e;
+        opens = eq-eqb _ _ (start-open field o e);
+        sounds = start-sound field o e;
         fits = λ _. record {
           before-end = early;
           kind = rw begins (begins-absorbing (r .words) (r .count) (s .long) (s .pattern) (omega arith));
@@ -173,22 +174,24 @@ module _ (o : Opening) (e : start o .number ≡ accepted) where
         };
       }
 
-  turned-away : (x : ℕ) → isElement x ≡ false → absorb opened-record (x ∷ []) ≡ giving elementNotReduced opened-record
+  turned-away : (x : ℕ) → isElement (fieldOf field) x ≡ false → absorb opened-record (x ∷ []) ≡ giving elementNotReduced opened-record
   unfolding absorb answerOf wipes if_then_else_ _or_ all _and_
-  turned-away x h = rw (absorb-unreduced opened-record (x ∷ []) absorbs-first (rw h refl)) refl
+  turned-away x h = rw (absorb-unreduced opened-record (x ∷ []) absorbs-first (rw (start-field field o e, h) refl)) refl
 
-pub refused-first : (a : Run) (x : ℕ) → isElement x ≡ false
-    → (b : Run) × (b .opening ≡ a .opening) × (b .before ≡ ABSORB (x ∷ []) ∷ a .before)
+pub refused-first : (a : Run) (x : ℕ) → isElement (fieldOf (a .field)) x ≡ false
+    → (b : Run) × (b .field ≡ a .field) × (b .opening ≡ a .opening) × (b .before ≡ ABSORB (x ∷ []) ∷ a .before)
     × (answered (startedOf b) (ABSORB (x ∷ [])) .number ≡ elementNotReduced)
 unfolding leftBy left answered giving
 refused-first a x h =
-    let e = turned-away (a .opening) (a .opens) x h in (
+    let e = turned-away (a .field) (a .opening) (a .opens) x h in (
       record {
+        field = a .field;
         opening = a .opening;
         before = ABSORB (x ∷ []) ∷ a .before;
         opens = a .opens;
         ends = ap (λ (v : Answer). finish (leftBy (v .session) (a .before)) .number) e ∙ a .ends;
       },
+      refl,
       refl,
       refl,
       ap (λ (v : Answer). v .number) e,

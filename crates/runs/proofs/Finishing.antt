@@ -13,13 +13,13 @@ use lib.Seq.{take-all}
 use Rattle.basics.specs.Logic.{if_then_else_, all}
 use Rattle.basics.specs.Numbers.{accepted}
 use Rattle.basics.proofs.Cases.{cases, and-left, and-right, and-both}
-use Rattle.field.specs.Field.{p, isElement}
+use Rattle.field.specs.Field.{fieldOf, isElement}
 use Rattle.words.specs.Words.{isAbsorb}
 use Rattle.pattern.specs.Pattern.{phases}
-use Rattle.poseidon.specs.Permutation.{babyBear}
+use Rattle.poseidon.specs.Permutation.{parameters}
 use Rattle.sponge.specs.Sponge.{absorbElement, squeezeElement}
 use Rattle.sponge.specs.declared.Sponge.{Sponge}
-use Rattle.session.specs.Record.{opened, spongeOf, moved, nextPlaceOf, absorbOne, squeezeOne, absorbAll, squeezeAll}
+use Rattle.session.specs.Record.{opened, spongeOf, moved, nextPlaceOf, absorbOne, squeezeOne, absorbAll, squeezeAll, fieldIn, parametersIn}
 use Rattle.pattern.specs.Opening.{Opening}
 use Rattle.session.specs.Calls.{giving, absorb, squeeze, finish, start}
 use Rattle.session.specs.declared.Session.{Session}
@@ -33,6 +33,7 @@ use Rattle.runs.proofs.Kept.{absorb-kept, squeeze-kept}
 use Rattle.session.proofs.Numbers.{Takes}
 use Rattle.runs.proofs.Outcomes.{Ended, absorb-accepted, squeeze-accepted, finish-accepted}
 use Rattle.runs.proofs.Opened.{start-open, start-sound}
+use Rattle.runs.proofs.Counted.{start-field}
 use Rattle.runs.proofs.ElementKinds.{kinds, toDo, toAbsorb, absorb-length, next-to-do, none-to-do}
 use Rattle.runs.proofs.WholePattern.{whole-pattern}
 
@@ -76,7 +77,7 @@ module _ (r : Session) (o : eqb (r .status) opened ≡ true) (s : Sound r) where
     still-to-do : (t : Sponge) → toDo (moved r t (nextPlaceOf r)) ≡ ks
     still-to-do t = tail-eq-of-cons-eq (split t)
 
-  absorbs-one : (x : ℕ) (ks : List Bool) → toDo r ≡ true ∷ ks → ltb x p ≡ true → absorb r (x ∷ []) ≡ giving accepted (absorbOne r x)
+  absorbs-one : (x : ℕ) (ks : List Bool) → toDo r ≡ true ∷ ks → isElement (fieldIn r) x ≡ true → absorb r (x ∷ []) ≡ giving accepted (absorbOne r x)
   unfolding absorbAll all
   absorbs-one x ks e b = absorb-accepted r (x ∷ []) (takes true ks e) (and-both _ _ b refl)
 
@@ -85,7 +86,7 @@ module _ (r : Session) (o : eqb (r .status) opened ≡ true) (s : Sound r) where
   squeezes-one ks e = squeeze-accepted r 1 (takes false ks e)
 
 finishing : (ks : List Bool) (xs : List ℕ) (r : Session) → eqb (r .status) opened ≡ true → Sound r → toDo r ≡ ks
-    → length xs ≡ toAbsorb ks → all isElement xs ≡ true
+    → length xs ≡ toAbsorb ks → all (isElement (fieldIn r)) xs ≡ true
     → (finish (leftBy r (callsFor ks xs)) .number ≡ accepted) × (absorbed r (callsFor ks xs ++ (FINISH ∷ [])) ≡ xs)
 unfolding callsFor toAbsorb leftBy left answered absorbed absorbedIn accepts giving if_then_else_ absorbOne squeezeOne moved all
 finishing [] xs r o s e l b =
@@ -95,7 +96,7 @@ finishing (true ∷ ks) (x ∷ xs) r o s e l b =
     let i = in-phase r o s true ks e in
     let a = absorbs-one r o s x ks e (and-left _ _ b) in
     let later =
-    finishing ks xs (absorbOne r x) o (absorb-kept r s (i .before-end) (i .kind) x) (still-to-do r o s true ks e (absorbElement babyBear (spongeOf r) x))
+    finishing ks xs (absorbOne r x) o (absorb-kept r s (i .before-end) (i .kind) x) (still-to-do r o s true ks e (absorbElement (parametersIn r) (spongeOf r) x))
     (suc-inj l) (and-right _ _ b) in
     let rest = callsFor ks xs ++ (FINISH ∷ []) in (
       ap (λ (v : Answer). finish (leftBy (v .session) (callsFor ks xs)) .number) a ∙ later .0,
@@ -106,18 +107,18 @@ finishing (false ∷ ks) xs r o s e l b =
     let i = in-phase r o s false ks e in
     let a = squeezes-one r o s ks e in
     let later =
-    finishing ks xs (squeezeOne r) o (squeeze-kept r s (i .before-end) (i .kind)) (still-to-do r o s false ks e (squeezeElement babyBear (spongeOf r))) l b in (
+    finishing ks xs (squeezeOne r) o (squeeze-kept r s (i .before-end) (i .kind)) (still-to-do r o s false ks e (squeezeElement (parametersIn r) (spongeOf r))) l b in (
       ap (λ (v : Answer). finish (leftBy (v .session) (callsFor ks xs)) .number) a ∙ later .0,
       ap (λ (v : Answer). absorbed (v .session) (callsFor ks xs ++ (FINISH ∷ []))) a ∙ later .1,
     )
 
-pub finishable : (o : Opening) (xs : List ℕ) → start o .number ≡ accepted → length xs ≡ absorbLength (phases (o .words))
-    → all isElement xs ≡ true
-    → (a : Run) × (a .opening ≡ o) × (absorbedOf a ≡ xs)
-finishable o xs e l b =
+pub finishable : (field : ℕ) (o : Opening) (xs : List ℕ) → start field o .number ≡ accepted → length xs ≡ absorbLength (phases (o .words))
+    → all (isElement (fieldOf field)) xs ≡ true
+    → (a : Run) × (a .field ≡ field) × (a .opening ≡ o) × (absorbedOf a ≡ xs)
+finishable field o xs e l b =
     let ks = kinds (phases (o .words)) in
-    let r = start o .session in
+    let r = start field o .session in
     let f =
-    finishing ks xs r (eq-eqb _ _ (start-open o e)) (parts r (start-sound o e)) (whole-pattern o e)
-    (l ∙ sym (absorb-length (phases (o .words)))) b in
-    (record { opening = o; before = callsFor ks xs; opens = e; ends = f .0 }, refl, f .1)
+    finishing ks xs r (eq-eqb _ _ (start-open field o e)) (parts r (start-sound field o e)) (whole-pattern field o e)
+    (l ∙ sym (absorb-length (phases (o .words)))) (rw (start-field field o e) b) in
+    (record { field = field; opening = o; before = callsFor ks xs; opens = e; ends = f .0 }, refl, refl, f .1)

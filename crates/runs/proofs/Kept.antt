@@ -15,11 +15,12 @@ use Rattle.words.specs.Words.{isAbsorb, lengthOf}
 use Rattle.counters.specs.Permutations.{phasePermutations, permutationsAt}
 use Rattle.counters.proofs.PermutationCounts.{wholePhase}
 use Rattle.basics.specs.Figures.{rate}
-use Rattle.poseidon.specs.Permutation.{babyBear}
+use Rattle.poseidon.specs.Permutation.{parameters}
 use Rattle.sponge.specs.Sponge.{readyToAbsorb, absorbElement, readyToSqueeze, squeezeElement}
 use Rattle.sponge.specs.declared.Sponge.{Sponge}
 use Rattle.progress.specs.declared.place.Place.{Place}
-use Rattle.session.specs.Record.{spongeOf, moved, nextPlaceOf, absorbOne, squeezeOne}
+use Rattle.field.proofs.Moduli.{positive}
+use Rattle.session.specs.Record.{spongeOf, moved, nextPlaceOf, absorbOne, squeezeOne, fieldIn, parametersIn}
 use Rattle.counters.specs.Positions.{positionsAfter, positionsAt}
 use Rattle.session.specs.declared.Session.{Session}
 use Rattle.sponge.proofs.Elements.{sum-reduced}
@@ -64,7 +65,7 @@ module _ (r : Session) (s : Sound r) (h : r .phase < r .count) where
 
   -- the record with a sponge that has what the steps give at the next place
   moved-sound : (t : Sponge)
-      → all isElement (t .state) ≡ true
+      → all (isElement (fieldIn r)) (t .state) ≡ true
       → t .permutations ≡ permutationsBefore r + phasePermutations (phaseWord r) (suc (r .done))
       → t .«absorb_position» ≡ positionsAfter (phaseWord r) (suc (r .done)) .absorb
       → t .«squeeze_position» ≡ positionsAfter (phaseWord r) (suc (r .done)) .squeeze
@@ -72,6 +73,7 @@ module _ (r : Session) (s : Sound r) (h : r .phase < r .count) where
   unfolding moved
   moved-sound t b c a q =
       record {
+        known = s .known;
         long = s .long;
         pattern = s .pattern;
         unused = s .unused;
@@ -97,16 +99,16 @@ module _ (r : Session) (s : Sound r) (h : r .phase < r .count) where
     unfolding spongeOf
     absorbs-here = s .absorbs-at ∙ absorb-position (r .words) (r .phase) (r .done) e (λ j q. not-true _ (kind-before true e j q))
 
-    ready-absorb : Ready babyBear (phaseWord r) (r .done) (permutationsBefore r) (readyToAbsorb babyBear (spongeOf r) .«absorb_position») (readyToAbsorb babyBear (spongeOf r))
-    unfolding spongeOf babyBear
-    ready-absorb = ready-to-absorb babyBear (lit< tt) (phaseWord r) (r .done) (permutationsBefore r) (spongeOf r) (s .reduced) counted-here e absorbs-here
+    ready-absorb : Ready (parametersIn r) (phaseWord r) (r .done) (permutationsBefore r) (readyToAbsorb (parametersIn r) (spongeOf r) .«absorb_position») (readyToAbsorb (parametersIn r) (spongeOf r))
+    unfolding spongeOf parameters
+    ready-absorb = ready-to-absorb (parametersIn r) (positive (fieldIn r)) (phaseWord r) (r .done) (permutationsBefore r) (spongeOf r) (s .reduced) counted-here e absorbs-here
 
     pub absorb-kept : (x : ℕ) → Sound (absorbOne r x)
-    unfolding absorbOne absorbElement babyBear
+    unfolding absorbOne absorbElement parameters
     absorb-kept x =
         let a = positions-absorb (phaseWord r) (suc (r .done)) e in
         moved-sound _
-        (sum-reduced babyBear (lit< tt) _ _ _ (ready-absorb .reduced))
+        (sum-reduced (parametersIn r) (positive (fieldIn r)) _ _ _ (ready-absorb .reduced))
         (ready-absorb .counted)
         (ready-absorb .after ∙ sym (ap (λ i. i .absorb) a))
         (sym (ap (λ i. i .squeeze) a))
@@ -118,19 +120,19 @@ module _ (r : Session) (s : Sound r) (h : r .phase < r .count) where
     squeezes-here (suc j) q =
         (rw q at (s .squeezes-at)) ∙ squeeze-position (r .words) j (r .done) (rw q at e) (not-false _ (kind-before false e j q))
 
-    ready-squeeze : Ready babyBear (phaseWord r) (r .done) (permutationsBefore r) (readyToSqueeze babyBear (spongeOf r) .«squeeze_position») (readyToSqueeze babyBear (spongeOf r))
-    unfolding spongeOf babyBear
+    ready-squeeze : Ready (parametersIn r) (phaseWord r) (r .done) (permutationsBefore r) (readyToSqueeze (parametersIn r) (spongeOf r) .«squeeze_position») (readyToSqueeze (parametersIn r) (spongeOf r))
+    unfolding spongeOf parameters
     ready-squeeze =
-        ready-to-squeeze babyBear (lit< tt) (phaseWord r) (r .done) (permutationsBefore r) (spongeOf r) (s .reduced) counted-here e (squeezes-here (r .phase) refl)
+        ready-to-squeeze (parametersIn r) (positive (fieldIn r)) (phaseWord r) (r .done) (permutationsBefore r) (spongeOf r) (s .reduced) counted-here e (squeezes-here (r .phase) refl)
 
-    absorbs-at-start : readyToSqueeze babyBear (spongeOf r) .«absorb_position» ≡ 0
+    absorbs-at-start : readyToSqueeze (parametersIn r) (spongeOf r) .«absorb_position» ≡ 0
     unfolding readyToSqueeze spongeOf
     absorbs-at-start =
         by (λ (t : Sponge). t .«absorb_position» ≡ 0) _ _ _ (λ _. refl)
         λ q. s .absorbs-at ∙ squeeze-keeps-absorb (r .words) (r .phase) (r .done) e (λ z. eqb-false _ _ q (squeezes-here (r .phase) refl ∙ z))
 
     pub squeeze-kept : Sound (squeezeOne r)
-    unfolding squeezeOne squeezeElement babyBear
+    unfolding squeezeOne squeezeElement parameters
     squeeze-kept =
         let a = positions-squeeze (phaseWord r) (suc (r .done)) e in
         moved-sound _

@@ -13,7 +13,8 @@ use Rattle.basics.specs.Numbers.{accepted, recordNotOpen, recordNotSound, callN
 use Rattle.basics.specs.Refusals.{firstNumber}
 use Rattle.basics.proofs.Cases.{by}
 use Rattle.field.specs.Field.{isElement}
-use Rattle.session.specs.Record.{opened, wiped, absorbAll, squeezeAll}
+use Rattle.field.specs.declared.Field.{Field}
+use Rattle.session.specs.Record.{opened, wiped, absorbAll, squeezeAll, fieldIn}
 use Rattle.session.specs.Soundness.{sound}
 use Rattle.session.specs.Calls.{giving, recordRows, callRows, absorbRows, finishRows, wipes, answerOf, absorb, squeeze, finish}
 use Rattle.session.specs.declared.Session.{Session}
@@ -26,10 +27,10 @@ unfolding wiped
 wiped-not-open e = false≢true e
 
 -- an empty list holds elements alone
-none-listed : (xs : List ℕ) → eqb (length xs) 0 ≡ true → all isElement xs ≡ true
+none-listed : (f : Field) (xs : List ℕ) → eqb (length xs) 0 ≡ true → all (isElement f) xs ≡ true
 unfolding all
-none-listed [] e = refl
-none-listed (x ∷ xs) e = absurd (omega (arith, eqb-true (length (x ∷ xs)) 0 e))
+none-listed f [] e = refl
+none-listed f (x ∷ xs) e = absurd (omega (arith, eqb-true (length (x ∷ xs)) 0 e))
 
 -- an open sound record after its last phase
 pub record Ended (r : Session) : Type 0 where
@@ -54,7 +55,7 @@ module _ (r : Session) where
       accepts : (next : Session) → Q (giving accepted next) → Q (answerOf accepted r next)
       accepts next q = rw (answer-accepted r next accepted refl) q
 
-      pub absorb-outcome : (xs : List ℕ) → (Takes r true (length xs) → all isElement xs ≡ true → Q (giving accepted (absorbAll r xs))) → Q (absorb r xs)
+      pub absorb-outcome : (xs : List ℕ) → (Takes r true (length xs) → all (isElement (fieldIn r)) xs ≡ true → Q (giving accepted (absorbAll r xs))) → Q (absorb r xs)
       unfolding absorb absorbRows callRows recordRows firstNumber wipes _or_
       absorb-outcome xs takes =
           let next = absorbAll r xs in
@@ -64,7 +65,7 @@ module _ (r : Session) where
           by answers _ _ _
           (λ z. accepts next (takes
           (record { opens = not-false _ o; sounds = not-false _ s; fits = λ h. absurd (omega (arith, eqb-true (length xs) 0 z)) })
-          (none-listed xs z))) λ _.
+          (none-listed (fieldIn r) xs z))) λ _.
           by answers _ _ _ (λ _. wiping next callNotInPattern refl refl) λ i.
           by answers _ _ _ (λ _. leaves next elementNotReduced refl refl) λ b.
           accepts next (takes
@@ -95,10 +96,10 @@ module _ (r : Session) where
 
   -- ---- what follows from an accepted call
 
-  pub absorb-takes : (xs : List ℕ) → absorb r xs .number ≡ accepted → Takes r true (length xs) × (all isElement xs ≡ true)
+  pub absorb-takes : (xs : List ℕ) → absorb r xs .number ≡ accepted → Takes r true (length xs) × (all (isElement (fieldIn r)) xs ≡ true)
   unfolding giving
   absorb-takes xs =
-      absorb-outcome (λ (a : Answer). a .number ≡ accepted → Takes r true (length xs) × (all isElement xs ≡ true))
+      absorb-outcome (λ (a : Answer). a .number ≡ accepted → Takes r true (length xs) × (all (isElement (fieldIn r)) xs ≡ true))
       (λ _ z e. absurd (eqb-false _ _ z e))
       (λ _ z e. absurd (eqb-false _ _ z e))
       xs
@@ -123,7 +124,7 @@ module _ (r : Session) where
 
   -- ---- what an accepted call needs
 
-  pub absorb-accepted : (xs : List ℕ) → Takes r true (length xs) → all isElement xs ≡ true → absorb r xs ≡ giving accepted (absorbAll r xs)
+  pub absorb-accepted : (xs : List ℕ) → Takes r true (length xs) → all (isElement (fieldIn r)) xs ≡ true → absorb r xs ≡ giving accepted (absorbAll r xs)
   unfolding absorb
   absorb-accepted xs t b = answer-accepted r (absorbAll r xs) _ (absorb-passes r xs t b)
 

@@ -6,20 +6,21 @@ use mathlib.Core.Logic.{_≢_}
 use mathlib.Core.List.{List, [], _∷_, _++_}
 use Prim.Native.Nat.{ℕ, zero, suc, _-_, _≤_, _<_}
 use native.Mathlib.Omega.{arith}
-use borrow.Author.Tests.{eq-eqb}
+use borrow.Author.Tests.{eq-eqb, lt-ltb}
 use lib.Dec.{eqb}
 use lib.ListN.{length, getD}
-use Rattle.basics.specs.Logic.{_and_, all}
+use Rattle.basics.specs.Logic.{all}
 use Rattle.basics.specs.Numbers.{accepted}
-use Rattle.basics.proofs.Cases.{cases}
+use Rattle.basics.proofs.Cases.{cases, and-both}
 use Rattle.basics.proofs.Zeros.{zeros-behind}
 use Rattle.words.specs.Words.{isAbsorb, lengthOf}
 use Rattle.pattern.specs.Pattern.{mergedWords}
-use Rattle.poseidon.specs.Permutation.{babyBear}
+use Rattle.field.specs.Field.{isElement}
+use Rattle.field.proofs.Moduli.{positive}
 use Rattle.sponge.specs.Sponge.{absorbElement, squeezeElement}
 use Rattle.sponge.specs.declared.Sponge.{Sponge}
 use Rattle.progress.specs.declared.place.Place.{Place}
-use Rattle.session.specs.Record.{opened, openRecord, spongeOf, moved, nextPlaceOf, absorbOne, squeezeOne, absorbAll, squeezeAll}
+use Rattle.session.specs.Record.{opened, openRecord, spongeOf, moved, nextPlaceOf, absorbOne, squeezeOne, absorbAll, squeezeAll, parametersIn, fieldIn}
 use Rattle.pattern.specs.Opening.{Opening}
 use Rattle.session.specs.Calls.{giving, startRecord, start}
 use Rattle.session.specs.declared.Session.{Session}
@@ -50,20 +51,24 @@ module _ (r : Session) (o : eqb (r .status) opened ≡ true) (s : Sound r) (h : 
         fits = λ _. record { before-end = h; kind = e; room = omega (arith, element-left r s h) };
       }
 
+  zero-reduced : all (isElement (fieldIn r)) (0 ∷ []) ≡ true
+  unfolding all
+  zero-reduced = and-both _ _ (lt-ltb 0 _ (positive (fieldIn r))) refl
+
   one-more : (c : Call) × (t : Sponge) × (left r c ≡ moved r t (nextPlaceOf r))
-  unfolding left answered giving absorbAll squeezeAll absorbOne squeezeOne all _and_
+  unfolding left answered giving absorbAll squeezeAll absorbOne squeezeOne
   one-more =
       cases (isAbsorb (phaseWord r))
       (λ e. (
         ABSORB (0 ∷ []),
-        absorbElement babyBear (spongeOf r) 0,
-        ap (λ (a : Answer). a .session) (absorb-accepted r (0 ∷ []) (takes-one true e) refl),
+        absorbElement (parametersIn r) (spongeOf r) 0,
+        ap (λ (a : Answer). a .session) (absorb-accepted r (0 ∷ []) (takes-one true e) zero-reduced),
       ))
-      λ e. (SQUEEZE 1, squeezeElement babyBear (spongeOf r), ap (λ (a : Answer). a .session) (squeeze-accepted r 1 (takes-one false e)))
+      λ e. (SQUEEZE 1, squeezeElement (parametersIn r) (spongeOf r), ap (λ (a : Answer). a .session) (squeeze-accepted r 1 (takes-one false e)))
 
-module _ (o : Opening) (e : start o .number ≡ accepted) where
+module _ (field : ℕ) (o : Opening) (e : start field o .number ≡ accepted) where
   abbrev opened-record : Session
-  opened-record = start o .session
+  opened-record = start field o .session
 
   -- some calls lead to the place
   abbrev Reached : ℕ → ℕ → Type 0
@@ -78,14 +83,14 @@ module _ (o : Opening) (e : start o .number ≡ accepted) where
     there = leftBy opened-record cs
 
     sounds : Sound there
-    sounds = parts there (sound-run o e cs (eq-eqb _ _ still))
+    sounds = parts there (sound-run field o e cs (eq-eqb _ _ still))
 
     early : there .phase < there .count
-    early = rw (same-left-by opened-record cs (eq-eqb _ _ still) .count ∙ start-count o e) h
+    early = rw (same-left-by opened-record cs (eq-eqb _ _ still) .count ∙ start-count field o e) h
 
     length-there : lengthOf (phaseWord there) ≡ long (there .phase)
     length-there =
-        ap (λ (vs : List ℕ). lengthOf (getD vs (there .phase) 0)) (same-left-by opened-record cs (eq-eqb _ _ still) .words ∙ start-words o e)
+        ap (λ (vs : List ℕ). lengthOf (getD vs (there .phase) 0)) (same-left-by opened-record cs (eq-eqb _ _ still) .words ∙ start-words field o e)
         ∙ ap lengthOf (zeros-behind (mergedWords (o .words)) (64 - length (mergedWords (o .words))) (there .phase))
 
     element-there : there .done < long (there .phase)
@@ -134,10 +139,10 @@ module _ (o : Opening) (e : start o .number ≡ accepted) where
   phase-begun : (i : ℕ) → i ≤ length (mergedWords (o .words)) → Reached i 0
   unfolding leftBy startRecord openRecord
   phase-begun zero h =
-      let r = start-record o e in (
+      let r = start-record field o e in (
         [],
         record {
-          opens = start-open o e;
+          opens = start-open field o e;
           phase = ap (λ (t : Session). t .phase) r;
           done = ap (λ (t : Session). t .done) r;
         },
@@ -148,8 +153,8 @@ module _ (o : Opening) (e : start o .number ≡ accepted) where
       forward i (long i - 1) (omega arith) (in-phase i (long i - 1) (omega arith) begun (omega arith)) .0 (omega arith)
 
   pub place-reached : (phase done : ℕ) → phase < length (mergedWords (o .words)) → done < lengthOf (getD (mergedWords (o .words)) phase 0)
-      → (cs : List Call) × OpenAt (leftBy (start o .session) cs) phase done
+      → (cs : List Call) × OpenAt (leftBy (start field o .session) cs) phase done
   place-reached phase done h l = in-phase phase done h (phase-begun phase (omega arith)) l
 
-  pub end-reached : (cs : List Call) × OpenAt (leftBy (start o .session) cs) (length (mergedWords (o .words))) 0
+  pub end-reached : (cs : List Call) × OpenAt (leftBy (start field o .session) cs) (length (mergedWords (o .words))) 0
   end-reached = phase-begun (length (mergedWords (o .words))) (omega arith)

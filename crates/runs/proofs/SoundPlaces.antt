@@ -28,7 +28,7 @@ use Rattle.session.proofs.SoundRecord.{Sound, parts, element-left, none-done}
 use Rattle.runs.specs.Calls.{Call, leftBy}
 use Rattle.runs.proofs.Opened.{accepted-start, sound-run}
 use Rattle.runs.proofs.SamePattern.{same-left-by}
-use Rattle.runs.proofs.Counted.{start-words, start-count}
+use Rattle.runs.proofs.Counted.{start-words, start-field, start-count}
 use Rattle.runs.proofs.Reached.{OpenAt, place-reached, end-reached}
 
 -- words behind which all are 0 read as the whole list does
@@ -48,8 +48,8 @@ module _ (r : Session) (fits : Below 4294967296 (r .words)) (s : Sound r) where
   word-used : (k : ℕ) → getD (r .words) k 0 ≡ getD pattern k 0
   word-used = used-words (r .count) (r .words) (s .unused)
 
-  pub pattern-opens : start (opening pattern []) .number ≡ accepted
-  pattern-opens = accepted-start (opening pattern []) (sound-accepted (opening pattern []) (s .pattern) (omega arith))
+  pub pattern-opens : start (r .field) (opening pattern []) .number ≡ accepted
+  pattern-opens = accepted-start (r .field) (opening pattern []) (s .known) (sound-accepted (opening pattern []) (s .pattern) (omega arith))
 
   merged : mergedWords pattern ≡ pattern
   merged = sound-merged pattern (s .pattern) (below-take _ (r .count) (r .words) fits)
@@ -60,26 +60,27 @@ module _ (r : Session) (fits : Below 4294967296 (r .words)) (s : Sound r) where
   word-merged : (k : ℕ) → getD (mergedWords pattern) k 0 ≡ getD (r .words) k 0
   word-merged k = ap (λ (ws : List ℕ). getD ws k 0) merged ∙ sym (word-used k)
 
-  reached : (cs : List Call) × OpenAt (leftBy (start (opening pattern []) .session) cs) (r .phase) (r .done)
+  reached : (cs : List Call) × OpenAt (leftBy (start (r .field) (opening pattern []) .session) cs) (r .phase) (r .done)
   reached =
       cases (ltb (r .phase) (r .count))
       (λ l.
       let early = ltb-true _ _ l in
-      place-reached (opening pattern []) pattern-opens (r .phase) (r .done) (rw words-merged early)
+      place-reached (r .field) (opening pattern []) pattern-opens (r .phase) (r .done) (rw words-merged early)
       (rw (ap lengthOf (word-merged (r .phase))) (element-left r s early)))
       λ l.
       let late = ltb-false (r .phase) (r .count) l in
       let within = s .within in
       let ended : r .phase ≡ r .count = omega arith in
-      rw (ended ∙ sym words-merged, none-done r s ended) (end-reached (opening pattern []) pattern-opens)
+      rw (ended ∙ sym words-merged, none-done r s ended) (end-reached (r .field) (opening pattern []) pattern-opens)
 
   module _ (opens : r .status ≡ opened) (places : length (r .words) ≡ 64) where
     -- the record that calls lead to, with the state of this one, is this one
     pub record-reached : (cs : List Call)
-        × (let t = leftBy (start (opening pattern []) .session) cs in
+        × (let t = leftBy (start (r .field) (opening pattern []) .session) cs in
         (_≡_ {A = Session}
         (record {
           status = t .status;
+          field = t .field;
           state = r .state;
           words = t .words;
           count = t .count;
@@ -93,11 +94,11 @@ module _ (r : Session) (fits : Below 4294967296 (r .words)) (s : Sound r) where
     record-reached =
         let cs = reached .0 in
         let at = reached .1 in
-        let t = leftBy (start (opening pattern []) .session) cs in
+        let t = leftBy (start (r .field) (opening pattern []) .session) cs in
         let o = eq-eqb _ _ (at .opens) in
-        let sounds = parts t (sound-run (opening pattern []) pattern-opens cs o) in
-        let same = same-left-by (start (opening pattern []) .session) cs o in
-        let all-words = same .words ∙ start-words (opening pattern []) pattern-opens in
+        let sounds = parts t (sound-run (r .field) (opening pattern []) pattern-opens cs o) in
+        let same = same-left-by (start (r .field) (opening pattern []) .session) cs o in
+        let all-words = same .words ∙ start-words (r .field) (opening pattern []) pattern-opens in
         let unused = 64 - length (mergedWords pattern) in
         let word : (k : ℕ) → getD (t .words) k 0 ≡ getD (r .words) k 0 = λ k.
         ap (λ (ws : List ℕ). getD ws k 0) all-words ∙ zeros-behind (mergedWords pattern) unused k ∙ word-merged k in
@@ -111,11 +112,13 @@ module _ (r : Session) (fits : Below 4294967296 (r .words)) (s : Sound r) where
         let absorbs-at = sounds .absorbs-at ∙ (λ i. positions i .absorb) ∙ sym (s .absorbs-at) in
         let squeezes-at = sounds .squeezes-at ∙ (λ i. positions i .squeeze) ∙ sym (s .squeezes-at) in
         let counted = sounds .counted ∙ (λ i. permutationsAt (words i) (at .phase i) (at .done i)) ∙ sym (s .counted) in
-        let count = same .count ∙ start-count (opening pattern []) pattern-opens ∙ words-merged in
-        let status = at .opens ∙ sym opens in (
+        let count = same .count ∙ start-count (r .field) (opening pattern []) pattern-opens ∙ words-merged in
+        let status = at .opens ∙ sym opens in
+        let field = same .field ∙ start-field (r .field) (opening pattern []) pattern-opens in (
           cs,
           λ i. record {
             status = status i;
+            field = field i;
             state = r .state;
             words = words i;
             count = count i;

@@ -10,9 +10,9 @@ use lib.ListN.{length}
 use Rattle.basics.specs.Logic.{if_then_else_, _or_}
 use Rattle.basics.specs.Numbers.{accepted}
 use Rattle.basics.proofs.Cases.{if-true, if-false}
-use Rattle.poseidon.specs.Permutation.{babyBear}
+use Rattle.poseidon.specs.Permutation.{parameters}
 use Rattle.sponge.specs.Sponge.{absorbElement, squeezeElement}
-use Rattle.session.specs.Record.{wiped, spongeOf, absorbOne, squeezeOne, squeezedOne, absorbAll, squeezeAll, squeezedAll}
+use Rattle.session.specs.Record.{wiped, spongeOf, absorbOne, squeezeOne, squeezedOne, absorbAll, squeezeAll, squeezedAll, parametersIn}
 use Rattle.basics.specs.Refusals.{firstNumber}
 use Rattle.session.specs.Calls.{giving, recordRows, callRows, absorbRows, finishRows, wipes, answerOf, absorb, squeeze, finish}
 use Rattle.session.specs.declared.Session.{Session}
@@ -58,7 +58,7 @@ unfolding absorbAll absorbOne
 absorb-all [] r f p = p
 absorb-all (x ∷ xs) r f p =
     let i = f (omega arith) in
-    rw (next-to-do r true (i .kind) (omega (arith, i .room)) (absorbElement babyBear (spongeOf r) x))
+    rw (next-to-do r true (i .kind) (omega (arith, i .room)) (absorbElement (parametersIn r) (spongeOf r) x))
     (absorbs (absorb-all xs (absorbOne r x) (in-phase-next r true (length xs) _ i) p))
 
 squeeze-all : (n : ℕ) (r : Session) {zs ys : List ℕ} {t : Session} → (0 < n → InPhase r false n)
@@ -67,7 +67,7 @@ unfolding squeezeAll squeezedAll squeezeOne
 squeeze-all zero r f p = p
 squeeze-all (suc n) r f p =
     let i = f (omega arith) in
-    rw (next-to-do r false (i .kind) (omega (arith, i .room)) (squeezeElement babyBear (spongeOf r)))
+    rw (next-to-do r false (i .kind) (omega (arith, i .room)) (squeezeElement (parametersIn r) (spongeOf r)))
     (squeezes (squeeze-all n (squeezeOne r) (in-phase-next r false n _ i) p))
 
 -- ---- lists of calls

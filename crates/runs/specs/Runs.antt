@@ -15,16 +15,17 @@ use Rattle.runs.specs.Blocks.{blocks}
 -- "Let START open two sessions .. and let each have a list of ABSORB, SQUEEZE and FINISH calls, refused ones included, that ends in an
 -- accepted FINISH. A list's first call gets the record that START gave"
 pub record Run : Type 0 where
-  -- what START got
+  -- what START got: a field number, and words and a separator
+  pub field : ℕ
   pub opening : Opening
   -- the calls before the last, which is FINISH
   pub before : List Call
-  pub opens : start opening .number ≡ accepted
-  pub ends : finish (leftBy (start opening .session) before) .number ≡ accepted
+  pub opens : start field opening .number ≡ accepted
+  pub ends : finish (leftBy (start field opening .session) before) .number ≡ accepted
 
 -- the record that START gave
 abbrev pub startedOf : Run → Session
-startedOf a = start (a .opening) .session
+startedOf a = start (a .field) (a .opening) .session
 
 -- the whole list of calls
 abbrev callsOf : Run → List Call
