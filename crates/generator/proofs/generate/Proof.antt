@@ -1,57 +1,118 @@
--- `generator::generate` meets its contract.
+-- `generator::generate` meets its contract: it is `generate_from` with the parameters of the field that the number names.
 -- Assumes nothing.
 use mathlib.Core.Path.{_≡_, _∙_, sym, ap, ap₂}
-use mathlib.Core.List.{List, _++_, append-nil}
-use Prim.Native.Nat.{ℕ, _-_, _≤_}
-use native.Mathlib.Nat.{zero-add}
+use mathlib.Core.Bool.{not}
+use mathlib.Core.List.{List, _++_, append-assoc}
+use Prim.Native.Nat.{ℕ, _+_, _-_, _*_, _≤_}
 use native.Mathlib.Omega.{arith}
-use lib.ListN.{length, take, drop, replicate, length-append, length-replicate, length-take, drop-of-length-le}
-use Rattle.basics.specs.Lists.{zeroPadded, placed}
-use Rattle.basics.proofs.Placed.{placed-length, placed-behind, placed-start}
-use Rattle.generator.specs.Generator.{firstRegister, newBits, outputBits, candidates, kept, found}
-use Rattle.generator.specs.Steps.{bitsLeft, foundFrom}
-use Rattle.generator.specs.declared.Source.{Source}
+use lib.ListN.{length, take, drop, replicate, length-take, length-replicate, replicate-append-replicate}
+use lib.Seq.{length-take-le, drop-at}
+use Rattle.basics.specs.Lists.{zeroPadded}
+use Rattle.basics.specs.Numbers.{accepted}
+use Rattle.basics.proofs.Cases.{if-true, if-false}
+use Rattle.field.specs.Field.{modulus, partialRounds}
+use Rattle.field.specs.declared.Field.{Field}
+use Rattle.field.proofs.Moduli.{few-rounds}
+use Rattle.generator.specs.Generator.{firstRegister, newBits, outputBits, candidates, kept, found, generated, withConstants, generation}
 use borrow.Author.Needs.{needs}
 use Rattle.generator.proofs.generate.Statement.{statement}
 use Rattle.generator.proofs.generate.Tie as tie
 
--- a text at the start of a buffer, and zeros from its end on
-zeros-behind : (buffer text : List ℕ) → length text ≤ length buffer
-    → placed (placed buffer 0 text) (length text) (replicate (length (placed buffer 0 text) - length text) 0) ≡ zeroPadded (length buffer) text
-zeros-behind buffer text h =
-    let zeros : List ℕ = replicate (length buffer - length text) 0 in
-    let size : length zeros ≡ length buffer - length text = length-replicate {A = ℕ} (length buffer - length text) 0 in
-    let whole = length-append text zeros in
-    ap₂ (λ (n k : ℕ). placed (placed buffer 0 text) k (replicate (n - length text) 0)) (placed-length buffer 0 text (omega arith)) (sym (zero-add (length text)))
-    ∙ placed-behind buffer 0 text zeros (omega arith)
-    ∙ placed-start buffer (text ++ zeros)
-    ∙ ap (λ (l : List ℕ). text ++ zeros ++ l) (drop-of-length-le buffer {i = length (text ++ zeros)} (omega arith))
-    ∙ append-nil (text ++ zeros)
+-- n zeros without k of them
+zeros-dropped : (n k : ℕ) → k ≤ n → drop k (replicate n 0) ≡ replicate {A = ℕ} (n - k) 0
+zeros-dropped n k h =
+    let all : n ≡ k + (n - k) = omega arith in
+    ap (λ (m : ℕ). drop k (replicate m 0)) all
+    ∙ ap (drop k) (sym (replicate-append-replicate k (n - k) 0))
+    ∙ drop-at (replicate k 0) (replicate (n - k) 0) k (length-replicate {A = ℕ} k 0)
 
--- the three calls: a source behind the dropped bits, its constants at the start of the list, and zeros behind them
-answer : (source : Source) (modulus limit count : ℕ) (entry filled cleared : List ℕ)
-    → bitsLeft source ≡ drop 160 (newBits limit (firstRegister 21))
-    → (count ≡ length (foundFrom source modulus (length entry))) × (filled ≡ placed entry 0 (foundFrom source modulus (length entry)))
-    → cleared ≡ placed filled count (replicate (length filled - count) 0)
-    → (count ≡ length (found (firstRegister 21) modulus (length entry) limit)) × (cleared ≡ zeroPadded (length entry) (found (firstRegister 21) modulus (length entry) limit))
-unfolding found foundFrom
-answer source modulus limit count entry filled cleared e (number, is) zeros =
-    let constants = foundFrom source modulus (length entry) in
-    let same : constants ≡ found (firstRegister 21) modulus (length entry) limit =
-    ap (λ (bits : List ℕ). take (length entry) (kept modulus (candidates (outputBits bits)))) e in
-    let few : length constants ≡ _ = length-take (length entry) (kept modulus (candidates (outputBits (bitsLeft source)))) in (
-      number ∙ ap length same,
-      zeros
-          ∙ ap₂ (λ (n : ℕ) (l : List ℕ). placed l n (replicate (length l - n) 0)) number is
-          ∙ zeros-behind entry constants (omega arith)
-          ∙ ap (zeroPadded (length entry)) same,
-    )
+-- numbers in the first places of n, zeros behind them there, and zeros in the places left
+padded-further : (n wanted : ℕ) (numbers : List ℕ) → length numbers ≤ wanted → wanted ≤ n
+    → zeroPadded wanted numbers ++ drop wanted (replicate n 0) ≡ zeroPadded n numbers
+padded-further n wanted numbers fit room =
+    let zeros : ℕ → List ℕ = λ k. replicate k 0 in
+    let left : wanted - length numbers + (n - wanted) ≡ n - length numbers = omega arith in
+    append-assoc numbers (zeros (wanted - length numbers)) (drop wanted (zeros n))
+    ∙ ap (λ (behind : List ℕ). numbers ++ (zeros (wanted - length numbers) ++ behind)) (zeros-dropped n wanted room)
+    ∙ ap (_++_ numbers) (replicate-append-replicate (wanted - length numbers) (n - wanted) 0)
+    ∙ ap (λ (k : ℕ). numbers ++ zeros k) left
+
+-- no more are found than are wanted
+found-few : (register : List ℕ) (m wanted limit : ℕ) → length (found register m wanted limit) ≤ wanted
+unfolding found
+found-few register m wanted limit =
+    let size = length-take wanted (kept m (candidates (outputBits (drop 160 (newBits limit register))))) in omega arith
+
+-- what is found in the places lent, with the zeros in those left
+lent-filled : (n wanted : ℕ) {lent : ℕ} {constants : List ℕ} (register : List ℕ) (m limit : ℕ) → lent ≡ wanted → wanted ≤ n
+    → constants ≡ zeroPadded lent (found register m lent limit)
+    → constants ++ drop wanted (replicate n 0) ≡ zeroPadded n (found register m wanted limit)
+lent-filled n wanted register m limit size room e =
+    ap (λ (l : List ℕ). l ++ drop wanted (replicate n 0)) (e ∙ ap (λ (k : ℕ). zeroPadded k (found register m k limit)) size)
+    ∙ padded-further n wanted (found register m wanted limit) (found-few register m wanted limit) room
+
+-- all that are wanted have a place
+few : (f : Field) {rounds : ℕ} → rounds ≡ partialRounds f → 24 * (4 + rounds + 4) ≤ 744
+few f e = omega (arith, few-rounds f)
+
+-- the constants of a field in its places of 744
+filled : (f : Field) {register constants : List ℕ} {m rounds lent count : ℕ}
+    → register ≡ firstRegister (partialRounds f) → m ≡ modulus f → rounds ≡ partialRounds f → lent ≡ 24 * (4 + rounds + 4)
+    → (count ≡ length (found register m lent 262144)) × (constants ≡ zeroPadded lent (found register m lent 262144))
+    → record { number = accepted; constants = constants ++ drop (24 * (4 + rounds + 4)) (replicate 744 0); count = count } ≡ withConstants accepted (generated f)
+unfolding withConstants generated
+filled f {register} {constants} {m} {rounds} e₁ e₂ e₃ size (counted, is) =
+    let wanted = 24 * (4 + rounds + 4) in
+    ap₂ (λ (l : List ℕ) (n : ℕ). record { number = accepted; constants = l; count = n })
+    (lent-filled 744 wanted register m 262144 size (few f e₃) is)
+    (counted ∙ ap (λ (k : ℕ). length (found register m k 262144)) size)
+    ∙ (λ i. withConstants accepted (found (e₁ i) (e₂ i) (24 * (4 + e₃ i + 4)) 262144))
 
 returns : tie.Need-returns
-returns c =
-    let filled = c .before .before .before .before .before .before in
-    answer _ _ _ _ _ _ _ (filled .before .before .start .ensures) (filled .fill .ensures) (c .before .before .clear .ensures)
+unfolding generation withConstants
+returns c = sym (if-true _ _ _ (ap not (sym (c .before .is-field .ensures)) ∙ c .if1 .taken))
+
+add-wanted : tie.Need-add-wanted
+add-wanted c = let h = few (c .before .before .field-of .result) (c .partial-rounds .ensures) in record { fits = omega arith }
+
+add-wanted-2 : tie.Need-add-wanted-2
+add-wanted-2 c = let h = few (c .before .before .field-of .result) (c .partial-rounds .ensures) in record { fits = omega arith }
+
+mul-wanted : tie.Need-mul-wanted
+mul-wanted c = let h = few (c .before .before .field-of .result) (c .partial-rounds .ensures) in record { fits = omega arith }
+
+array-borrow-prefix-constants : tie.Need-array-borrow-prefix-constants
+array-borrow-prefix-constants c = few (c .before .before .before .field-of .result) (c .before .partial-rounds .ensures)
+
+slice-aggregate-generate-from : tie.Need-slice-aggregate-generate-from
+slice-aggregate-generate-from c =
+    sym (length-take-le _ (replicate 744 0) (few (c .before .before .before .before .field-of .result) (c .before .before .partial-rounds .ensures)))
+
+returns-2 : tie.Need-returns-2
+unfolding generation
+returns-2 c =
+    let counted = c .before .before .before .before in
+    let named = counted .before .before in
+    let f = named .field-of .result in
+    filled f (counted .before .first-register .ensures) (c .before .before .before .modulus .ensures) (counted .partial-rounds .ensures)
+    (length-take-le _ (replicate 744 0) (few f (counted .partial-rounds .ensures))) (c .before .generate-from .ensures)
+    ∙ ap (λ (f : Field). withConstants accepted (generated f)) (named .field-of .ensures)
+    ∙ sym (if-false _ _ _ (ap not (sym (named .before .before .is-field .ensures)) ∙ named .before .if1 .left))
 
 pub generate-spec : {M : Type 1} → statement M
 generate-spec =
-    tie.close (tie.spec (λ c κs. search needs) (λ c κs. search needs) (λ c κs. search needs) (λ c. search needs) returns)
+    tie.close
+    (tie.spec
+    (λ c κs. search needs)
+    returns
+    (λ c κs. search needs)
+    (λ c κs. search needs)
+    (λ c κs. search needs)
+    add-wanted
+    add-wanted-2
+    mul-wanted
+    (λ c κs. search needs)
+    array-borrow-prefix-constants
+    slice-aggregate-generate-from
+    (λ c κs. search needs)
+    returns-2)

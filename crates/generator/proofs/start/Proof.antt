@@ -1,11 +1,10 @@
 -- `generator::start` meets its contract.
 -- Assumes nothing.
-use mathlib.Core.Path.{_≡_, refl, sym, ap}
+use mathlib.Core.Path.{_≡_, sym, ap}
 use Prim.Native.Nat.{ℕ, _-_, _≤_}
 use native.Mathlib.Omega.{arith}
 use lib.ListN.{length, drop}
-use Rattle.basics.specs.Digits.{digits}
-use Rattle.generator.specs.Generator.{firstRegister, newBits}
+use Rattle.generator.specs.Generator.{newBits}
 use Rattle.generator.specs.Steps.{bitsLeft}
 use Rattle.generator.proofs.Streams.{length-shifted, drop-next}
 use borrow.Author.Needs.{needs}
@@ -13,16 +12,15 @@ use Rattle.generator.proofs.start.Statement.{statement}
 use Rattle.generator.proofs.start.Tie as tie
 
 abbrev Inv-loop : tie.InvT-loop
-Inv-loop limit register₀ i₀ register i = (i ≤ 160) × (length register ≡ 80) × (drop i (newBits limit (firstRegister 21)) ≡ newBits (limit - i) register)
+Inv-loop limit register₀ i₀ register i = (i ≤ 160) × (length register ≡ 80) × (drop i (newBits limit register₀) ≡ newBits (limit - i) register)
 
 abbrev μ-loop : tie.MeasureT-loop
 μ-loop limit register₀ i₀ register i = 160 - i
 
 loop-holds : tie.Need-loop-holds Inv-loop μ-loop
-unfolding firstRegister digits
 loop-holds c =
     let e : c .args .limit ≡ c .args .limit - 0 = omega arith in
-    (search needs, refl, ap (λ (n : ℕ). newBits n (firstRegister 21)) e)
+    (search needs, search needs, ap (λ (n : ℕ). newBits n (c .args .first)) e)
 
 shift-requires : tie.Need-shift-requires Inv-loop μ-loop
 shift-requires c κs = c .before .before .loop .inv .1
