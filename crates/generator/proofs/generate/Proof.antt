@@ -1,16 +1,16 @@
 -- `generator::generate` meets its contract: it is `generate_from` with the parameters of the field that the number names.
 -- Assumes nothing.
 use mathlib.Core.Path.{_≡_, _∙_, sym, ap, ap₂}
-use mathlib.Core.Bool.{not}
-use mathlib.Core.List.{List, _++_, append-assoc}
+use mathlib.Core.Bool.{Bool, true, false, not}
+use mathlib.Core.List.{List, [], _++_, append-assoc}
 use Prim.Native.Nat.{ℕ, _+_, _-_, _*_, _≤_}
 use native.Mathlib.Omega.{arith}
 use lib.ListN.{length, take, drop, replicate, length-take, length-replicate, replicate-append-replicate}
 use lib.Seq.{length-take-le, drop-at}
 use Rattle.basics.specs.Lists.{zeroPadded}
-use Rattle.basics.specs.Numbers.{accepted}
+use Rattle.basics.specs.Numbers.{accepted, fieldUnknown}
 use Rattle.basics.proofs.Cases.{if-true, if-false}
-use Rattle.field.specs.Field.{modulus, partialRounds}
+use Rattle.field.specs.Field.{modulus, partialRounds, isField, fieldOf}
 use Rattle.field.specs.declared.Field.{Field}
 use Rattle.field.proofs.Moduli.{few-rounds}
 use Rattle.generator.specs.Generator.{firstRegister, newBits, outputBits, candidates, kept, found, generated, withConstants, generation}
@@ -68,9 +68,19 @@ filled f {register} {constants} {m} {rounds} e₁ e₂ e₃ size (counted, is) =
     (counted ∙ ap (λ (k : ℕ). length (found register m k 262144)) size)
     ∙ (λ i. withConstants accepted (found (e₁ i) (e₂ i) (24 * (4 + e₃ i + 4)) 262144))
 
+-- the number's field or none, as the test tells
+module _ (number : ℕ) {named : Bool} (tested : named ≡ isField number) where
+  unknown : not named ≡ true → withConstants fieldUnknown [] ≡ generation number
+  unfolding generation
+  unknown e = sym (if-true _ _ _ (ap not (sym tested) ∙ e))
+
+  known : {f : Field} → f ≡ fieldOf number → not named ≡ false → withConstants accepted (generated f) ≡ generation number
+  unfolding generation
+  known field e = ap (λ (f : Field). withConstants accepted (generated f)) field ∙ sym (if-false _ _ _ (ap not (sym tested) ∙ e))
+
 returns : tie.Need-returns
-unfolding generation withConstants
-returns c = sym (if-true _ _ _ (ap not (sym (c .before .is-field .ensures)) ∙ c .if1 .taken))
+unfolding withConstants
+returns c = unknown (c .before .before .args .field) (c .before .is-field .ensures) (c .if1 .taken)
 
 add-wanted : tie.Need-add-wanted
 add-wanted c = let h = few (c .before .before .field-of .result) (c .partial-rounds .ensures) in record { fits = omega arith }
@@ -89,15 +99,14 @@ slice-aggregate-generate-from c =
     sym (length-take-le _ (replicate 744 0) (few (c .before .before .before .before .field-of .result) (c .before .before .partial-rounds .ensures)))
 
 returns-2 : tie.Need-returns-2
-unfolding generation
 returns-2 c =
     let counted = c .before .before .before .before in
     let named = counted .before .before in
+    let tested = named .before .before in
     let f = named .field-of .result in
     filled f (counted .before .first-register .ensures) (c .before .before .before .modulus .ensures) (counted .partial-rounds .ensures)
     (length-take-le _ (replicate 744 0) (few f (counted .partial-rounds .ensures))) (c .before .generate-from .ensures)
-    ∙ ap (λ (f : Field). withConstants accepted (generated f)) (named .field-of .ensures)
-    ∙ sym (if-false _ _ _ (ap not (sym (named .before .before .is-field .ensures)) ∙ named .before .if1 .left))
+    ∙ known (tested .before .args .field) (tested .is-field .ensures) (named .field-of .ensures) (named .before .if1 .left)
 
 pub generate-spec : {M : Type 1} → statement M
 generate-spec =
