@@ -18,38 +18,42 @@ use Rattle.generator.specs.Generator.{firstRegister, newBits, outputBits, candi
 use Rattle.generator.specs.declared.Generated.{Generated}
 use Rattle.generated_table.specs.OnNumbers.{bitsOf, next, step, after, after-bound, dropped, emitted, valueAfter, sizeAfter, run, run-is}
 
--- a register as a number
-registerNumber : List ℕ → ℕ
-registerNumber register = sum 80 (λ k. getD register k 0 * 2 ^ k)
+-- the register at its start
+abbrev start : Field → List ℕ
+start f = firstRegister (partialRounds f)
 
--- the registers at their starts, as numbers: each by itself, so that its run computes it once
+-- the same as a number
+startNumber : Field → ℕ
+startNumber f = sum 80 (λ k. getD (start f) k 0 * 2 ^ k)
+
+-- that of each field by itself, so that its run computes it once
 babyBearFirst : ℕ
-babyBearFirst = registerNumber (firstRegister (partialRounds BabyBear))
+babyBearFirst = startNumber BabyBear
 
 koalaBearFirst : ℕ
-koalaBearFirst = registerNumber (firstRegister (partialRounds KoalaBear))
+koalaBearFirst = startNumber KoalaBear
 
 first : Field → ℕ
 first BabyBear = babyBearFirst
 first KoalaBear = koalaBearFirst
 
-first-is : (f : Field) → firstRegister (partialRounds f) ≡ bitsOf (first f)
-unfolding firstRegister digits bitsOf tabulate first babyBearFirst koalaBearFirst registerNumber sum
+first-is : (f : Field) → start f ≡ bitsOf (first f)
+unfolding firstRegister digits bitsOf tabulate first babyBearFirst koalaBearFirst startNumber sum
 first-is BabyBear = refl
 first-is KoalaBear = refl
 
 first-bound : (f : Field) → first f < 2 ^ 80
-unfolding first babyBearFirst koalaBearFirst registerNumber firstRegister digits sum
+unfolding first babyBearFirst koalaBearFirst startNumber firstRegister digits sum
 first-bound BabyBear = lit< tt
 first-bound KoalaBear = lit< tt
 
 -- the first constants of all 130,992 pairs
 baby-bear-computed : take (constantCount BabyBear) (run (modulus BabyBear) 130992 (after 160 babyBearFirst) 0 0) ≡ babyBearConstants
-unfolding run after step next emitted valueAfter sizeAfter babyBearFirst registerNumber firstRegister digits sum if_then_else_ babyBearConstants
+unfolding run after step next emitted valueAfter sizeAfter babyBearFirst startNumber firstRegister digits sum if_then_else_ babyBearConstants
 baby-bear-computed = refl
 
 koala-bear-computed : take (constantCount KoalaBear) (run (modulus KoalaBear) 130992 (after 160 koalaBearFirst) 0 0) ≡ koalaBearConstants
-unfolding run after step next emitted valueAfter sizeAfter koalaBearFirst registerNumber firstRegister digits sum if_then_else_ koalaBearConstants
+unfolding run after step next emitted valueAfter sizeAfter koalaBearFirst startNumber firstRegister digits sum if_then_else_ koalaBearConstants
 koala-bear-computed = refl
 
 computed : (f : Field) → take (constantCount f) (run (modulus f) 130992 (after 160 (first f)) 0 0) ≡ constants f
@@ -83,4 +87,4 @@ field-2-generated = ap (withConstants accepted) (table-generated KoalaBear)
 -- "18: field number neither 1 nor 2 .. in the generator, whose list .. then holds zeros, none found"
 pub no-field-generated : (field : ℕ) → isField field ≡ false → generation field ≡ record { number = fieldUnknown; constants = replicate 744 0; count = 0 }
 unfolding generation withConstants
-no-field-generated field e = if-true _ _ _ (ap not e)
+no-field-generated field e = if-true (not (isField field)) _ _ (ap not e)
