@@ -189,12 +189,7 @@ fn clear(constants: &mut [u32], from: usize)
 
 // Runs the generator from a register on, until the list lent is full or the limit of new bits is reached. Answers how many constants were
 // found; zeros stand behind them.
-pub fn generate_from(
-    register: [u8; 80],
-    modulus: u32,
-    limit: usize,
-    constants: &mut [u32],
-) -> usize
+pub fn generate_from(register: [u8; 80], modulus: u32, limit: usize, constants: &mut [u32]) -> usize
     ensures { λ r. ⌜ (r ≡ length (found register modulus (length (now (constants .entry))) limit)) ×
         (now (constants .exit) ≡ zeroPadded (length (now (constants .entry))) (found register modulus (length (now (constants .entry))) limit)) ⌝ }
 {
@@ -229,7 +224,12 @@ pub fn generate(field: u32) -> Generated
     let named = field::field_of(field);
     let register = first_register(named);
     let wanted = 24 * (4 + field::partial_rounds(named) + 4);
-    let count = generate_from(register, field::modulus(named), LIMIT, &mut constants[..wanted]);
+    let count = generate_from(
+        register,
+        field::modulus(named),
+        LIMIT,
+        &mut constants[..wanted],
+    );
     Generated {
         number: basics::ACCEPTED,
         constants,

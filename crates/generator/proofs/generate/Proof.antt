@@ -30,12 +30,9 @@ zeros-dropped n k h =
 padded-further : (n wanted : ℕ) (numbers : List ℕ) → length numbers ≤ wanted → wanted ≤ n
     → zeroPadded wanted numbers ++ drop wanted (replicate n 0) ≡ zeroPadded n numbers
 padded-further n wanted numbers fit room =
-    let zeros : ℕ → List ℕ = λ k. replicate k 0 in
     let left : wanted - length numbers + (n - wanted) ≡ n - length numbers = omega arith in
-    append-assoc numbers (zeros (wanted - length numbers)) (drop wanted (zeros n))
-    ∙ ap (λ (behind : List ℕ). numbers ++ (zeros (wanted - length numbers) ++ behind)) (zeros-dropped n wanted room)
-    ∙ ap (_++_ numbers) (replicate-append-replicate (wanted - length numbers) (n - wanted) 0)
-    ∙ ap (λ (k : ℕ). numbers ++ zeros k) left
+    append-assoc numbers (replicate (wanted - length numbers) 0) (drop wanted (replicate n 0))
+    ∙ ap (_++_ numbers) (rw (zeros-dropped n wanted room, replicate-append-replicate {A = ℕ} (wanted - length numbers) (n - wanted) 0, left))
 
 -- no more are found than are wanted
 found-few : (register : List ℕ) (m wanted limit : ℕ) → length (found register m wanted limit) ≤ wanted
