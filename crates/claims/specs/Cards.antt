@@ -14,7 +14,7 @@ use Rattle.basics.specs.Refusals.{firstNumber}
 use Rattle.basics.proofs.Placed.{placed-front}
 use Rattle.words.specs.Words.{isAbsorb, lengthOf, phaseOf, wordOf}
 use Rattle.pattern.specs.Pattern.{join, merge, phases, mergedWords}
-use Rattle.pattern.specs.Opening.{opening, tooLong, wordRows, startRows, startNumber}
+use Rattle.pattern.specs.Opening.{opening, tooLong, wordRows, openingRows, openingNumber}
 use Rattle.tag.specs.TagString.{wordBytes, stringOf, tagString}
 use Rattle.counters.specs.Permutations.{blockCount, phasePermutations, permutationsAt, fullPermutations}
 use Rattle.runs.specs.Runs.{Run, tagOf, permutationsOf}
@@ -185,16 +185,16 @@ unfolding line3 all _and_ hexDigit hex separatorText decimalUpTo decimal callTex
 card3 = record { short = lit≤ tt; bytes = refl; words = refl; text = refl }
 
 answer1 : answer line1 ≡ ascii "(ok 80000006000000034142 1)"
-unfolding cardAnswer okText startNumber startRows wordRows firstNumber tooLong tagString stringOf wordBytes digits mergedWords phases merge join phaseOf wordOf isAbsorb lengthOf
+unfolding cardAnswer okText openingNumber openingRows wordRows firstNumber tooLong tagString stringOf wordBytes digits mergedWords phases merge join phaseOf wordOf isAbsorb lengthOf
     fullPermutations permutationsAt phasePermutations blockCount sum hexDigit hex decimalUpTo decimal if_then_else_ _or_ same any
 answer1 = answer-to-card _ _ _ card1 ∙ refl
 
 answer2 : answer line2 ≡ ascii "(no 3)"
-unfolding cardAnswer noText startNumber startRows wordRows firstNumber isAbsorb lengthOf decimalUpTo decimal if_then_else_ _or_ any
+unfolding cardAnswer noText openingNumber openingRows wordRows firstNumber isAbsorb lengthOf decimalUpTo decimal if_then_else_ _or_ any
 answer2 = answer-to-card _ _ _ card2 ∙ refl
 
 answer3 : answer line3 ≡ ascii "(no 2)"
-unfolding cardAnswer noText startNumber startRows wordRows firstNumber isAbsorb lengthOf decimalUpTo decimal if_then_else_ _or_ any
+unfolding cardAnswer noText openingNumber openingRows wordRows firstNumber isAbsorb lengthOf decimalUpTo decimal if_then_else_ _or_ any
 answer3 = answer-to-card _ _ _ card3 ∙ refl
 
 three-lines : (a b c : List ℕ) → answer line1 ≡ a → answer line2 ≡ b → answer line3 ≡ c

@@ -3,16 +3,21 @@
 use mathlib.Core.Path.{_≡_, refl, sym, ap, _∙_}
 use mathlib.Core.Logic.{_≢_}
 use mathlib.Core.List.{List, [], _∷_}
-use Prim.Native.Nat.{ℕ}
+use mathlib.Core.Bool.{true}
+use Prim.Native.Nat.{ℕ, zero, suc}
 use native.Mathlib.Omega.{arith}
-use lib.ListN.{length}
+use borrow.Author.Tests.{lt-ltb}
+use lib.ListN.{length, replicate}
 use Rattle.basics.specs.Logic.{if_then_else_, _and_, _or_, same, all, any}
+use Rattle.basics.proofs.Cases.{and-both}
 use Rattle.basics.specs.Digits.{digits}
 use Rattle.basics.specs.Refusals.{firstNumber}
 use Rattle.words.specs.Words.{Phase, isAbsorb, lengthOf, phaseOf, wordOf}
 use Rattle.pattern.specs.Pattern.{join, merge, phases, mergedWords}
-use Rattle.pattern.specs.Opening.{Opening, opening, tooLong, wordRows, startRows, startNumber}
+use Rattle.pattern.specs.Opening.{Opening, opening, tooLong, wordRows, openingRows, openingNumber}
 use Rattle.tag.specs.TagString.{wordBytes, stringOf, tagString}
+use Rattle.field.specs.Field.{isField, fieldOf, isElement}
+use Rattle.field.proofs.Moduli.{positive}
 use Rattle.runs.specs.Lengths.{absorbLength}
 use Rattle.runs.specs.Runs.{Run, tagOf, patternOf, absorbedOf}
 use Rattle.runs.proofs.Opened.{accepted-start}
@@ -29,14 +34,20 @@ eightBytes = 0x80 ∷ 0 ∷ 0 ∷ 2 ∷ 0 ∷ 0 ∷ 0 ∷ 2 ∷ []
 fourWords : List ℕ
 fourWords = 0x80000001 ∷ 1 ∷ 0x80000002 ∷ 2 ∷ []
 
--- a finished session of each, with zeros absorbed
-short-session : (a : Run) × (a .opening ≡ opening twoWords eightBytes) × (absorbedOf a ≡ 0 ∷ [])
-unfolding twoWords eightBytes startNumber startRows wordRows firstNumber tooLong phases merge join phaseOf isAbsorb lengthOf absorbLength if_then_else_ _and_ _or_ same all any
-short-session = finishable (opening twoWords eightBytes) (0 ∷ []) (accepted-start (opening twoWords eightBytes) refl) refl refl
+-- in each field a finished session of each, with zeros absorbed
+module _ (field : ℕ) (known : isField field ≡ true) where
+  zeros : (n : ℕ) → all (isElement (fieldOf field)) (replicate n 0) ≡ true
+  unfolding all
+  zeros zero = refl
+  zeros (suc n) = and-both _ _ (lt-ltb 0 _ (positive (fieldOf field))) (zeros n)
 
-long-session : (a : Run) × (a .opening ≡ opening fourWords []) × (absorbedOf a ≡ 0 ∷ 0 ∷ 0 ∷ [])
-unfolding fourWords startNumber startRows wordRows firstNumber tooLong phases merge join phaseOf isAbsorb lengthOf absorbLength if_then_else_ _and_ _or_ same all any
-long-session = finishable (opening fourWords []) (0 ∷ 0 ∷ 0 ∷ []) (accepted-start (opening fourWords []) refl) refl refl
+  short-session : (a : Run) × (a .field ≡ field) × (a .opening ≡ opening twoWords eightBytes) × (absorbedOf a ≡ 0 ∷ [])
+  unfolding twoWords eightBytes openingNumber openingRows wordRows firstNumber tooLong phases merge join phaseOf isAbsorb lengthOf absorbLength if_then_else_ _and_ _or_ same any
+  short-session = finishable field (opening twoWords eightBytes) (0 ∷ []) (accepted-start field (opening twoWords eightBytes) known refl) refl (zeros 1)
+
+  long-session : (a : Run) × (a .field ≡ field) × (a .opening ≡ opening fourWords []) × (absorbedOf a ≡ 0 ∷ 0 ∷ 0 ∷ [])
+  unfolding fourWords openingNumber openingRows wordRows firstNumber tooLong phases merge join phaseOf isAbsorb lengthOf absorbLength if_then_else_ _and_ _or_ same any
+  long-session = finishable field (opening fourWords []) (0 ∷ 0 ∷ 0 ∷ []) (accepted-start field (opening fourWords []) known refl) refl (zeros 3)
 
 same-string : tagString (opening twoWords eightBytes) ≡ tagString (opening fourWords [])
 unfolding twoWords eightBytes fourWords tagString stringOf wordBytes digits mergedWords wordOf phases merge join phaseOf isAbsorb lengthOf if_then_else_ same
@@ -46,14 +57,17 @@ other-phases : phases twoWords ≢ phases fourWords
 unfolding twoWords fourWords phases merge join phaseOf isAbsorb lengthOf if_then_else_ same
 other-phases e = let q : _≡_ {A = ℕ} 2 4 = ap (λ (ps : List Phase). length ps) e in omega arith
 
--- "Hence equal lengths in the third demand.": there are two finished sessions, with separators of different length, whose tag strings are
--- equal and whose merged patterns are not.
-pub equal-lengths-are-needed : (a : Run) × (b : Run) × (tagOf a ≡ tagOf b) × (patternOf a ≢ patternOf b)
-equal-lengths-are-needed =
-    let a = short-session in
-    let b = long-session in (
+-- "Hence equal lengths in the third demand.": in each field there are two finished sessions, with separators of different length, whose tag
+-- strings are equal and whose merged patterns are not.
+pub equal-lengths-are-needed : (field : ℕ) → isField field ≡ true
+    → (a : Run) × (b : Run) × (a .field ≡ field) × (b .field ≡ field) × (tagOf a ≡ tagOf b) × (patternOf a ≢ patternOf b)
+equal-lengths-are-needed field known =
+    let a = short-session field known in
+    let b = long-session field known in (
       a .0,
       b .0,
-      ap tagString (a .1) ∙ same-string ∙ sym (ap tagString (b .1)),
-      λ e. other-phases (sym (ap (λ (o : Opening). phases (o .words)) (a .1)) ∙ e ∙ ap (λ (o : Opening). phases (o .words)) (b .1)),
+      a .1,
+      b .1,
+      ap tagString (a .2) ∙ same-string ∙ sym (ap tagString (b .2)),
+      λ e. other-phases (sym (ap (λ (o : Opening). phases (o .words)) (a .2)) ∙ e ∙ ap (λ (o : Opening). phases (o .words)) (b .2)),
     )

@@ -1,4 +1,5 @@
 pub mod Primitives
+pub mod Fields
 pub mod TagStrings
 pub mod Sessions
 pub mod Compared

@@ -14,7 +14,7 @@ use Rattle.basics.specs.Numbers.{accepted, wordCountOutOfRange, wordLengthZero,
 use Rattle.basics.specs.Refusals.{_gets_⨾_, firstNumber}
 use Rattle.words.specs.Words.{isAbsorb, lengthOf, phaseOf}
 use Rattle.pattern.specs.Pattern.{join, merge, phases, mergedWords}
-use Rattle.pattern.specs.Opening.{Opening, opening, tooLong, wordRows, startNumber, withWords, answerWith, checked}
+use Rattle.pattern.specs.Opening.{Opening, opening, tooLong, wordRows, openingNumber, withWords, answerWith, checked}
 use Rattle.pattern.specs.Pass.{without, passNumber, passed, passBegin, lower, passStep, pass, heldAfter, ending}
 use Rattle.basics.proofs.Cases.{or-false}
 use Rattle.pattern.proofs.Given.{answer-accepted, answer-refused}
@@ -66,7 +66,7 @@ number-1-over-64 [] h = absurd (omega arith)
 number-1-over-64 (w ∷ ws) h = held-over (w ∷ ws) h
 
 lowest : (separator ws : List ℕ) → length ws ≢ 0
-    → startNumber (opening ws separator) ≡ lower (passed ws .number) (ending (getD ws (length ws - 1) 0) (length separator))
+    → openingNumber (opening ws separator) ≡ lower (passed ws .number) (ending (getD ws (length ws - 1) 0) (length separator))
 unfolding heldAfter
 lowest separator [] some = absurd (some refl)
 lowest separator (w ∷ ws) some = sym (start-by-pass separator (w ∷ ws) _ some (λ _ _. refl))
@@ -74,11 +74,11 @@ lowest separator (w ∷ ws) some = sym (start-by-pass separator (w ∷ ws) _ som
 -- "The lowest applicable number still wins, even when a later word is the one at fault.": the start check's number is the lower of the one that
 -- the pass holds at the end and of 4, by the last word, or 6, by the separator. So 4 comes before a 5 that is held.
 pub lowest-number-wins : (o : Opening) → length (o .words) ≢ 0
-    → startNumber o ≡ lower (passed (o .words) .number) (ending (getD (o .words) (length (o .words) - 1) 0) (length (o .separator)))
+    → openingNumber o ≡ lower (passed (o .words) .number) (ending (getD (o .words) (length (o .words) - 1) 0) (length (o .separator)))
 lowest-number-wins o = lowest (o .separator) (o .words)
 
 -- And an opening that START accepts gets what the pass holds.
-pub accepted-gets-what-is-held : (o : Opening) → startNumber o ≡ accepted → checked o ≡ passed (o .words)
+pub accepted-gets-what-is-held : (o : Opening) → openingNumber o ≡ accepted → checked o ≡ passed (o .words)
 accepted-gets-what-is-held o e =
     let some : length (o .words) ≢ 0 = eqb-false _ 0 (or-false _ _ (passed-rows o e .of-words .e1) .0) in
     let (none, _) = lower-zero _ _ (sym (lowest-number-wins o some) ∙ e) in

@@ -1,5 +1,5 @@
 -- Sessions: records stay sound, counts and positions are those of document 01 at every place of a pattern, every session can be finished,
--- copies are forks, calls may be cut, and what is squeezed are elements below p.
+-- copies are forks, calls may be cut, and what is squeezed are elements of the session's field.
 -- `start`, `absorb`, `squeeze` and `finish` are those that the contracts of `session` cite.
 use mathlib.Core.Path.{_≡_}
 use mathlib.Core.Bool.{true}
@@ -11,7 +11,7 @@ use lib.ListN.{length, getD, take}
 use Rattle.basics.specs.Logic.{all}
 use Rattle.basics.specs.Lists.{Below}
 use Rattle.basics.specs.Numbers.{accepted}
-use Rattle.field.specs.Field.{isElement}
+use Rattle.field.specs.Field.{fieldOf, isElement}
 use Rattle.words.specs.Words.{lengthOf}
 use Rattle.pattern.specs.Pattern.{phases, mergedWords}
 use Rattle.counters.specs.Permutations.{permutationsAt}
@@ -36,9 +36,9 @@ use Rattle.runs.proofs.SqueezedElements.{squeezed-reduced}
 use Rattle.runs.proofs.Cuts.{absorb-part, absorb-cut, squeeze-part, squeeze-cut, squeezed-cut}
 
 -- START's record is open and sound.
-pub start-gives-sound : (o : Opening) → start o .number ≡ accepted
-    → (start o .session .status ≡ opened) × (sound (start o .session) ≡ true)
-start-gives-sound o e = (start-open o e, start-sound o e)
+pub start-gives-sound : (field : ℕ) (o : Opening) → start field o .number ≡ accepted
+    → (start field o .session .status ≡ opened) × (sound (start field o .session) ≡ true)
+start-gives-sound field o e = (start-open field o e, start-sound field o e)
 
 -- Every call, refused or not, leaves an open record sound. (A record that is open and not sound is left as it was.)
 pub calls-leave-sound : (r : Session) (c : Call) → (r .status ≡ opened → sound r ≡ true)
@@ -46,16 +46,16 @@ pub calls-leave-sound : (r : Session) (c : Call) → (r .status ≡ opened → s
 calls-leave-sound r c s o = sound-left r c (λ e. s (eqb-true _ _ e)) (eq-eqb _ _ o)
 
 -- Whatever calls are made on START's record, it is sound as long as it is open.
-pub sessions-stay-sound : (o : Opening) → start o .number ≡ accepted → (cs : List Call)
-    → leftBy (start o .session) cs .status ≡ opened → sound (leftBy (start o .session) cs) ≡ true
-sessions-stay-sound o e cs still = sound-run o e cs (eq-eqb _ _ still)
+pub sessions-stay-sound : (field : ℕ) (o : Opening) → start field o .number ≡ accepted → (cs : List Call)
+    → leftBy (start field o .session) cs .status ≡ opened → sound (leftBy (start field o .session) cs) ≡ true
+sessions-stay-sound field o e cs still = sound-run field o e cs (eq-eqb _ _ still)
 
 -- "Permutations for d elements done in a phase .. Their sum over phases is the count.": that is the record's count at every place that calls
 -- lead to.
-pub count-at-every-place : (o : Opening) → start o .number ≡ accepted → (cs : List Call)
-    → let r = leftBy (start o .session) cs in
+pub count-at-every-place : (field : ℕ) (o : Opening) → start field o .number ≡ accepted → (cs : List Call)
+    → let r = leftBy (start field o .session) cs in
     r .status ≡ opened → r .permutations ≡ permutationsAt (mergedWords (o .words)) (r .phase) (r .done)
-count-at-every-place o e cs still = count-run o e cs (eq-eqb _ _ still)
+count-at-every-place field o e cs still = count-run field o e cs (eq-eqb _ _ still)
 
 -- A finished session has counted the permutations of its whole merged pattern, whichever calls its list holds.
 pub count-of-session : (a : Run) → permutationsOf a ≡ permutationsAt (mergedWords (a .opening .words)) (length (mergedWords (a .opening .words))) 0
@@ -63,32 +63,33 @@ count-of-session = count-whole
 
 -- Every place of an accepted pattern is reached: some calls lead START's record to an open record in any phase, with any number of elements
 -- below that phase's length done,
-pub every-place-is-reached : (o : Opening) → start o .number ≡ accepted → (phase done : ℕ)
+pub every-place-is-reached : (field : ℕ) (o : Opening) → start field o .number ≡ accepted → (phase done : ℕ)
     → phase < length (mergedWords (o .words)) → done < lengthOf (getD (mergedWords (o .words)) phase 0)
-    → (cs : List Call) × (let r = leftBy (start o .session) cs in (r .status ≡ opened) × (r .phase ≡ phase) × (r .done ≡ done))
-every-place-is-reached o e phase done h l =
-    let reached = place-reached o e phase done h l in
+    → (cs : List Call) × (let r = leftBy (start field o .session) cs in (r .status ≡ opened) × (r .phase ≡ phase) × (r .done ≡ done))
+every-place-is-reached field o e phase done h l =
+    let reached = place-reached field o e phase done h l in
     (reached .0, (reached .1 .opens, reached .1 .phase, reached .1 .done))
 
 -- and some to one after the last phase.
-pub every-end-is-reached : (o : Opening) → start o .number ≡ accepted
+pub every-end-is-reached : (field : ℕ) (o : Opening) → start field o .number ≡ accepted
     → (cs : List Call)
-    × (let r = leftBy (start o .session) cs in (r .status ≡ opened) × (r .phase ≡ length (mergedWords (o .words))) × (r .done ≡ 0))
-every-end-is-reached o e =
-    let reached = end-reached o e in
+    × (let r = leftBy (start field o .session) cs in (r .status ≡ opened) × (r .phase ≡ length (mergedWords (o .words))) × (r .done ≡ 0))
+every-end-is-reached field o e =
+    let reached = end-reached field o e in
     (reached .0, (reached .1 .opens, reached .1 .phase, reached .1 .done))
 
--- "count and positions are those the steps give at that place": START takes the words of an open sound record, and some calls then lead to a
+-- "count and positions are those the steps give at that place": START takes the field number and the words of an open sound record, and some calls then lead to a
 -- record that is this one in all but the state. (Words are of 32 bits, and 64, in every record that a caller can hand over.)
 pub sound-records-are-reached : (r : Session) → Below 4294967296 (r .words) → length (r .words) ≡ 64
     → r .status ≡ opened → sound r ≡ true
     → let o = opening (take (r .count) (r .words)) [] in
-    (start o .number ≡ accepted)
+    (start (r .field) o .number ≡ accepted)
     × ((cs : List Call)
-    × (let t = leftBy (start o .session) cs in
+    × (let t = leftBy (start (r .field) o .session) cs in
     (_≡_ {A = Session}
     (record {
       status = t .status;
+      field = t .field;
       state = r .state;
       words = t .words;
       count = t .count;
@@ -108,10 +109,10 @@ positions-are-0-to-8 r e =
     let bound = positions-bound (r .words) (r .phase) (r .done) in
     (omega (arith, s .absorbs-at, bound .absorbs), omega (arith, s .squeezes-at, bound .squeezes))
 
--- Every opened session can be finished by some list of calls, whatever elements below p it is to absorb.
-pub every-session-finishes : (o : Opening) (xs : List ℕ) → start o .number ≡ accepted
-    → length xs ≡ absorbLength (phases (o .words)) → all isElement xs ≡ true
-    → (a : Run) × (a .opening ≡ o) × (absorbedOf a ≡ xs)
+-- Every opened session can be finished by some list of calls, whatever elements of its field it is to absorb.
+pub every-session-finishes : (field : ℕ) (o : Opening) (xs : List ℕ) → start field o .number ≡ accepted
+    → length xs ≡ absorbLength (phases (o .words)) → all (isElement (fieldOf field)) xs ≡ true
+    → (a : Run) × (a .field ≡ field) × (a .opening ≡ o) × (absorbedOf a ≡ xs)
 every-session-finishes = finishable
 
 -- "A copied record is a fork. Each copy goes on by itself." "A fork's list is that of its original up to the copying, then its own calls.":
@@ -135,6 +136,6 @@ pub squeeze-cut-freely : (r : Session) (n m : ℕ) → squeeze r (n + m) .number
     × (squeezedAll r (n + m) ≡ squeezedAll r n ++ squeezedAll (squeeze r n .session) m)
 squeeze-cut-freely r n m e = (squeeze-part r n m e, squeeze-cut r n m e, squeezed-cut r n m e)
 
--- What is squeezed from a sound record are elements: numbers below p.
-pub squeezed-are-elements : (r : Session) (n : ℕ) → sound r ≡ true → all isElement (squeezedAll r n) ≡ true
+-- What is squeezed from a sound record are elements of its field: numbers below that field's p.
+pub squeezed-are-elements : (r : Session) (n : ℕ) → sound r ≡ true → all (isElement (fieldOf (r .field))) (squeezedAll r n) ≡ true
 squeezed-are-elements r n e = squeezed-reduced n r (parts r e .reduced)

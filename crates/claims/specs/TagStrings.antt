@@ -1,4 +1,4 @@
--- Tag strings read back, and tell patterns and separators apart. `tagString`, `startNumber` and the others are those that the contracts of
+-- Tag strings read back, and tell patterns and separators apart. `tagString`, `openingNumber` and the others are those that the contracts of
 -- `pattern` and `tag` cite. An opening, words and a separator, is accepted where the start check's number is 0.
 use mathlib.Core.Path.{_≡_}
 use mathlib.Core.List.{List}
@@ -8,7 +8,7 @@ use lib.ListN.{length, take}
 use Rattle.basics.specs.Lists.{Below}
 use Rattle.basics.specs.Numbers.{accepted, notTagString}
 use Rattle.pattern.specs.Pattern.{phases, mergedWords}
-use Rattle.pattern.specs.Opening.{Opening, opening, startNumber, withWords}
+use Rattle.pattern.specs.Opening.{Opening, opening, openingNumber, withWords}
 use Rattle.tag.specs.TagString.{tagString, writeNumber, written, bufferAfter, readNumber, readWords, wordsRead, readSeparator}
 use Rattle.tag.proofs.Writing.{front-of-buffer}
 use Rattle.tag.proofs.ReadBack.{reads-words, reads-separator, writes, writes-string, refused-string, strings-tell}
@@ -20,25 +20,25 @@ written-string = front-of-buffer
 
 -- "With its separator's length given, a tag string reads back to the merged pattern and separator it was written from", for every accepted
 -- pattern.
-pub reading-back : (o : Opening) → startNumber o ≡ accepted
+pub reading-back : (o : Opening) → openingNumber o ≡ accepted
     → (readWords (tagString o) (length (o .separator)) ≡ withWords accepted (mergedWords (o .words)))
     × (readSeparator (tagString o) (length (o .separator)) ≡ o .separator)
 reading-back o e = (reads-words o e, reads-separator o e)
 
 -- "and writing these gives it again": what reading accepts of a string of bytes is an accepted pattern, whose tag string it is.
 pub writing-again : (string : List ℕ) (n : ℕ) → Below 256 string → readNumber string n ≡ accepted
-    → (startNumber (opening (wordsRead string n) (readSeparator string n)) ≡ accepted)
+    → (openingNumber (opening (wordsRead string n) (readSeparator string n)) ≡ accepted)
     × (tagString (opening (wordsRead string n) (readSeparator string n)) ≡ string)
 writing-again string n bytes e = (writes string n bytes e, writes-string string n bytes e)
 
 -- "no tag string of that separator length": what reading refuses with 13 is the tag string of no accepted pattern with a separator of that
 -- length.
 pub no-tag-string : (string : List ℕ) (n : ℕ) → readNumber string n ≡ notTagString
-    → (o : Opening) → startNumber o ≡ accepted → length (o .separator) ≡ n → tagString o ≢ string
+    → (o : Opening) → openingNumber o ≡ accepted → length (o .separator) ≡ n → tagString o ≢ string
 no-tag-string string n e o f h = refused-string string n e o f h
 
 -- "the two tag strings are equal exactly when merged patterns and separators are both equal", for separators of equal length in bytes.
 -- Merged patterns are compared as kinds and lengths.
-pub tag-strings-tell : (a b : Opening) → startNumber a ≡ accepted → startNumber b ≡ accepted → length (a .separator) ≡ length (b .separator)
+pub tag-strings-tell : (a b : Opening) → openingNumber a ≡ accepted → openingNumber b ≡ accepted → length (a .separator) ≡ length (b .separator)
     → (tagString a ≡ tagString b) ↔ ((phases (a .words) ≡ phases (b .words)) × (a .separator ≡ b .separator))
 tag-strings-tell a b e f h = strings-tell a b e f h

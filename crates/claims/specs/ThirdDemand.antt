@@ -6,15 +6,15 @@ use lib.ListN.{length}
 use Rattle.runs.specs.Runs.{Run, tagOf, patternOf, absorbedOf, squeezedOf, blocksOf, permutationsOf}
 use Rattle.runs.proofs.Compared.{demand-3}
 
--- "Let START open two sessions, with separators of equal length in bytes .. Then for every two such lists the two tag strings are equal
+-- "Two sessions are compared only inside one field" (document 02). "Let START open two sessions, with separators of equal length in bytes .. Then for every two such lists the two tag strings are equal
 -- exactly when merged patterns and separators are both equal. Where they are, the two lists of blocks are equal exactly when the same
 -- elements were absorbed in the same order; and where the lists of blocks are equal too, the two sessions squeeze the same elements in the
 -- same order with the same number of permutations, whichever calls their lists hold."
-pub third-demand : (a b : Run) → length (a .opening .separator) ≡ length (b .opening .separator)
+pub third-demand : (a b : Run) → a .field ≡ b .field → length (a .opening .separator) ≡ length (b .opening .separator)
     → ((tagOf a ≡ tagOf b) ↔ ((patternOf a ≡ patternOf b) × (a .opening .separator ≡ b .opening .separator)))
     × (tagOf a ≡ tagOf b
     → ((blocksOf a ≡ blocksOf b) ↔ (absorbedOf a ≡ absorbedOf b))
     × (blocksOf a ≡ blocksOf b → (squeezedOf a ≡ squeezedOf b) × (permutationsOf a ≡ permutationsOf b)))
-third-demand a b h =
-    let d = demand-3 a b h in
+third-demand a b f h =
+    let d = demand-3 a b f h in
     (d .0, λ e. (d .1 e .0, λ q. d .1 e .1 q))

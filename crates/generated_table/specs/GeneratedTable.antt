@@ -23,37 +23,37 @@ abbrev start : Field → List ℕ
 start f = firstRegister (partialRounds f)
 
 -- the same as a number
-startNumber : Field → ℕ
-startNumber f = sum 80 (λ k. getD (start f) k 0 * 2 ^ k)
+registerNumber : Field → ℕ
+registerNumber f = sum 80 (λ k. getD (start f) k 0 * 2 ^ k)
 
 -- that of each field by itself, so that its run computes it once
 babyBearFirst : ℕ
-babyBearFirst = startNumber BabyBear
+babyBearFirst = registerNumber BabyBear
 
 koalaBearFirst : ℕ
-koalaBearFirst = startNumber KoalaBear
+koalaBearFirst = registerNumber KoalaBear
 
 first : Field → ℕ
 first BabyBear = babyBearFirst
 first KoalaBear = koalaBearFirst
 
 first-is : (f : Field) → start f ≡ bitsOf (first f)
-unfolding firstRegister digits bitsOf tabulate first babyBearFirst koalaBearFirst startNumber sum
+unfolding firstRegister digits bitsOf tabulate first babyBearFirst koalaBearFirst registerNumber sum
 first-is BabyBear = refl
 first-is KoalaBear = refl
 
 first-bound : (f : Field) → first f < 2 ^ 80
-unfolding first babyBearFirst koalaBearFirst startNumber firstRegister digits sum
+unfolding first babyBearFirst koalaBearFirst registerNumber firstRegister digits sum
 first-bound BabyBear = lit< tt
 first-bound KoalaBear = lit< tt
 
 -- the first constants of all 130,992 pairs
 baby-bear-computed : take (constantCount BabyBear) (run (modulus BabyBear) 130992 (after 160 babyBearFirst) 0 0) ≡ babyBearConstants
-unfolding run after step next emitted valueAfter sizeAfter babyBearFirst startNumber firstRegister digits sum if_then_else_ babyBearConstants
+unfolding run after step next emitted valueAfter sizeAfter babyBearFirst registerNumber firstRegister digits sum if_then_else_ babyBearConstants
 baby-bear-computed = refl
 
 koala-bear-computed : take (constantCount KoalaBear) (run (modulus KoalaBear) 130992 (after 160 koalaBearFirst) 0 0) ≡ koalaBearConstants
-unfolding run after step next emitted valueAfter sizeAfter koalaBearFirst startNumber firstRegister digits sum if_then_else_ koalaBearConstants
+unfolding run after step next emitted valueAfter sizeAfter koalaBearFirst registerNumber firstRegister digits sum if_then_else_ koalaBearConstants
 koala-bear-computed = refl
 
 computed : (f : Field) → take (constantCount f) (run (modulus f) 130992 (after 160 (first f)) 0 0) ≡ constants f

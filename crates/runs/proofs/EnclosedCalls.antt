@@ -1,7 +1,7 @@
 -- The lists of calls that end in an accepted FINISH: of refused calls those with number 10 may be among them, and no other.
 -- Assumes nothing.
 use mathlib.Core.Path.{_≡_, refl, sym, ap, subst, _∙_}
-use mathlib.Core.Bool.{Bool, true, false}
+use mathlib.Core.Bool.{Bool, true, false, not}
 use mathlib.Core.List.{List, [], _∷_, _++_}
 use mathlib.Core.Logic.{_≢_, _⊎_, ⊎-elim, inl, inr}
 use Prim.Native.Nat.{ℕ, _<_}
@@ -11,15 +11,16 @@ use lib.Dec.{eqb}
 use lib.ListN.{length, take}
 use lib.Seq.{length-take-le}
 use Rattle.basics.specs.Logic.{if_then_else_, _and_, _or_, all}
-use Rattle.basics.specs.Numbers.{accepted, callNotInPattern, elementNotReduced}
+use Rattle.basics.specs.Numbers.{accepted, recordNotSound, callNotInPattern, elementNotReduced}
 use Rattle.basics.specs.Refusals.{firstNumber}
-use Rattle.basics.proofs.Cases.{by, cases, if-false}
+use Rattle.basics.proofs.Cases.{by, cases, if-true, if-false}
 use Rattle.field.specs.Field.{fieldOf, isElement}
 use Rattle.pattern.specs.Opening.{Opening}
 use Rattle.pattern.proofs.Soundness as words
 use Rattle.pattern.proofs.SoundPattern.{begins-absorbing}
 use Rattle.progress.specs.Place.{inPattern}
-use Rattle.session.specs.Record.{wiped, openRecord, absorbAll, squeezeAll, fieldIn}
+use Rattle.session.specs.Record.{opened, wiped, openRecord, absorbAll, squeezeAll, fieldIn}
+use Rattle.session.specs.Soundness.{sound}
 use Rattle.session.specs.Calls.{giving, startRecord, start, recordRows, callRows, wipes, answerOf, absorb, squeeze, finish}
 use Rattle.session.specs.Steps.{refusedWith}
 use Rattle.session.specs.declared.Session.{Session}
@@ -127,6 +128,13 @@ module _ (r : Session) (s : OpenSound r) where
     open-inside (ABSORB xs) f = absorb-inside xs f
     open-inside (SQUEEZE n) f = squeeze-inside n f
     open-inside FINISH f = absurd (not-wiped _ finish-wipes f)
+
+-- an open record that is not sound gets 8 from every call
+pub not-sound-refused : (r : Session) (c : Call) → eqb (r .status) opened ≡ true → sound r ≡ false → answered r c ≡ giving recordNotSound r
+unfolding recordRows firstNumber
+not-sound-refused r c o e =
+    let number : firstNumber (recordRows r) ≡ recordNotSound = if-false _ _ _ (ap not o) ∙ if-true _ _ _ (ap not e) in
+    refused-call r (λ z. omega (arith, number, z)) c ∙ ap (λ (n : ℕ). giving n r) number
 
 inside : (r : Session) (c : Call) (cs : List Call) → finish (leftBy (left r c) cs) .number ≡ accepted
     → (answered r c .number ≡ accepted) ⊎ (answered r c .number ≡ elementNotReduced)

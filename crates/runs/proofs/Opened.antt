@@ -78,6 +78,9 @@ module _ (field : ℕ) (o : Opening) where
   unfolding start giving
   number-of = by (λ (a : Answer). a .number ≡ startNumber field o) _ _ _ (λ e. sym (eqb-true _ _ e)) λ _. refl
 
+  pub number-known-field : isField field ≡ true → start field o .number ≡ openingNumber o
+  number-known-field k = number-of ∙ number-known field o k
+
   pub start-known : start field o .number ≡ accepted → isField field ≡ true
   start-known e = cases (isField field) (λ k. k) λ u. absurd (omega (arith, number-of, number-unknown field o u, e))
 

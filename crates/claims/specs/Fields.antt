@@ -1,0 +1,159 @@
+-- The two fields of document 02: the numbers that name them and their figures, the laws that both cite, and what START and records do with a
+-- field number. What the generator does with one is in `Primitives`.
+use mathlib.Core.Path.{_≡_, refl, sym, ap, _∙_}
+use mathlib.Core.Bool.{true, false, not}
+use mathlib.Core.List.{List}
+use mathlib.Core.Logic.{_≢_}
+use Prim.Native.Nat.{ℕ, _+_, _-_, _*_, _%_, _^_, _<_}
+use native.Mathlib.Nat.{mul-comm}
+use borrow.Author.Tests.{eq-eqb, ne-eqb}
+use lib.ListN.{length, getD}
+use Rattle.basics.specs.Logic.{if_then_else_, _or_, all}
+use Rattle.basics.specs.Lists.{Below}
+use Rattle.basics.specs.Numbers.{accepted, recordNotSound, elementNotReduced, fieldUnknown}
+use Rattle.basics.proofs.Cases.{if-true, if-false, or-neither, and-stop}
+use Rattle.field.specs.Field.{modulus, power, partialRounds, isField, fieldOf, isElement}
+use Rattle.field.specs.declared.Field.{Field}
+use Rattle.field.specs.declared.Field.the-variants.{BabyBear, KoalaBear}
+use Rattle.field.proofs.Congruence as congruence
+use Rattle.field.proofs.Moduli as moduli
+use Rattle.poseidon_tables.specs.Tables.{inverses}
+use Rattle.poseidon_tables.proofs.Entries.{inverses-rule}
+use Rattle.poseidon.specs.Permutation.{Parameters, round, permutation, parameters, permuted}
+use Rattle.poseidon.specs.declared.Permuted.{Permuted}
+use Rattle.poseidon.proofs.Bounds.{multiplied}
+use Rattle.poseidon.proofs.Remainders.{round-congruent}
+use Rattle.pattern.specs.Opening.{Opening, openingNumber}
+use Rattle.session.specs.Record.{wiped, opened, openRecord}
+use Rattle.session.specs.Soundness.{sound}
+use Rattle.session.specs.Calls.{giving, startRecord, start}
+use Rattle.session.specs.declared.Session.{Session}
+use Rattle.session.proofs.Opening.{start-unknown}
+use Rattle.session.proofs.SoundRecord.{parts}
+use Rattle.runs.specs.Calls.{Call, answered, leftBy}
+use Rattle.runs.proofs.Opened.{number-known-field, accepted-start, start-record}
+use Rattle.runs.proofs.Counted.{start-field}
+use Rattle.runs.proofs.SamePattern.{same-left-by}
+use Rattle.runs.proofs.EnclosedCalls.{not-sound-refused}
+
+-- ---- the numbers and the figures
+
+-- "a field number, 1 for today's and 2 for this one"
+pub fields-by-number : (isField 1 ≡ true) × (isField 2 ≡ true) × (fieldOf 1 ≡ BabyBear) × (fieldOf 2 ≡ KoalaBear)
+unfolding isField fieldOf _or_ if_then_else_
+fields-by-number = (refl, refl, refl, refl)
+
+-- "field number neither 1 nor 2": no other number names a field.
+pub no-third-field : (n : ℕ) → n ≢ 1 → n ≢ 2 → isField n ≡ false
+unfolding isField
+no-third-field n first second = or-neither _ _ (ne-eqb n 1 first) (ne-eqb n 2 second)
+
+-- "p = 2013265921 = 15 × 2^27 + 1.", the seventh power, 21 partial rounds
+pub figures-of-field-1 : (modulus BabyBear ≡ 2013265921) × (modulus BabyBear ≡ 15 * 2 ^ 27 + 1) × (power BabyBear ≡ 7) × (partialRounds BabyBear ≡ 21)
+figures-of-field-1 = (refl, moduli.p-by-power-of-two, refl, refl)
+
+-- "2130706433 = 2^31 − 2^24 + 1"; "Field 2 uses the third power, 4 full, 23 partial and 4 full rounds"
+pub figures-of-field-2 : (modulus KoalaBear ≡ 2130706433) × (modulus KoalaBear ≡ 2 ^ 31 - 2 ^ 24 + 1) × (power KoalaBear ≡ 3) × (partialRounds KoalaBear ≡ 23)
+figures-of-field-2 = (refl, moduli.p-by-powers-of-two, refl, refl)
+
+-- ---- "Laws of sum, product, inverse and round are shown for a modulus as a parameter"
+
+-- A sum's remainder is that of the remainders' sum,
+pub sums-by-remainders : (m a b : ℕ) → (a % m + b % m) % m ≡ (a + b) % m
+sums-by-remainders m a b = congruence.add-congruent (congruence.remainder m a) (congruence.remainder m b) .same
+
+-- and so a product's.
+pub products-by-remainders : (m a b : ℕ) → (a % m) * (b % m) % m ≡ a * b % m
+products-by-remainders m a b = congruence.mul-congruent (congruence.remainder m a) (congruence.remainder m b) .same
+
+-- What a factor does, one that is its inverse undoes.
+pub inverses-undo : (m a b x : ℕ) → a * b % m ≡ 1 % m → x * a % m * b % m ≡ x % m
+inverses-undo = congruence.inverse-undoes
+
+-- A round of any parameters goes by the elements' remainders alone, and gives 24 elements below the modulus.
+pub rounds-by-remainders : (F : Parameters) (r : ℕ) (s t : List ℕ)
+    → ((k : ℕ) → k < 24 → getD s k 0 % F .modulus ≡ getD t k 0 % F .modulus) → round F r s ≡ round F r t
+rounds-by-remainders F r s t h = round-congruent F r s t (λ k l. record { same = h k l })
+
+pub rounds-give-elements : (F : Parameters) → 0 < F .modulus → (r : ℕ) (s : List ℕ)
+    → (length (round F r s) ≡ 24) × Below (F .modulus) (round F r s)
+rounds-give-elements F positive r s = let after = multiplied F positive _ in (after .long, after .reduced)
+
+-- "and each field cites them": the inverses of each field's table undo what they are the inverses of,
+pub inverses-of-each-field-undo : (f : Field) (k x : ℕ) → k < 47 → x * (k + 24) % modulus f * getD (inverses f) k 0 % modulus f ≡ x % modulus f
+inverses-of-each-field-undo f k x h =
+    inverses-undo (modulus f) (k + 24) (getD (inverses f) k 0) x (product f k h)
+  where
+    product : (f : Field) (k : ℕ) → k < 47 → (k + 24) * getD (inverses f) k 0 % modulus f ≡ 1 % modulus f
+    product f k h = ap (λ (n : ℕ). n % modulus f) (mul-comm (k + 24) (getD (inverses f) k 0)) ∙ inverses-rule f k h ∙ moduli.one-is-one f
+
+-- and each field's rounds go by remainders, and give 24 of its elements.
+pub rounds-of-each-field : (f : Field) (r : ℕ) (s t : List ℕ)
+    → ((k : ℕ) → k < 24 → getD s k 0 % modulus f ≡ getD t k 0 % modulus f)
+    → (round (parameters f) r s ≡ round (parameters f) r t)
+    × (length (round (parameters f) r s) ≡ 24) × (all (isElement f) (round (parameters f) r s) ≡ true)
+unfolding parameters
+rounds-of-each-field f r s t h =
+    let after = rounds-give-elements (parameters f) (moduli.positive f) r s in
+    (rounds-by-remainders (parameters f) r s t h, after .0, after .1)
+
+-- ---- START, records and the bare permutation
+
+-- "18: field number neither 1 nor 2, before 1 at START": whatever words and separator there are, and the record is wiped.
+pub unknown-field-at-start : (field : ℕ) (o : Opening) → isField field ≡ false → start field o ≡ giving fieldUnknown wiped
+unknown-field-at-start = start-unknown
+
+-- With the number of a field START's number is the one of the words and the separator, in either field.
+pub known-field-at-start : (field : ℕ) (o : Opening) → isField field ≡ true → start field o .number ≡ openingNumber o
+known-field-at-start = number-known-field
+
+-- "START takes a field number .. and the record keeps it": START's record has it, and whatever calls leave open has it still.
+pub start-keeps-the-field : (field : ℕ) (o : Opening) → start field o .number ≡ accepted → start field o .session .field ≡ field
+start-keeps-the-field = start-field
+
+pub calls-keep-the-field : (field : ℕ) (o : Opening) → start field o .number ≡ accepted → (cs : List Call)
+    → let r = leftBy (start field o .session) cs in
+    r .status ≡ opened → r .field ≡ field
+calls-keep-the-field field o e cs still = same-left-by (start field o .session) cs (eq-eqb _ _ still) .field ∙ start-field field o e
+
+-- "Rate, capacity and tags don't change.": the records that START gives in the two fields differ in the field number alone.
+pub same-tag-in-both-fields : (o : Opening) → openingNumber o ≡ accepted
+    → (start 1 o .session .state ≡ start 2 o .session .state)
+    × (start 1 o .session .words ≡ start 2 o .session .words) × (start 1 o .session .count ≡ start 2 o .session .count)
+unfolding startRecord openRecord
+same-tag-in-both-fields o e =
+    let one = start-record 1 o (accepted-start 1 o (fields-by-number .0) e) in
+    let two = start-record 2 o (accepted-start 2 o (fields-by-number .1) e) in (
+      ap (λ (r : Session). r .state) one ∙ sym (ap (λ (r : Session). r .state) two),
+      ap (λ (r : Session). r .words) one ∙ sym (ap (λ (r : Session). r .words) two),
+      ap (λ (r : Session). r .count) one ∙ sym (ap (λ (r : Session). r .count) two),
+    )
+
+-- "A record with another field number isn't sound."
+pub sound-records-name-a-field : (r : Session) → sound r ≡ true → isField (r .field) ≡ true
+sound-records-name-a-field r e = parts r e .known
+
+-- An open record with another number gets 8 from every call, and is left as it was.
+pub other-field-numbers-get-8 : (r : Session) (c : Call) → r .status ≡ opened → isField (r .field) ≡ false → answered r c ≡ giving recordNotSound r
+other-field-numbers-get-8 r c opens e = not-sound-refused r c (eq-eqb _ _ opens) (unsound r e)
+  where
+    unsound : (r : Session) → isField (r .field) ≡ false → sound r ≡ false
+    unfolding sound
+    unsound r e = and-stop _ _ e
+
+-- The bare permutation: "18 .. before 10 .., which gives its input back", whatever the state; then 10; and else the field's permutation.
+pub permutation-by-field : (field : ℕ) (s : List ℕ)
+    → (isField field ≡ false → permuted field s ≡ record { number = fieldUnknown; state = s })
+    × (isField field ≡ true → all (isElement (fieldOf field)) s ≡ false → permuted field s ≡ record { number = elementNotReduced; state = s })
+    × (isField field ≡ true → all (isElement (fieldOf field)) s ≡ true → permuted field s ≡ record { number = accepted; state = permutation (parameters (fieldOf field)) s })
+unfolding permuted
+permutation-by-field field s = (
+  λ e. if-true _ _ _ (ap not e),
+  λ e b. if-false _ _ _ (ap not e) ∙ if-true _ _ _ (ap not b),
+  λ e b. if-false _ _ _ (ap not e) ∙ if-false _ _ _ (ap not b),
+)
+
+-- 2013265921, which is p in field 1, is an element in field 2 and none in field 1.
+pub element-of-field-2-alone : (isElement (fieldOf 1) 2013265921 ≡ false) × (isElement (fieldOf 2) 2013265921 ≡ true)
+unfolding fieldOf if_then_else_
+element-of-field-2-alone = (refl, refl)
