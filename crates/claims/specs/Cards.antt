@@ -4,12 +4,12 @@
 use mathlib.Core.Path.{_≡_, refl, sym, ap, ap₂, _∙_}
 use mathlib.Core.List.{List, [], _∷_, _++_}
 use Prim.Native.Nat.{ℕ, suc, _≤_, _<_}
-use lib.Dec.{lit≤, ltb}
+use lib.Dec.{lit≤, ltb, eqb}
 use lib.ListN.{length, take}
 use Rattle.basics.specs.Logic.{if_then_else_, _and_, _or_, same, all, any}
 use Rattle.basics.specs.Digits.{digits}
 use Rattle.basics.specs.Lists.{sum, Below, placed, joined}
-use Rattle.basics.specs.Numbers.{notCard}
+use Rattle.basics.specs.Numbers.{accepted, notCard}
 use Rattle.basics.specs.Refusals.{firstNumber}
 use Rattle.basics.proofs.Placed.{placed-front}
 use Rattle.words.specs.Words.{isAbsorb, lengthOf, phaseOf, wordOf}
@@ -17,6 +17,7 @@ use Rattle.pattern.specs.Pattern.{join, merge, phases, mergedWords}
 use Rattle.pattern.specs.Opening.{opening, tooLong, wordRows, openingRows, openingNumber}
 use Rattle.tag.specs.TagString.{wordBytes, stringOf, tagString}
 use Rattle.counters.specs.Permutations.{blockCount, phasePermutations, permutationsAt, fullPermutations}
+use Rattle.session.specs.Calls.{start}
 use Rattle.runs.specs.Runs.{Run, tagOf, permutationsOf}
 use Rattle.runs.proofs.Opened.{start-accepted}
 use Rattle.card_grammar.specs.Text.{ascii, hexDigit, hex, separatorText, decimalUpTo, decimal, callText, callsText, cardText}
@@ -35,6 +36,7 @@ use Rattle.card_lines.proofs.Progress.{takes-some, takes-first, last-none, last
 use Rattle.card_lines.proofs.Callers.{answered-some, pieces-output}
 use Rattle.card_lines.proofs.Cutting.{written-output, start-holds}
 use Rattle.claims.specs.Sessions.{count-of-session}
+use Rattle.claims.specs.Fields.{fields-by-number, known-field-at-start}
 
 -- A line is read as a card exactly if it has at most 2,048 bytes and is the text of a separator and words, byte for byte; and as no card
 -- exactly if it is not.
@@ -67,13 +69,24 @@ cards-of-2048-bytes-are-read separator ws bytes words short =
 pub answer-to-long-line : (line : List ℕ) → 2048 < length line → answer line ≡ noText notCard
 answer-to-long-line = answer-long
 
+-- "Old cards mean field 1." (document 02): the number is the one that START gives in field 1.
+pub cards-mean-field-1 : (line separator ws : List ℕ) → CardOf line separator ws
+    → let o = opening ws separator in
+    let number = start 1 o .number in
+    answer line ≡ (if eqb number accepted then okText (tagString o) (fullPermutations ws) else noText number)
+unfolding cardAnswer
+cards-mean-field-1 line separator ws c =
+    let o = opening ws separator in
+    answer-to-card line separator ws c
+    ∙ ap (λ (n : ℕ). if eqb n accepted then okText (tagString o) (fullPermutations ws) else noText n) (sym (known-field-at-start 1 o (fields-by-number .0)))
+
 -- "tag string .. permutations of a full session": what a card is answered with is the tag string and the count of every finished session of
--- its words and separator.
+-- its words and separator, in either field.
 pub answer-is-of-session : (a : Run) (line : List ℕ) → CardOf line (a .opening .separator) (a .opening .words) → answer line ≡ okText (tagOf a) (permutationsOf a)
 unfolding fullPermutations
 answer-is-of-session a line c =
     answer-to-card line (a .opening .separator) (a .opening .words) c
-    ∙ accepted-answer (a .opening) (start-accepted (a .opening) (a .opens))
+    ∙ accepted-answer (a .opening) (start-accepted (a .field) (a .opening) (a .opens))
     ∙ ap (okText (tagOf a)) (sym (count-of-session a))
 
 -- The bytes that a call wrote are the first ones of the array that it was lent, as many as the number in its answer says. Of `card::answer` they

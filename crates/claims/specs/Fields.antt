@@ -82,10 +82,8 @@ rounds-give-elements F positive r s = let after = multiplied F positive _ in (af
 -- "and each field cites them": the inverses of each field's table undo what they are the inverses of,
 pub inverses-of-each-field-undo : (f : Field) (k x : ℕ) → k < 47 → x * (k + 24) % modulus f * getD (inverses f) k 0 % modulus f ≡ x % modulus f
 inverses-of-each-field-undo f k x h =
-    inverses-undo (modulus f) (k + 24) (getD (inverses f) k 0) x (product f k h)
-  where
-    product : (f : Field) (k : ℕ) → k < 47 → (k + 24) * getD (inverses f) k 0 % modulus f ≡ 1 % modulus f
-    product f k h = ap (λ (n : ℕ). n % modulus f) (mul-comm (k + 24) (getD (inverses f) k 0)) ∙ inverses-rule f k h ∙ moduli.one-is-one f
+    let product = ap (λ (n : ℕ). n % modulus f) (mul-comm (k + 24) (getD (inverses f) k 0)) ∙ inverses-rule f k h ∙ moduli.one-is-one f in
+    inverses-undo (modulus f) (k + 24) (getD (inverses f) k 0) x product
 
 -- and each field's rounds go by remainders, and give 24 of its elements.
 pub rounds-of-each-field : (f : Field) (r : ℕ) (s t : List ℕ)
@@ -135,11 +133,8 @@ sound-records-name-a-field r e = parts r e .known
 
 -- An open record with another number gets 8 from every call, and is left as it was.
 pub other-field-numbers-get-8 : (r : Session) (c : Call) → r .status ≡ opened → isField (r .field) ≡ false → answered r c ≡ giving recordNotSound r
-other-field-numbers-get-8 r c opens e = not-sound-refused r c (eq-eqb _ _ opens) (unsound r e)
-  where
-    unsound : (r : Session) → isField (r .field) ≡ false → sound r ≡ false
-    unfolding sound
-    unsound r e = and-stop _ _ e
+unfolding sound
+other-field-numbers-get-8 r c opens e = not-sound-refused r c (eq-eqb _ _ opens) (and-stop _ _ e)
 
 -- The bare permutation: "18 .. before 10 .., which gives its input back", whatever the state; then 10; and else the field's permutation.
 pub permutation-by-field : (field : ℕ) (s : List ℕ)
