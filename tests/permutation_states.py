@@ -4,8 +4,8 @@
   tests/permutation_states.py cases > crates/permutation_vectors/stdin
   tests/permutation_states.py answers < crates/permutation_vectors/stdin > crates/permutation_vectors/stdout
 
-The answers are those of the second implementation, in Python, written from document 01 by other hands (tests/oracle).
-A line of input is a state: 24 numbers of ten digits. A line of output is the number, then the state that is left.
+The answers are those of the second implementation, in Python, written from the papers by other hands (tests/oracle).
+A line of input is a field number and a state: 25 numbers of ten digits. A line of output is the number, then the state that is left.
 """
 import sys
 from random import Random

@@ -4,14 +4,14 @@
   tests/sessions.py cases > crates/session_vectors/stdin
   tests/sessions.py answers < crates/session_vectors/stdin > crates/session_vectors/stdout
 
-The answers are those of the second implementation, in Python, written from document 01 by other hands (tests/oracle).
-A line of input is a call on the record that the line before left; lists are hexadecimal:
+The answers are those of the second implementation, in Python, written from the papers by other hands (tests/oracle).
+A line of input is a call on the record that the line before left; lists and the field number, one word, are hexadecimal:
 
-  s WORDS SEPARATOR    START
-  a ELEMENTS           ABSORB
-  q BUFFER             SQUEEZE into a buffer with these contents
-  f                    FINISH
-  t RECORD             the record is replaced by this one, and nothing is called
+  s FIELD WORDS SEPARATOR    START
+  a ELEMENTS                 ABSORB
+  q BUFFER                   SQUEEZE into a buffer with these contents
+  f                          FINISH
+  t RECORD                   the record is replaced by this one, and nothing is called
 
 A line of output is what the call answers:
 
@@ -21,9 +21,9 @@ A line of output is what the call answers:
   f NUMBER RECORD
   t RECORD
 
-A record is three lists: its numbers, the 24 state elements and the 64 pattern words. The numbers are status, word count, phase
-number, elements done, absorb and squeeze position, and permutations (two words, the high one first). Zeros at the end of each of the
-three are left out. In the output, `=` stands for a list that is in every word as the line before left it.
+A record is three lists: its numbers, the 24 state elements and the 64 pattern words. The numbers are status, field number, word
+count, phase number, elements done, absorb and squeeze position, and permutations (two words, the high one first). Zeros at the end of
+each of the three are left out. In the output, `=` stands for a list that is in every word as the line before left it.
 """
 import sys
 from random import Random
