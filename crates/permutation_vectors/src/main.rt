@@ -1,7 +1,7 @@
-// Permutes each state of standard input and prints the answer: its number, then its 24 elements.
-// A line of input is one state: 24 numbers of ten digits, zeros in front, one byte behind each; 242 lines at most.
+// Permutes each state of standard input in the field that the line names, and prints the answer: its number, then its 24 elements.
+// A line of input is a field number and a state: 25 numbers of ten digits, zeros in front, one byte behind each; 238 lines at most.
 // stdin is what tests/permutation_states.py makes, and stdout what the second implementation answers to it, in Python, written from
-// document 01 by other hands (tests/oracle).
+// the papers by other hands (tests/oracle).
 
 ghost use Prim.Native.Nat.{_<_};
 
@@ -12,7 +12,7 @@ fn with_digit(value: u32, digit: u8) -> u32 {
 
 // The number of ten digits that begins at a place of the text.
 fn number_at(text: &[u8; 65536], at: usize) -> u32
-    requires { ⌜ at < 65000 ⌝ }
+    requires { ⌜ at < 65500 ⌝ }
 {
     let mut value: u32 = 0;
     let mut i: usize = 0;
@@ -24,7 +24,7 @@ fn number_at(text: &[u8; 65536], at: usize) -> u32
 }
 
 fn state_at(text: &[u8; 65536], at: usize) -> [u32; 24]
-    requires { ⌜ at < 64000 ⌝ }
+    requires { ⌜ at < 65200 ⌝ }
 {
     let mut state = [0u32; 24];
     let mut i: usize = 0;
@@ -57,11 +57,13 @@ fn print_answer(answer: poseidon::Permuted) {
 
 fn permute_lines(text: &[u8; 65536], size: usize) {
     let mut line: usize = 0;
-    while line < 242 {
-        if size < 264 * line + 264 {
+    while line < 238 {
+        let at = 275 * line;
+        if size < at + 275 {
             return;
         }
-        print_answer(poseidon::permute(state_at(text, 264 * line)));
+        let field = number_at(text, at);
+        print_answer(poseidon::permute(field, state_at(text, at + 11)));
         line += 1;
     }
 }

@@ -6,10 +6,10 @@ use Rattle.permutation_vectors.proofs.permute_lines.Statement.{statemen
 use Rattle.permutation_vectors.proofs.permute_lines.Tie as tie
 
 abbrev Inv-loop : tie.InvT-loop
-Inv-loop text size line₀ line = line ≤ 242
+Inv-loop text size line₀ line = line ≤ 238
 
 abbrev μ-loop : tie.MeasureT-loop
-μ-loop text size line₀ line = 242 - line
+μ-loop text size line₀ line = 238 - line
 
 pub permute-lines-spec : {M : Type 1} → statement M
 permute-lines-spec =
