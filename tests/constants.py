@@ -1,25 +1,40 @@
 #!/usr/bin/env python3
-"""What the program generator_check must print: how many constants the second implementation finds (tests/oracle), that the table in the code
-differs from the generator's output at no place, and samples with other moduli, limits and numbers of places.
+"""What the program generator_check must print: what the second implementation's generator answers for field numbers (tests/oracle), that the tables
+in the code differ from it at no place, and samples of both registers with other moduli, limits and numbers of places.
 
   tests/constants.py > crates/generator_check/stdout
 
-The second implementation has a limit, but two moduli only and no number wanted. So the samples are worked out over its new bits, by the sentences of
-document 01, and each with document 01's modulus is compared with what it finds itself.
+The second implementation has a limit, but no other modulus in a field and no number wanted. So the samples are worked out over its new bits, by the
+sentences of document 01, and each with the field's own modulus is compared with what it finds itself. A line is one of
+
+  generate FIELD number NUMBER found COUNT not zero PLACES from 0: EIGHT PLACES from 692: EIGHT PLACES from 736: EIGHT PLACES
+  field FIELD differ PLACES
+  field FIELD modulus MODULUS limit LIMIT wanted PLACES found COUNT from PLACE: EIGHT PLACES
+
+where a sample begins with the first register of its field.
 """
 from itertools import islice
 
 from second_implementation import oracle
 
-P = oracle.PRIME[1]
+P1, P2 = oracle.PRIME[1], oracle.PRIME[2]
+# places of the list that the samples lend from, as long as the longer list of constants and eight more
+ROOM = 752
+ANY = 2 ** 64 - 1
 SAMPLES = (
-    # modulus, limit, places lent, the first of eight places printed
-    *((P, limit, 3, 0) for limit in (0, 159, 160, 161, 220, 278, 279, 280, 281, 395, 396, 450, 2 ** 64 - 1)),
-    (P, 262144, 0, 0), (P, 262144, 1, 0),
-    (P, 93046, 696, 692), (P, 93047, 696, 692), (P, 93048, 696, 692), (P, 262144, 698, 692),
-    (0, 262144, 3, 0), (1, 4000, 3, 0), (262278199, 1000, 8, 0), (262278200, 1000, 8, 0), (2 ** 22, 262144, 3, 0), (2 ** 22, 2 ** 20, 20, 12),
-    *((modulus, 3028, 24, 18) for modulus in (P, 2110563143, 2110563144, 2 ** 32 - 1)),
+    # field of the register, modulus, limit, places lent, the first of eight places printed
+    *((1, P1, limit, 3, 0) for limit in (0, 159, 160, 161, 220, 278, 279, 280, 281, 395, 396, 450, ANY)),
+    *((2, P2, limit, 3, 0) for limit in (0, 160, 274, 275, 276, 277, 411, 412, 450, ANY)),
+    (1, P1, 262144, 0, 0), (1, P1, 262144, 1, 0),
+    (1, P1, 93046, 696, 692), (1, P1, 93047, 696, 692), (1, P1, 93048, 696, 692), (1, P1, 262144, 698, 692),
+    (2, P2, 93574, 744, 740), (2, P2, 93575, 744, 740), (2, P2, 93576, 744, 740), (2, P2, 262144, 746, 740),
+    (1, 0, 262144, 3, 0), (1, 1, 4000, 3, 0), (1, 262278199, 1000, 8, 0), (1, 262278200, 1000, 8, 0), (1, 2 ** 22, 262144, 3, 0),
+    (1, 2 ** 22, 2 ** 20, 20, 12),
+    *((1, modulus, 3028, 24, 18) for modulus in (P1, 2110563143, 2110563144, P2, 2 ** 32 - 1)),
+    *((2, modulus, 4948, 40, 34) for modulus in (P1, 2028872854, 2028872855, P2)),
+    *((2, modulus, 13756, 112, 104) for modulus in (P2, 2132992693, 2132992694)),
 )
+NUMBERS = (0, 1, 2, 3, 1 << 31, (1 << 32) - 1)
 
 
 def until(limit, bits):
@@ -30,9 +45,9 @@ def until(limit, bits):
         yield bit
 
 
-def found(modulus, limit, wanted):
+def found(field, modulus, limit, wanted):
     # "The first 160 new bits are dropped", which the limit includes
-    bits = islice(until(limit, oracle.new_bits(1)), 160, None)
+    bits = islice(until(limit, oracle.new_bits(field)), 160, None)
     # "Later bits go in pairs: if the first is 1, the second is output, else neither."
     outputs = (second for first, second in zip(bits, bits) if first)
     # "31 output bits, first highest, make a candidate"
@@ -42,18 +57,34 @@ def found(modulus, limit, wanted):
     return list(islice((candidate for candidate in candidates if candidate < modulus), wanted))
 
 
-def places(modulus, limit, wanted):
-    """What a list of 704 sevens is when its first places were lent, and how many constants were found."""
-    constants = found(modulus, limit, wanted)
-    if modulus == P and wanted <= 696:
-        assert constants == oracle.found(1, limit)[:wanted], (limit, wanted)
+def places(field, modulus, limit, wanted):
+    """What a list of sevens is when its first places were lent, and how many constants were found."""
+    constants = found(field, modulus, limit, wanted)
+    if modulus == oracle.PRIME[field] and wanted <= oracle.generate(field)[2]:
+        assert constants == oracle.found(field, limit)[:wanted], (field, limit, wanted)
     # "gives those found, zeros in the places left, and how many"
-    return constants + [0] * (wanted - len(constants)) + [7] * (704 - wanted), len(constants)
+    return constants + [0] * (wanted - len(constants)) + [7] * (ROOM - wanted), len(constants)
+
+
+def eight(constants, start):
+    return " ".join(map(str, [f"from {start}:", *constants[start:start + 8]]))
+
+
+def generated(field):
+    number, constants, count = oracle.generate(field)
+    not_zero = sum(x != 0 for x in constants)
+    return f"generate {field} number {number} found {count} not zero {not_zero} " + " ".join(eight(constants, start) for start in (0, 692, 736))
+
+
+def sample(field, modulus, limit, wanted, start):
+    after, count = places(field, modulus, limit, wanted)
+    return f"field {field} modulus {modulus} limit {limit} wanted {wanted} found {count} " + eight(after, start)
 
 
 if __name__ == "__main__":
-    print("found", oracle.generate()[2])
-    print("differ", 0)
-    for modulus, limit, wanted, start in SAMPLES:
-        after, count = places(modulus, limit, wanted)
-        print("modulus", modulus, "limit", limit, "wanted", wanted, "found", count, "from", f"{start}:", *after[start:start + 8])
+    for field in NUMBERS:
+        print(generated(field))
+    for field in (1, 2):
+        print(f"field {field} differ 0")
+    for row in SAMPLES:
+        print(sample(*row))
