@@ -30,11 +30,13 @@ from random import Random
 
 from second_implementation import oracle
 
-P = 2013265921
+P1, P2 = oracle.PRIME[1], oracle.PRIME[2]
 ABSORB = 1 << 31
 LONGEST = ABSORB - 1
 LARGEST = (1 << 32) - 1
-NUMBERS = ("status", "count", "phase", "done", "absorb_at", "squeeze_at")
+NUMBERS = ("status", "field", "count", "phase", "done", "absorb_at", "squeeze_at")
+# numbers of no field; the low byte or all bits but the highest are a field's in the last two
+UNKNOWN = (0, 3, ABSORB, LARGEST, 257, ABSORB + 2)
 # merged: ABSORB 12, SQUEEZE 10, ABSORB 8, SQUEEZE 3
 PATTERN = [ABSORB + 9, ABSORB + 3, 10, ABSORB + 8, 1, 2]
 random = Random(31)
@@ -56,34 +58,43 @@ def parts(record):
     return [without_zeros(words) for words in ([record[k] for k in NUMBERS] + [high, low], record["state"], record["words"])]
 
 
-def record_of(fields):
-    lists, state, words = ((numbers(field) + [0] * 64)[:size] for field, size in zip(fields, (8, 24, 64)))
-    return dict(zip(NUMBERS, lists), permutations=(lists[6] << 32) + lists[7], state=state, words=words)
+def record_of(lists):
+    first, state, words = ((numbers(digits) + [0] * 64)[:size] for digits, size in zip(lists, (9, 24, 64)))
+    return dict(zip(NUMBERS, first), permutations=(first[7] << 32) + first[8], state=state, words=words)
 
 
-def answer(record, kind, *fields):
+def answer(record, kind, *lists):
     """The number, the record and, of a SQUEEZE, the buffer that a line's call leaves."""
     if kind == "s":
-        return oracle.start(numbers(fields[0]), bytes.fromhex(fields[1]))
+        return oracle.start(numbers(lists[1]), bytes.fromhex(lists[2]), *numbers(lists[0]))
     if kind == "a":
-        return oracle.absorb(record, numbers(fields[0]))
+        return oracle.absorb(record, numbers(lists[0]))
     if kind == "q":
-        return oracle.squeeze(record, numbers(fields[0]))
+        return oracle.squeeze(record, numbers(lists[0]))
     return oracle.finish(record)
 
 
 class Calls:
-    """Prints calls, and keeps the record that they leave, which later ones are made from."""
+    """Prints calls, and keeps the record that they leave, which later ones are made from. `field` is what sessions are opened in."""
 
     def __init__(self):
         self.record = oracle.wiped()
+        self.field = 1
 
-    def call(self, kind, *fields):
-        print(kind, *fields)
-        self.record = answer(self.record, kind, *fields)[1]
+    def call(self, kind, *lists):
+        print(kind, *lists)
+        self.record = answer(self.record, kind, *lists)[1]
 
-    def start(self, words, separator=b""):
-        self.call("s", hexadecimal(words), separator.hex())
+    def start(self, words, separator=b"", field=None):
+        self.call("s", hexadecimal([self.field if field is None else field]), hexadecimal(words), separator.hex())
+
+    def turn(self):
+        """The next session is of the other field."""
+        self.field = 3 - self.field
+
+    def prime(self):
+        """p of the record; of a wiped one, p of the next session."""
+        return oracle.PRIME[self.record["field"] or self.field]
 
     def absorb(self, elements):
         self.call("a", hexadecimal(elements))
@@ -94,6 +105,10 @@ class Calls:
     def finish(self):
         self.call("f")
 
+    def state(self):
+        """Any state of elements."""
+        return [random.randrange(self.prime()) for _ in range(24)]
+
     def put(self, record):
         print("t", *parts(record))
         self.record = record
@@ -101,7 +116,7 @@ class Calls:
     def step(self, kind, size):
         """A good call of so many elements, of the kind of a word."""
         if kind >= ABSORB:
-            self.absorb(elements(size))
+            self.absorb(elements(size, self.prime()))
         else:
             self.squeeze(buffer(size))
 
@@ -134,8 +149,8 @@ class Calls:
             call()
 
 
-def elements(size):
-    return [random.choice([0, 1, P - 1, random.randrange(P)]) for _ in range(size)]
+def elements(size, p):
+    return [random.choice([0, 1, p - 1, random.randrange(p)]) for _ in range(size)]
 
 
 def buffer(size):
@@ -167,7 +182,7 @@ def kinds(words):
     return [word >= ABSORB for word in sums]
 
 
-def random_calls(source, words):
+def random_calls(source, words, p):
     """Calls that follow the pattern, cut freely, with refused and empty ones strewn in."""
     for absorbs, (_, length) in zip(kinds(words), oracle.phases(words)):
         left = min(length, 90)
@@ -175,9 +190,9 @@ def random_calls(source, words):
             if source.random() < 0.1:
                 yield "absorb" if source.random() < 0.5 else "squeeze", []
             if absorbs and source.random() < 0.1:
-                yield "absorb", [source.randrange(P, 1 << 32) for _ in range(source.randint(1, left))]
+                yield "absorb", [source.choice([p, P1, P2, source.randrange(p, 1 << 32)]) for _ in range(source.randint(1, left))]
             size = source.randint(1, left)
-            yield "absorb" if absorbs else "squeeze", [source.choice([0, 1, P - 1, source.randrange(P)]) for _ in range(size)]
+            yield "absorb" if absorbs else "squeeze", [source.choice([0, 1, p - 1, source.randrange(p)]) for _ in range(size)]
             left -= size
             if source.random() < 0.02:
                 yield source.choice([("absorb", [1] * 40), ("squeeze", [0] * 40), ("finish",)])
@@ -187,21 +202,23 @@ def random_calls(source, words):
 
 
 def tampered(source, record):
-    """The record with one bit of it changed."""
-    field = source.choice(["status", "state", "words", "count", "phase", "done", "absorb_at", "squeeze_at", "permutations"])
-    if not isinstance(record[field], list):
-        return dict(record, **{field: record[field] ^ 1 << source.randrange(8)})
-    list_ = list(record[field])
+    """The record with one bit of it changed, or another field number."""
+    key = source.choice(["state", "words", "permutations", *NUMBERS])
+    if key == "field":
+        return dict(record, field=source.choice([0, 1, 2, 3]))
+    if not isinstance(record[key], list):
+        return dict(record, **{key: record[key] ^ 1 << source.randrange(8)})
+    list_ = list(record[key])
     list_[source.randrange(len(list_))] ^= 1 << source.randrange(32)
-    return dict(record, **{field: list_})
+    return dict(record, **{key: list_})
 
 
 def random_sessions(calls):
     source = Random(1)
     for _ in range(200):
-        words = random_pattern(source)
-        calls.start(words, separator(source.choice([0, 1, 2, 8, 31, 256, 257]), source))
-        for call, *lent in random_calls(source, words):
+        words, field = random_pattern(source), source.choice([1, 2] * 15 + [0, 3])
+        calls.start(words, separator(source.choice([0, 1, 2, 8, 31, 256, 257]), source), field)
+        for call, *lent in random_calls(source, words, oracle.PRIME.get(field, P1)):
             if source.random() < 0.01:
                 calls.put(tampered(source, calls.record))
             getattr(calls, call)(*lent)
@@ -225,9 +242,9 @@ def document_examples(calls):
     calls.put(good)
     calls.squeeze(buffer(1))
     calls.absorb([1])
-    # 10: ABSORB 2013265921
+    # 10: ABSORB p
     calls.put(good)
-    calls.absorb([P])
+    calls.absorb([calls.prime()])
     calls.follow()
     # 11: START, FINISH
     calls.put(good)
@@ -248,6 +265,7 @@ def faulty(faults):
 def refused_starts(calls):
     """Every set of faults, each START after one that opened a session, and a call on the record that it leaves."""
     for bits in range(1, 64):
+        calls.field = 1 + bin(bits).count("1") % 2
         calls.start([ABSORB + 1, 1])
         calls.start(*faulty({k for k in range(1, 7) if bits >> (k - 1) & 1}))
         calls.absorb([1])
@@ -257,19 +275,31 @@ def refused_starts(calls):
         calls.start([ABSORB + 7] + [9] * (count - 1))
 
 
+def unknown_fields(calls):
+    """START with numbers of no field, good otherwise, with each of the faults 1 to 6 and with all; after a session of either field."""
+    for number in UNKNOWN:
+        for faults in (set(), {1}, {2}, {3}, {4}, {5}, {6}, {1, 2, 3, 4, 5, 6}):
+            calls.turn()
+            calls.start([ABSORB + 1, 1])
+            calls.start(*faulty(faults), number)
+            calls.absorb([1])
+
+
 def large_elements(calls):
-    """Elements around p at each end of a list and inside it, each followed by the good call."""
-    for large in (P - 1, P, P + 1, ABSORB, LARGEST):
+    """Elements around both p at each end of a list and inside it, each followed by the good call; then sums of the largest."""
+    for large in (P1 - 1, P1, P1 + 1, P2 - 1, P2, P2 + 1, ABSORB, LARGEST):
         for place in (0, 4, 8):
             calls.start([ABSORB + 12, 2])
-            calls.absorb(elements(3))
-            list_ = elements(9)
+            calls.absorb(elements(3, calls.prime()))
+            list_ = elements(9, calls.prime())
             list_[place] = large
             calls.absorb(list_)
             calls.follow()
-    calls.start([ABSORB + 12, 2])
-    calls.absorb([P - 1] * 12)
-    calls.follow()
+    for large in (P1 - 1, calls.prime() - 1):
+        calls.start([ABSORB + 12, 2, ABSORB + 8, 2])
+        calls.put(dict(calls.record, state=[large] * 24))
+        calls.absorb([calls.prime() - 1] * 12)
+        calls.follow()
 
 
 def samples(calls):
@@ -291,13 +321,13 @@ def shapes(calls):
     calls.start([ABSORB + 1, 2] * 32, separator(256))
     calls.follow()
     calls.start([ABSORB + 9] * 32 + [9] * 32)
-    calls.absorb(elements(200))
-    calls.absorb(elements(88))
+    calls.absorb(elements(200, calls.prime()))
+    calls.absorb(elements(88, calls.prime()))
     calls.squeeze(buffer(256))
     calls.follow()
     for length in (0, 1, 255, 256, 257):
         calls.start([ABSORB + 2, 2], separator(length))
-        calls.absorb(elements(2))
+        calls.absorb(elements(2, calls.prime()))
         calls.squeeze(buffer(2))
         calls.finish()
 
@@ -305,12 +335,13 @@ def shapes(calls):
 def long_phases(calls):
     """Records near the end of a phase of 2147483647 elements: a call up to its end, one past it, and a wrong count."""
     for words in ([ABSORB + LONGEST, LONGEST, ABSORB + LONGEST - 1, 1, LONGEST - 1], [ABSORB + LONGEST, LONGEST] * 32):
+        calls.turn()
         calls.start(words)
         opened = calls.record
         for phase in sorted({0, 1, 2, opened["count"] - 1}):
             for left in (1, 9):
                 done = opened["words"][phase] % ABSORB - left
-                record = dict(calls.placed(opened, phase, done), state=[random.randrange(P) for _ in range(24)])
+                record = dict(calls.placed(opened, phase, done), state=calls.state())
                 calls.put(record)
                 calls.step(opened["words"][phase], left + 1)
                 calls.put(dict(record, permutations=record["permutations"] ^ 1 << 31))
@@ -322,10 +353,10 @@ def long_phases(calls):
 
 def changes(record):
     """What is changed of a good record: one thing at a time, but for a closed record that is not sound either."""
-    count, phase, words, state, permutations = (record[k] for k in ("count", "phase", "words", "state", "permutations"))
-    for field in NUMBERS + ("permutations",):
-        for value in (record[field] + 1, record[field] - 1, 0, LARGEST):
-            yield {field: value % (1 << (64 if field == "permutations" else 32))}
+    count, phase, words, permutations = (record[k] for k in ("count", "phase", "words", "permutations"))
+    for key in NUMBERS + ("permutations",):
+        for value in (record[key] + 1, record[key] - 1, 0, LARGEST):
+            yield {key: value % (1 << (64 if key == "permutations" else 32))}
     yield dict(status=2, absorb_at=9)
     for number in (1, 3, 65, 66):
         yield dict(count=number)
@@ -344,25 +375,46 @@ def changes(record):
     for k, value in ((count, 1), (count, ABSORB + 1), (63, 1), (0, words[0] - ABSORB), (1, words[1] + ABSORB), (0, ABSORB), (3, 0),
                      (0, words[0] + 1), (0, words[0] + 8), (1, words[1] - 1), (3, words[3] + 1), (3, LONGEST)):
         yield dict(words=at(words, k, value))
-    for k, value in ((0, P - 1), (0, P), (7, LARGEST), (8, P), (23, P - 1), (23, P), (23, LARGEST)):
-        yield dict(state=at(state, k, value))
+
+
+def field_changes(record):
+    """Other field numbers, and numbers about each p in the state, with the record's field and the other's."""
+    yield from (dict(field=number) for number in UNKNOWN)
+    yield dict(status=2, field=0)
+    state = [min(x, P1 - 1) for x in record["state"]]
+    for k, value in ((0, P1 - 1), (0, P1), (7, LARGEST), (8, P2), (23, P1), (23, P2 - 1), (23, P2)):
+        for field in (1, 2):
+            yield dict(field=field, state=state[:k] + [value] + state[k + 1:])
 
 
 def changed_records(calls):
     """Each of the three calls on each changed record."""
     for phase, done in ((0, 0), (0, 5), (1, 0), (1, 8), (2, 3), (4, 0)):
+        calls.turn()
         calls.reach(PATTERN, phase, done)
         good = calls.record
-        for fields in changes(good):
-            record = dict(good, **fields)
+        for changed in (*changes(good), *field_changes(good)):
+            record = dict(good, **changed)
             if record != good:
                 calls.each(record)
+
+
+def exchanged_fields(calls):
+    """Records with the other field's number: they go on in that field if all of the state is of its elements."""
+    for phase, done in ((0, 0), (0, 5), (1, 3), (2, 3), (4, 0)):
+        calls.reach(PATTERN, phase, done)
+        other = dict(calls.record, field=3 - calls.field)
+        for record in (other, dict(other, state=[x % P1 for x in other["state"]])):
+            calls.each(record)
+            calls.put(record)
+            if oracle.sound(record):
+                calls.follow()
 
 
 def other_places(calls):
     """Every place of a pattern, and places that it has not, in records that are right but for that."""
     calls.start(PATTERN)
-    opened = dict(calls.record, state=[random.randrange(P) for _ in range(24)])
+    opened = dict(calls.record, state=calls.state())
     count = opened["count"]
     for phase, word in enumerate(opened["words"][:count]):
         length = word % ABSORB
@@ -392,11 +444,12 @@ def changed_counts(calls):
 def empty_calls(calls):
     """Calls of length 0 on open, closed and unsound records, at the start, inside a phase, between two and after the last."""
     for phase, done in ((0, 0), (0, 8), (1, 0), (1, 3), (2, 0), (2, 7), (3, 2), (4, 0)):
+        calls.turn()
         calls.reach(PATTERN, phase, done)
         good = calls.record
-        for fields in (dict(), dict(status=2), dict(absorb_at=9)):
-            if fields:
-                calls.put(dict(good, **fields))
+        for changed in (dict(), dict(status=2), dict(absorb_at=9), dict(field=0)):
+            if changed:
+                calls.put(dict(good, **changed))
             calls.absorb([])
             calls.squeeze([])
         calls.put(good)
@@ -409,25 +462,28 @@ def out_of_pattern(calls):
     """Calls of the wrong kind, past a phase's end and after the last phase, then one that tells what is left."""
     merged = [ABSORB + 3, ABSORB + 3, 3, 3]
     for phase, done in ((0, 0), (0, 4), (0, 5), (1, 0), (1, 4), (1, 5), (2, 0)):
+        calls.turn()
         calls.reach(merged, phase, done)
         good = calls.record
         # sizes that fit a declared word, the merged word, what is left of it, and none
         for size in (1, 2, 3, 4, 6, 7):
-            for call, lent in ((calls.absorb, elements(size)), (calls.squeeze, buffer(size))):
+            for call, lent in ((calls.absorb, elements(size, calls.prime())), (calls.squeeze, buffer(size))):
                 calls.put(good)
                 call(lent)
                 calls.finish()
         # an element of p or more in a call that is out of pattern too, or on a closed or an unsound record
         calls.put(good)
-        calls.absorb([P] * 7)
-        calls.absorb([P])
+        large = calls.prime()
+        calls.absorb([large] * 7)
+        calls.absorb([large])
         calls.put(dict(good, permutations=9))
-        calls.absorb([P])
+        calls.absorb([large])
     # a call that reaches over the phase between
     calls.start([ABSORB + 2, 1, ABSORB + 2, 1])
-    calls.absorb(elements(4))
+    calls.absorb(elements(4, calls.prime()))
     # FINISH between phases, inside one and with one element missing
     for phase, done in ((0, 11), (1, 0), (1, 9), (2, 0), (3, 0), (3, 2)):
+        calls.turn()
         calls.reach(PATTERN, phase, done)
         calls.finish()
         calls.squeeze(buffer(1))
@@ -456,20 +512,23 @@ def forks(calls):
 
 def cases():
     calls = Calls()
-    for part in (random_sessions, document_examples, refused_starts, large_elements, samples, shapes, long_phases, changed_records, other_places,
-                 changed_counts, empty_calls, out_of_pattern, forks, exchanged_kinds):
+    for part in (document_examples, large_elements, samples, shapes, other_places, changed_counts, forks, exchanged_kinds, exchanged_fields):
+        for calls.field in (1, 2):
+            part(calls)
+    # these open sessions of both fields themselves
+    for part in (random_sessions, refused_starts, unknown_fields, changed_records, long_phases, empty_calls, out_of_pattern):
         part(calls)
 
 
 def answers():
     record = oracle.wiped()
     for line in sys.stdin:
-        kind, *fields = line.rstrip("\n").split(" ")
+        kind, *lists = line.rstrip("\n").split(" ")
         before = parts(record)
         if kind == "t":
-            head, record, left = [], record_of(fields), []
+            head, record, left = [], record_of(lists), []
         else:
-            number, record, *left = answer(record, kind, *fields)
+            number, record, *left = answer(record, kind, *lists)
             head = [number]
         print(kind, *head, *("=" if new == old else new for old, new in zip(before, parts(record))), *map(hexadecimal, left))
 
