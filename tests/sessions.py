@@ -380,6 +380,7 @@ def changes(record):
 def field_changes(record):
     """Other field numbers, and numbers about each p in the state, with the record's field and the other's."""
     yield from (dict(field=number) for number in UNKNOWN)
+    yield dict(status=0, field=3)
     yield dict(status=2, field=0)
     state = [min(x, P1 - 1) for x in record["state"]]
     for k, value in ((0, P1 - 1), (0, P1), (7, LARGEST), (8, P2), (23, P1), (23, P2 - 1), (23, P2)):

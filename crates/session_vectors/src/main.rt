@@ -1,6 +1,6 @@
 // Runs the calls of standard input through the library, carries the record from call to call, and prints what each call answers.
 // tests/sessions.py says how lines are laid out; stdin is what it makes, and stdout what the second implementation answers to it, in
-// Python, written from document 01 by other hands (tests/oracle).
+// Python, written from the papers by other hands (tests/oracle).
 
 ghost use mathlib.Core.Path.{_≡_};
 ghost use Prim.Native.Nat.{_≤_, _<_};
@@ -36,14 +36,15 @@ fn pattern_in(list: &[u32; 512]) -> [u32; 64] {
 fn record_in(numbers: &[u32; 512], state: &[u32; 512], words: &[u32; 512]) -> session::Session {
     session::Session {
         status: numbers[0],
+        field: numbers[1],
         state: state_in(state),
         words: pattern_in(words),
-        count: numbers[1],
-        phase: numbers[2],
-        done: numbers[3],
-        absorb_position: numbers[4],
-        squeeze_position: numbers[5],
-        permutations: joined(numbers[6], numbers[7]),
+        count: numbers[2],
+        phase: numbers[3],
+        done: numbers[4],
+        absorb_position: numbers[5],
+        squeeze_position: numbers[6],
+        permutations: joined(numbers[7], numbers[8]),
     }
 }
 
@@ -51,13 +52,14 @@ fn record_in(numbers: &[u32; 512], state: &[u32; 512], words: &[u32; 512]) -> se
 fn numbers_of(record: session::Session) -> [u32; 512] {
     let mut list = [0u32; 512];
     list[0] = record.status;
-    list[1] = record.count;
-    list[2] = record.phase;
-    list[3] = record.done;
-    list[4] = record.absorb_position;
-    list[5] = record.squeeze_position;
-    list[6] = (record.permutations / 0x1_0000_0000) as u32;
-    list[7] = (record.permutations % 0x1_0000_0000) as u32;
+    list[1] = record.field;
+    list[2] = record.count;
+    list[3] = record.phase;
+    list[4] = record.done;
+    list[5] = record.absorb_position;
+    list[6] = record.squeeze_position;
+    list[7] = (record.permutations / 0x1_0000_0000) as u32;
+    list[8] = (record.permutations % 0x1_0000_0000) as u32;
     list
 }
 
@@ -139,16 +141,18 @@ fn start_line(text: &[u8], at: usize, record: session::Session) -> Step
 {
     let first = hex_fields::field_at(text, at);
     let second = hex_fields::field_at(text, first.next);
-    let words = hex_fields::words_of(&first.bytes);
-    let count = first.count / 4;
-    let separator = second.bytes;
-    let length = second.count;
-    let answer = session::Session::start(&words[..count], &separator[..length]);
+    let third = hex_fields::field_at(text, second.next);
+    let number = hex_fields::words_of(&first.bytes);
+    let words = hex_fields::words_of(&second.bytes);
+    let count = second.count / 4;
+    let separator = third.bytes;
+    let length = third.count;
+    let answer = session::Session::start(number[0], &words[..count], &separator[..length]);
     print_answer(record, answer);
     let left = answer.session;
     Step {
         record: left,
-        next: second.next,
+        next: third.next,
     }
 }
 
