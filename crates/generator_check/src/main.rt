@@ -115,7 +115,13 @@ fn sample_field(number: u32, limit: usize, wanted: usize, from: usize)
     requires { ⌜ wanted ≤ 752 ⌝ }
     requires { ⌜ from ≤ 744 ⌝ }
 {
-    sample(number, field::modulus(field::field_of(number)), limit, wanted, from);
+    sample(
+        number,
+        field::modulus(field::field_of(number)),
+        limit,
+        wanted,
+        from,
+    );
 }
 
 // Limits at the dropped bits, in a candidate, in the pair that ends the first constant, and at its end.
