@@ -215,7 +215,7 @@ def tampered(source, record):
 
 def random_sessions(calls):
     source = Random(1)
-    for _ in range(200):
+    for _ in range(160):
         words, field = random_pattern(source), source.choice([1, 2] * 15 + [0, 3])
         calls.start(words, separator(source.choice([0, 1, 2, 8, 31, 256, 257]), source), field)
         for call, *lent in random_calls(source, words, oracle.PRIME.get(field, P1)):
