@@ -1,6 +1,6 @@
 #!/usr/bin/env python3
-"""Whether the elements that the tests in C and Rust expect are those of the second implementation (tests/oracle): what the samples B4 to B7 and the
-protocol of two rounds squeeze, a permuted state, and the state that a session begins with.
+"""Whether the elements that the tests in C and Rust expect are those of the second implementation (tests/oracle): what the samples B4 to B7 squeeze in
+either field, and the protocol of two rounds; a permuted state of either field; the state that a session begins with; round constants and their sums.
 
   tests/known_values.py test
 """
@@ -13,13 +13,13 @@ from tree import read, report
 
 ABSORB = 1 << 31
 SOURCES = ("bindings/rust/tests/api.rs", "bindings/c/tests/session.c")
-# numbers there that nothing answers with: p, the longest length, and a word in hexadecimal digits
-OTHERS = {2013265921, 2147483647, 80000003}
+# numbers there that nothing answers with: both p, the longest length, and a word in hexadecimal digits
+OTHERS = {*oracle.PRIME.values(), 2147483647, 80000003}
 
 
-def squeezed(lengths, separator, elements):
+def squeezed(field, lengths, separator, elements):
     """All that a session of ABSORB and SQUEEZE in turn squeezes, where it absorbs these elements one after the other."""
-    number, record = oracle.start([length + (0 if k % 2 else ABSORB) for k, length in enumerate(lengths)], separator)
+    number, record = oracle.start([length + (0 if k % 2 else ABSORB) for k, length in enumerate(lengths)], separator, field)
     out = []
     for k, length in enumerate(lengths):
         if k % 2:
@@ -31,12 +31,23 @@ def squeezed(lengths, separator, elements):
     return out
 
 
-def values():
+def of_field(field):
     for lengths, separator in (((8, 1), b""), ((9, 1), b""), ((1, 9), b""), ((8, 8, 1, 1), b""), ((8, 8, 1, 1), b"AB")):
-        yield from squeezed(lengths, separator, itertools.count(1))
+        yield from squeezed(field, lengths, separator, itertools.count(1))
+    yield from oracle.permute(list(range(24)), field)[1]
+    constants = oracle.found(field)
+    yield from (constants[0], constants[1], constants[-1], sum(constants))
+
+
+def values():
+    yield from of_field(1)
+    yield from of_field(2)
+    # elements that field 1 has not
+    yield from squeezed(2, (8, 1), b"", itertools.count(oracle.PRIME[1]))
+    # places of field 2's list about the end of field 1's
+    yield from oracle.found(2)[695:697]
     for last in (66, 67):
-        yield from squeezed((4, 1, 2, 1), b"two rounds", iter([11, 22, 33, 44, 55, last]))
-    yield from oracle.permute(list(range(24)))[1]
+        yield from squeezed(1, (4, 1, 2, 1), b"two rounds", iter([11, 22, 33, 44, 55, last]))
     # the state at the start of the session whose fields the C test compares
     yield from oracle.start([ABSORB + 3, 33, ABSORB + 13, 15], b"fields")[1]["state"]
 
@@ -44,7 +55,7 @@ def values():
 def findings():
     known = OTHERS.union(values())
     for path in SOURCES:
-        for number in re.findall(r"(?<![\w.])\d{7,10}(?!\w)", read(path)):
+        for number in re.findall(r"(?<![\w.])\d{7,}(?!\w)", read(path)):
             if int(number) not in known:
                 yield f"{path}: {number} is not an element of the second implementation's"
 

@@ -73,7 +73,7 @@ def counted():
                  f"`permutation_vectors`, on {states} states,",
                  "`tag_vectors`, on {} patterns, {} strings and {} digests,".format(*(lines("tag_vectors", kind) for kind in "wre")),
                  f"`session_vectors`, on {calls:,} calls, of which {lines('session_vectors', 's ')} are START "
-                 f"({lines('session_vectors', 's 0')} accepted), and {records} records",
+                 f"({lines('session_vectors', 's 0')} accepted), and {records:,} records",
                  f"`owner_vectors`, on {lines('owner_vectors')} tables with a separator each ({lines('owner_vectors', 'c 0 ')} accepted)"):
         if text not in read("docs/CLAIMS.md"):
             yield f"docs/CLAIMS.md does not say: {text}"
