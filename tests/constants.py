@@ -18,8 +18,8 @@ from itertools import islice
 from second_implementation import oracle
 
 P1, P2 = oracle.PRIME[1], oracle.PRIME[2]
-# places of the list that the samples lend from, as long as the longer list of constants and eight more
-ROOM = 752
+# places of the list that the samples lend from
+ROOM = 744
 ANY = 2 ** 64 - 1
 SAMPLES = (
     # field of the register, modulus, limit, places lent, the first of eight places printed
@@ -27,7 +27,7 @@ SAMPLES = (
     *((2, P2, limit, 3, 0) for limit in (0, 160, 274, 275, 276, 277, 411, 412, 450, ANY)),
     (1, P1, 262144, 0, 0), (1, P1, 262144, 1, 0),
     (1, P1, 93046, 696, 692), (1, P1, 93047, 696, 692), (1, P1, 93048, 696, 692), (1, P1, 262144, 698, 692),
-    (2, P2, 93574, 744, 740), (2, P2, 93575, 744, 740), (2, P2, 93576, 744, 740), (2, P2, 262144, 746, 740),
+    (2, P2, 93574, 744, 736), (2, P2, 93575, 744, 736), (2, P2, 93576, 744, 736), (2, P2, 262144, 743, 736),
     (1, 0, 262144, 3, 0), (1, 1, 4000, 3, 0), (1, 262278199, 1000, 8, 0), (1, 262278200, 1000, 8, 0), (1, 2 ** 22, 262144, 3, 0),
     (1, 2 ** 22, 2 ** 20, 20, 12),
     *((1, modulus, 3028, 24, 18) for modulus in (P1, 2110563143, 2110563144, P2, 2 ** 32 - 1)),

@@ -34,16 +34,23 @@ fn differences(a: &[u32; 744], b: &[u32; 744]) -> u64 {
     count
 }
 
-fn print_from(constants: &[u32; 744], from: usize)
+fn print_places(places: &[u32; 744], from: usize)
+    requires { ⌜ from ≤ 736 ⌝ }
+{
+    let mut i: usize = 0;
+    while i < 8 {
+        print_place(places[from + i]);
+        i += 1;
+    }
+}
+
+// Eight places from one on.
+fn print_eight(places: &[u32; 744], from: usize)
     requires { ⌜ from ≤ 736 ⌝ }
 {
     print_named(b" from ", from as u64);
     io::write_all(1, b":");
-    let mut i: usize = 0;
-    while i < 8 {
-        print_place(constants[from + i]);
-        i += 1;
-    }
+    print_places(places, from);
 }
 
 fn by_number(field: u32) {
@@ -53,9 +60,9 @@ fn by_number(field: u32) {
     print_named(b" number ", answer.number as u64);
     print_named(b" found ", answer.count as u64);
     print_named(b" not zero ", differences(&constants, &[0; 744]));
-    print_from(&constants, 0);
-    print_from(&constants, 692);
-    print_from(&constants, 736);
+    print_eight(&constants, 0);
+    print_eight(&constants, 692);
+    print_eight(&constants, 736);
     io::write_all(1, b"\n");
 }
 
@@ -81,22 +88,12 @@ fn compare_tables() {
     compare(2, &poseidon_tables::koala_bear_constants());
 }
 
-fn print_eight(places: &[u32; 752], from: usize)
-    requires { ⌜ from ≤ 744 ⌝ }
-{
-    let mut i: usize = 0;
-    while i < 8 {
-        print_place(places[from + i]);
-        i += 1;
-    }
-}
-
 // Lends the first places of a list of sevens, so that zeros written and places not lent show. Prints eight places from one on.
 fn sample(number: u32, modulus: u32, limit: usize, wanted: usize, from: usize)
-    requires { ⌜ wanted ≤ 752 ⌝ }
-    requires { ⌜ from ≤ 744 ⌝ }
+    requires { ⌜ wanted ≤ 744 ⌝ }
+    requires { ⌜ from ≤ 736 ⌝ }
 {
-    let mut places = [7u32; 752];
+    let mut places = [7u32; 744];
     let register = generator::first_register(field::field_of(number));
     let found = generator::generate_from(register, modulus, limit, &mut places[..wanted]);
     print_named(b"field ", number as u64);
@@ -104,16 +101,14 @@ fn sample(number: u32, modulus: u32, limit: usize, wanted: usize, from: usize)
     print_named(b" limit ", limit as u64);
     print_named(b" wanted ", wanted as u64);
     print_named(b" found ", found as u64);
-    print_named(b" from ", from as u64);
-    io::write_all(1, b":");
     print_eight(&places, from);
     io::write_all(1, b"\n");
 }
 
 // With the field's own modulus.
 fn sample_field(number: u32, limit: usize, wanted: usize, from: usize)
-    requires { ⌜ wanted ≤ 752 ⌝ }
-    requires { ⌜ from ≤ 744 ⌝ }
+    requires { ⌜ wanted ≤ 744 ⌝ }
+    requires { ⌜ from ≤ 736 ⌝ }
 {
     sample(
         number,
@@ -162,10 +157,10 @@ fn sample_wanted() {
     sample_field(1, 93047, 696, 692);
     sample_field(1, 93048, 696, 692);
     sample_field(1, 262144, 698, 692);
-    sample_field(2, 93574, 744, 740);
-    sample_field(2, 93575, 744, 740);
-    sample_field(2, 93576, 744, 740);
-    sample_field(2, 262144, 746, 740);
+    sample_field(2, 93574, 744, 736);
+    sample_field(2, 93575, 744, 736);
+    sample_field(2, 93576, 744, 736);
+    sample_field(2, 262144, 743, 736);
 }
 
 // Field 1's first candidate is 262278199, and its 23rd is 2110563143, below field 2's modulus alone.

@@ -8,10 +8,10 @@ use Rattle.generator_check.proofs.differences.Statement.{statement}
 use Rattle.generator_check.proofs.differences.Tie as tie
 
 abbrev Inv-loop : tie.InvT-loop
-Inv-loop a b count₀ i₀ count i = (i ≤ 696) × (count ≤ i)
+Inv-loop a b count₀ i₀ count i = (i ≤ 744) × (count ≤ i)
 
 abbrev μ-loop : tie.MeasureT-loop
-μ-loop a b count₀ i₀ count i = 696 - i
+μ-loop a b count₀ i₀ count i = 744 - i
 
 loop-again : tie.Need-loop-again Inv-loop μ-loop
 loop-again c = ⊎-elim (λ w. omega arith) (λ w. omega arith) (c .if1 .came)

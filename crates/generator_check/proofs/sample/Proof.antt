@@ -7,17 +7,17 @@ use borrow.Author.Needs.{needs}
 use Rattle.generator_check.proofs.sample.Statement.{statement}
 use Rattle.generator_check.proofs.sample.Tie as tie
 
-slice-aggregate-generate : tie.Need-slice-aggregate-generate
-slice-aggregate-generate c = sym (length-take-le _ _ (omega arith))
+slice-aggregate-generate-from : tie.Need-slice-aggregate-generate-from
+slice-aggregate-generate-from c = sym (length-take-le _ _ (omega arith))
 
 pub sample-spec : {M : Type 1} → statement M
 sample-spec =
     tie.close
     (tie.spec
-    (λ c. search needs)
-    slice-aggregate-generate
+    (λ c κs. search needs)
     (λ c κs. search needs)
     (λ c. search needs)
+    slice-aggregate-generate-from
     (λ c κs. search needs)
     (λ c. search needs)
     (λ c κs. search needs)
