@@ -1,6 +1,6 @@
-//! An independent implementation of the challenge sponge, written from document 01 alone, and of the owners of separators,
-//! written from P1 of document 02 alone (`owners.rs`). It shares no code with the library, which the tests compare with it, and
-//! is plain rather than fast. Quotations here are from document 01 unless another source is named.
+//! An independent implementation of the challenge sponge, written from document 01 and P3 of document 02 alone, and of the
+//! owners of separators, written from P1 of document 02 alone (`owners.rs`). It shares no code with the library, which the tests
+//! compare with it, and is plain rather than fast. Quotations here are from document 01 unless another source is named.
 
 // Each program that takes this file in uses only a part of it.
 #![allow(dead_code, unused_imports)]
@@ -12,20 +12,19 @@ use std::sync::OnceLock;
 
 pub use owners::{check_owners, owner};
 
-/// "p = 2013265921 = 15 × 2^27 + 1."
-pub const P: u32 = 2013265921;
+/// "p = 2013265921 = 15 × 2^27 + 1." P3: "2130706433 = 2^31 − 2^24 + 1."
+pub const P_1: u32 = 2013265921;
+pub const P_2: u32 = 2130706433;
 
 /// "Fixed figures of the session: rate 8, capacity 16, width 24."
 pub const RATE: u32 = 8;
 pub const WIDTH: usize = 24;
 
-/// "One permutation is 29 rounds: 4 full, 21 partial, 4 full."
+/// "4 full, 21 partial, 4 full." P3: "4 full, 23 partial and 4 full rounds".
 const FULL_ROUNDS_EACH_SIDE: usize = 4;
-const PARTIAL_ROUNDS: usize = 21;
-const ROUNDS: usize = 29;
 
-/// "The 696 round constants".
-pub const CONSTANTS: usize = 696;
+/// P3: "the generator, whose list has 744 places in either field".
+pub const PLACES: usize = 744;
 
 /// "A word has its top bit set for ABSORB and clear for SQUEEZE; its low 31 bits are the length."
 pub const ABSORB: u32 = 0x80000000;
@@ -38,36 +37,84 @@ pub const LONGEST_SEPARATOR: usize = 256;
 /// "The state has eight outer elements and sixteen inner elements, numbered 0 to 23 with the outer ones first."
 pub type State = [u32; WIDTH];
 
-// The field
+// The fields
 
-/// "All arithmetic on elements is modulo p, results from 0 to p − 1."
-fn add(a: u32, b: u32) -> u32 {
-    ((u64::from(a) + u64::from(b)) % u64::from(P)) as u32
+/// A field's number and what goes by the field; its tables are worked out once.
+pub struct Field {
+    pub number: u32,
+    pub p: u32,
+    pub exponent: u32,
+    pub partial_rounds: usize,
+    tables: OnceLock<Tables>,
+}
+
+/// P3: "a field number, 1 for today's"; "21 partial" and "the seventh power".
+pub static FIELD_1: Field = Field {
+    number: 1,
+    p: P_1,
+    exponent: 7,
+    partial_rounds: 21,
+    tables: OnceLock::new(),
+};
+
+/// P3: "and 2 for this one"; "Field 2 uses the third power, 4 full, 23 partial and 4 full rounds".
+pub static FIELD_2: Field = Field {
+    number: 2,
+    p: P_2,
+    exponent: 3,
+    partial_rounds: 23,
+    tables: OnceLock::new(),
+};
+
+/// P3: "the field that the record or the call names". None for a "field number neither 1 nor 2".
+pub fn named(field: u32) -> Option<&'static Field> {
+    [&FIELD_1, &FIELD_2].into_iter().find(|known| known.number == field)
+}
+
+/// Not "an element of p or more" among them. P3: "p and element, in soundness, number 10, arithmetic and the generator alike,
+/// mean those of the field that the record or the call names."
+fn are_elements(field: &Field, numbers: &[u32]) -> bool {
+    numbers.iter().all(|number| *number < field.p)
 }
 
 /// "All arithmetic on elements is modulo p, results from 0 to p − 1."
-fn multiply(a: u32, b: u32) -> u32 {
-    (u64::from(a) * u64::from(b) % u64::from(P)) as u32
+fn add(field: &Field, a: u32, b: u32) -> u32 {
+    ((u64::from(a) + u64::from(b)) % u64::from(field.p)) as u32
+}
+
+/// "All arithmetic on elements is modulo p, results from 0 to p − 1."
+fn multiply(field: &Field, a: u32, b: u32) -> u32 {
+    (u64::from(a) * u64::from(b) % u64::from(field.p)) as u32
 }
 
 /// "raises all elements (full) or element 0 alone (partial) to the seventh power", for any exponent.
-pub fn power(base: u32, exponent: u32) -> u32 {
+pub fn power(field: &Field, base: u32, exponent: u32) -> u32 {
     let mut result = 1;
     for k in (0..u32::BITS - exponent.leading_zeros()).rev() {
-        result = multiply(result, result);
+        result = multiply(field, result, result);
         if exponent >> k & 1 == 1 {
-            result = multiply(result, base);
+            result = multiply(field, result, base);
         }
     }
     result
 }
 
-/// "the inverse of i + j + 24": as p is prime, the power p − 2.
-pub fn inverse(a: u32) -> u32 {
-    power(a, P - 2)
+/// "the inverse of i + j + 24": as p is prime, the power p − 2. P3: "the same 47 sums inverted in its own field."
+pub fn inverse(field: &Field, a: u32) -> u32 {
+    power(field, a, field.p - 2)
 }
 
 // The round constants
+
+/// "29 rounds" in field 1, by the figures it is made up of.
+fn rounds(field: &Field) -> usize {
+    FULL_ROUNDS_EACH_SIDE + field.partial_rounds + FULL_ROUNDS_EACH_SIDE
+}
+
+/// "A round adds its 24 constants": "The 696 round constants"; P3: "so 744 constants".
+pub fn constants_needed(field: &Field) -> usize {
+    WIDTH * rounds(field)
+}
 
 /// "Poseidon's Grain generator", with the oldest bit in front.
 struct Grain {
@@ -77,15 +124,16 @@ struct Grain {
 
 impl Grain {
     /// "An 80-bit register starts as, from bit 0 on and each number high bit first: field kind 1 (2 bits), power 0 (4),
-    /// 31 (12), 24 (12), 8 (10), 21 (10), thirty ones." "The first 160 new bits are dropped."
-    fn new() -> Grain {
+    /// 31 (12), 24 (12), 8 (10), 21 (10), thirty ones." P3: "the same generator with the register's 21 changed to 23". "The
+    /// first 160 new bits are dropped."
+    fn new(field: &Field) -> Grain {
         let numbers = [
             (1, 2),
             (0, 4),
             (31, 12),
             (24, 12),
             (8, 10),
-            (21, 10),
+            (field.partial_rounds, 10),
             ((1 << 30) - 1, 30),
         ];
         let mut register = VecDeque::new();
@@ -126,13 +174,13 @@ impl Grain {
     }
 
     /// "31 output bits, first highest, make a candidate; one of p or more is dropped."
-    fn constant(&mut self) -> Option<u32> {
+    fn constant(&mut self, p: u32) -> Option<u32> {
         loop {
             let mut candidate = 0;
             for _ in 0..31 {
                 candidate = candidate << 1 | u32::from(self.output_bit()?);
             }
-            if candidate < P {
+            if candidate < p {
                 return Some(candidate);
             }
         }
@@ -141,76 +189,86 @@ impl Grain {
 
 /// "It stops at 696 constants or 262,144 new bits, dropped ones included, and gives those found, zeros in the places
 /// left, and how many".
-pub fn round_constants() -> ([u32; CONSTANTS], usize) {
-    let mut grain = Grain::new();
-    let mut constants = [0; CONSTANTS];
-    for found in 0..CONSTANTS {
-        match grain.constant() {
+pub fn round_constants(field: &Field) -> ([u32; PLACES], usize) {
+    let mut grain = Grain::new(field);
+    let mut constants = [0; PLACES];
+    for found in 0..constants_needed(field) {
+        match grain.constant(field.p) {
             Some(constant) => constants[found] = constant,
             None => return (constants, found),
         }
     }
-    (constants, CONSTANTS)
+    (constants, constants_needed(field))
 }
 
-/// What is worked out once.
+/// The generator as a call. P3: "18: field number neither 1 nor 2", "in the generator, whose list has 744 places in either
+/// field and then holds zeros, none found".
+pub fn generate(field: u32) -> (u32, [u32; PLACES], usize) {
+    let Some(field) = named(field) else {
+        return (18, [0; PLACES], 0);
+    };
+    let (constants, found) = round_constants(field);
+    (0, constants, found)
+}
+
+/// What a field's permutation reads.
 struct Tables {
-    constants: [u32; CONSTANTS],
+    constants: [u32; PLACES],
     matrix: [State; WIDTH],
-    lane_rotations: [[u32; 5]; 5],
-    hash_constants: [u64; 24],
 }
 
-fn tables() -> &'static Tables {
-    static TABLES: OnceLock<Tables> = OnceLock::new();
-    TABLES.get_or_init(|| Tables {
-        constants: round_constants().0,
-        matrix: matrix(),
-        lane_rotations: lane_rotations(),
-        hash_constants: hash_constants(),
+fn tables(field: &Field) -> &Tables {
+    field.tables.get_or_init(|| Tables {
+        constants: round_constants(field).0,
+        matrix: matrix(field),
     })
 }
 
 // The permutation
 
 /// "the matrix whose entry at row i, column j is the inverse of i + j + 24".
-fn matrix() -> [State; WIDTH] {
-    std::array::from_fn(|i| std::array::from_fn(|j| inverse((i + j + 24) as u32)))
+fn matrix(field: &Field) -> [State; WIDTH] {
+    std::array::from_fn(|i| std::array::from_fn(|j| inverse(field, (i + j + 24) as u32)))
 }
 
 /// "A round adds its 24 constants; raises all elements (full) or element 0 alone (partial) to the seventh power; then
-/// multiplies by the matrix".
-fn round(state: &State, constants: &[u32], full: bool) -> State {
-    let mut elements: State = std::array::from_fn(|k| add(state[k], constants[k]));
+/// multiplies by the matrix". P3: "Field 2 uses the third power".
+fn round(field: &Field, state: &State, constants: &[u32], full: bool) -> State {
+    let mut elements: State = std::array::from_fn(|k| add(field, state[k], constants[k]));
     let raised = if full { WIDTH } else { 1 };
     for element in &mut elements[..raised] {
-        *element = power(*element, 7);
+        *element = power(field, *element, field.exponent);
     }
     let product = |row: &State| {
         row.iter()
             .zip(&elements)
-            .fold(0, |sum, (a, b)| add(sum, multiply(*a, *b)))
+            .fold(0, |sum, (a, b)| add(field, sum, multiply(field, *a, *b)))
     };
-    std::array::from_fn(|i| product(&tables().matrix[i]))
+    std::array::from_fn(|i| product(&tables(field).matrix[i]))
 }
 
-/// "One permutation is 29 rounds: 4 full, 21 partial, 4 full." "Constants fill round by round, element 0 first."
-fn permutation(state: &State) -> State {
+/// "One permutation is 29 rounds: 4 full, 21 partial, 4 full." "Constants fill round by round, element 0 first." P3: "4 full,
+/// 23 partial and 4 full rounds".
+fn permutation(field: &Field, state: &State) -> State {
     let mut state = *state;
-    for number in 0..ROUNDS {
-        let partial = FULL_ROUNDS_EACH_SIDE..FULL_ROUNDS_EACH_SIDE + PARTIAL_ROUNDS;
-        let constants = &tables().constants[WIDTH * number..WIDTH * (number + 1)];
-        state = round(&state, constants, !partial.contains(&number));
+    for number in 0..rounds(field) {
+        let partial = FULL_ROUNDS_EACH_SIDE..FULL_ROUNDS_EACH_SIDE + field.partial_rounds;
+        let constants = &tables(field).constants[WIDTH * number..WIDTH * (number + 1)];
+        state = round(field, &state, constants, !partial.contains(&number));
     }
     state
 }
 
-/// The permutation as a call. "The permutation gives 10 and its input back", under "an element of p or more".
-pub fn permute(state: &mut State) -> u32 {
-    if state.iter().any(|element| *element >= P) {
+/// The permutation as a call. "The permutation gives 10 and its input back", under "an element of p or more". P3: 18 "before
+/// 10 in the bare permutation, which gives its input back".
+pub fn permute(field: u32, state: &mut State) -> u32 {
+    let Some(field) = named(field) else {
+        return 18;
+    };
+    if !are_elements(field, state) {
         return 10;
     }
-    *state = permutation(state);
+    *state = permutation(field, state);
     0
 }
 
@@ -248,11 +306,25 @@ fn hash_constants() -> [u64; 24] {
     constants
 }
 
+/// What is worked out once for the hash.
+struct HashTables {
+    lane_rotations: [[u32; 5]; 5],
+    constants: [u64; 24],
+}
+
+fn hash_tables() -> &'static HashTables {
+    static TABLES: OnceLock<HashTables> = OnceLock::new();
+    TABLES.get_or_init(|| HashTables {
+        lane_rotations: lane_rotations(),
+        constants: hash_constants(),
+    })
+}
+
 /// FIPS 202, 3.2.1 to 3.2.5 and 3.3: theta, rho, pi, chi and iota.
 fn hash_round(a: &Lanes, constant: u64) -> Lanes {
     let columns: [u64; 5] = std::array::from_fn(|x| a[x].iter().fold(0, |sum, lane| sum ^ lane));
     let a = lanes(|x, y| a[x][y] ^ columns[(x + 4) % 5] ^ columns[(x + 1) % 5].rotate_left(1));
-    let a = lanes(|x, y| a[x][y].rotate_left(tables().lane_rotations[x][y]));
+    let a = lanes(|x, y| a[x][y].rotate_left(hash_tables().lane_rotations[x][y]));
     let a = lanes(|x, y| a[(x + 3 * y) % 5][x]);
     let mut a = lanes(|x, y| a[x][y] ^ !a[(x + 1) % 5][y] & a[(x + 2) % 5][y]);
     a[0][0] ^= constant;
@@ -271,7 +343,7 @@ pub fn sha3_256(data: &[u8]) -> [u8; 32] {
         for (k, bytes) in block.chunks(8).enumerate() {
             a[k % 5][k / 5] ^= u64::from_le_bytes(bytes.try_into().unwrap());
         }
-        for constant in tables().hash_constants {
+        for constant in hash_tables().constants {
             a = hash_round(&a, constant);
         }
     }
@@ -399,10 +471,11 @@ pub fn tag_elements(digest: &[u8; 32]) -> [u32; 8] {
 
 /// "The record holds a status (1 open, otherwise closed), 24 state elements and 64 pattern words, the word count, the
 /// phase number, the elements done in that phase, an absorb and a squeeze position (0 to 8); and the record counts its
-/// permutations." "A copied record is a fork."
+/// permutations." "A copied record is a fork." P3: "START takes a field number", "and the record keeps it."
 #[derive(Clone, Debug, PartialEq, Eq)]
 pub struct Session {
     pub status: u32,
+    pub field: u32,
     pub state: State,
     pub words: [u32; MOST_WORDS],
     pub count: u32,
@@ -416,6 +489,7 @@ pub struct Session {
 /// "Wiped means every field 0."
 pub const WIPED: Session = Session {
     status: 0,
+    field: 0,
     state: [0; WIDTH],
     words: [0; MOST_WORDS],
     count: 0,
@@ -485,7 +559,7 @@ fn is_word_list(words: &[u32]) -> bool {
 /// and unused words are 0; the phase number is at most the word count; elements done are below the phase's length, or 0
 /// after the last phase; all state elements are below p; and count and positions are those the steps give at that
 /// place."
-fn is_sound(record: &Session) -> bool {
+fn is_sound(field: &Field, record: &Session) -> bool {
     if record.count > MOST_WORDS as u32 || record.phase > record.count {
         return false;
     }
@@ -502,17 +576,17 @@ fn is_sound(record: &Session) -> bool {
     is_word_list(words)
         && unused.iter().all(|word| *word == 0)
         && done_fits
-        && record.state.iter().all(|element| *element < P)
+        && are_elements(field, &record.state)
         && here == place(words, record.phase as usize, record.done)
 }
 
-/// "record not open", "open record not sound": 7, 8, or else 0.
-fn check_record(record: &Session) -> u32 {
-    match (record.status == 1, is_sound(record)) {
-        (false, _) => 7,
-        (true, false) => 8,
-        (true, true) => 0,
+/// "record not open", "open record not sound": 7, 8, or else the record's field. P3: "A record with another field number
+/// isn't sound."
+fn check_record(record: &Session) -> Result<&'static Field, u32> {
+    if record.status != 1 {
+        return Err(7);
     }
+    named(record.field).filter(|field| is_sound(field, record)).ok_or(8)
 }
 
 /// Not "wrong kind, past the phase's end, or after the last phase", in a sound record. "The length of a call is that of
@@ -536,14 +610,18 @@ fn count_done(record: &mut Session, call_length: usize) {
 }
 
 /// "the record counts its permutations".
-fn permute_session(record: &mut Session) {
-    record.state = permutation(&record.state);
+fn permute_session(field: &Field, record: &mut Session) {
+    record.state = permutation(field, &record.state);
     record.permutations += 1;
 }
 
 /// "START makes it open, with the merged words and their number; phase number, elements done, positions, permutations
-/// and unused words are 0." "Word k is added to element 8 + k of the zero state." "a refusal gives a wiped record."
-pub fn start(words: &[u32], separator: &[u8]) -> (u32, Session) {
+/// and unused words are 0." "Word k is added to element 8 + k of the zero state." "a refusal gives a wiped record." P3: 18
+/// "before 1 at START".
+pub fn start(field: u32, words: &[u32], separator: &[u8]) -> (u32, Session) {
+    let Some(field) = named(field) else {
+        return (18, WIPED);
+    };
     let merged = match check_pattern(words, separator) {
         Ok(merged) => merged,
         Err(number) => return (number, WIPED),
@@ -551,43 +629,47 @@ pub fn start(words: &[u32], separator: &[u8]) -> (u32, Session) {
     let tag = tag_elements(&sha3_256(&tag_string(&merged, separator)));
     let mut record = Session {
         status: 1,
+        field: field.number,
         words: with_unused_words(&merged),
         count: merged.len() as u32,
         ..WIPED
     };
     for (k, element) in tag.iter().enumerate() {
-        record.state[8 + k] = add(record.state[8 + k], *element);
+        record.state[8 + k] = add(field, record.state[8 + k], *element);
     }
     (0, record)
 }
 
 /// "ABSORB adds each element at the absorb position. If that is 8, it permutes and goes to 0 first."
-fn absorb_element(record: &mut Session, element: u32) {
+fn absorb_element(field: &Field, record: &mut Session, element: u32) {
     if record.absorb_position == RATE {
-        permute_session(record);
+        permute_session(field, record);
         record.absorb_position = 0;
     }
     let place = record.absorb_position as usize;
-    record.state[place] = add(record.state[place], element);
+    record.state[place] = add(field, record.state[place], element);
     record.absorb_position += 1;
 }
 
 /// "ABSORB and SQUEEZE check 7, 8, then accept length 0, then 9, then 10 (ABSORB only)." "Numbers 9 and 11 wipe the
 /// record; 7, 8 and 10 leave it." "A call of at least one element then sets the squeeze position to 8."
 pub fn absorb(record: &mut Session, elements: &[u32]) -> u32 {
-    let number = check_record(record);
-    if number != 0 || elements.is_empty() {
-        return number;
+    let field = match check_record(record) {
+        Ok(field) => field,
+        Err(number) => return number,
+    };
+    if elements.is_empty() {
+        return 0;
     }
     if !fits_phase(record, true, elements.len()) {
         *record = WIPED;
         return 9;
     }
-    if elements.iter().any(|element| *element >= P) {
+    if !are_elements(field, elements) {
         return 10;
     }
     for element in elements {
-        absorb_element(record, *element);
+        absorb_element(field, record, *element);
     }
     record.squeeze_position = RATE;
     count_done(record, elements.len());
@@ -596,9 +678,9 @@ pub fn absorb(record: &mut Session, elements: &[u32]) -> u32 {
 
 /// "SQUEEZE copies from the squeeze position. If that is 8, it first permutes and sets both positions to 0. Squeezing
 /// does not otherwise move the absorb position".
-fn squeeze_element(record: &mut Session) -> u32 {
+fn squeeze_element(field: &Field, record: &mut Session) -> u32 {
     if record.squeeze_position == RATE {
-        permute_session(record);
+        permute_session(field, record);
         record.squeeze_position = 0;
         record.absorb_position = 0;
     }
@@ -610,16 +692,19 @@ fn squeeze_element(record: &mut Session) -> u32 {
 /// "ABSORB and SQUEEZE check 7, 8, then accept length 0, then 9"; 9 wipes the record. "A refused SQUEEZE writes no
 /// element."
 pub fn squeeze(record: &mut Session, buffer: &mut [u32]) -> u32 {
-    let number = check_record(record);
-    if number != 0 || buffer.is_empty() {
-        return number;
+    let field = match check_record(record) {
+        Ok(field) => field,
+        Err(number) => return number,
+    };
+    if buffer.is_empty() {
+        return 0;
     }
     if !fits_phase(record, false, buffer.len()) {
         *record = WIPED;
         return 9;
     }
     for element in buffer.iter_mut() {
-        *element = squeeze_element(record);
+        *element = squeeze_element(field, record);
     }
     count_done(record, buffer.len());
     0
@@ -628,13 +713,10 @@ pub fn squeeze(record: &mut Session, buffer: &mut [u32]) -> u32 {
 /// "FINISH checks 7, 8, 11." "FINISH before the last phase's end"; "FINISH wipes the caller's own record"; "Numbers 9
 /// and 11 wipe the record; 7, 8 and 10 leave it."
 pub fn finish(record: &mut Session) -> u32 {
-    let mut number = check_record(record);
-    if number != 0 {
+    if let Err(number) = check_record(record) {
         return number;
     }
-    if record.phase < record.count {
-        number = 11;
-    }
+    let number = if record.phase < record.count { 11 } else { 0 };
     *record = WIPED;
     number
 }
