@@ -1,9 +1,9 @@
 /*
- * Tuilarder, the challenge sponge: SAFE sessions over the BabyBear field with Poseidon and SHA3-256. C11 or C++11, x86-64 Linux.
+ * Tuilarder, the challenge sponge: SAFE sessions over the field BabyBear or KoalaBear with Poseidon and SHA3-256. C11 or C++11, x86-64 Linux.
  *
  *     const uint32_t words[2] = {TUILARDER_ABSORB_BIT | 8, 1};          ABSORB 8, then SQUEEZE 1
  *     struct tuilarder_session session;
- *     if (tuilarder_start(&session, words, 2, separator, separator_length) != TUILARDER_ACCEPTED
+ *     if (tuilarder_start(&session, TUILARDER_BABY_BEAR, words, 2, separator, separator_length) != TUILARDER_ACCEPTED
  *         || tuilarder_absorb(&session, elements, 8) != TUILARDER_ACCEPTED
  *         || tuilarder_squeeze(&session, &challenge, 1) != TUILARDER_ACCEPTED
  *         || tuilarder_finish(&session) != TUILARDER_ACCEPTED)
@@ -11,15 +11,16 @@
  *
  * EVERY PROTOCOL OF A VERIFIER NEEDS A SEPARATOR OF ITS OWN, AND ALL OF THEM ONE LENGTH. Two protocols with one separator and one merged
  * pattern have the same tag string (calls of 3 and 3 elements merge to one of 6), and with separators of unequal length other patterns can
- * have it too. Then the two protocols get the same challenges for the same messages. docs/GUIDE.md shows both.
+ * have it too. Then the two protocols, in one field, get the same challenges for the same messages. docs/GUIDE.md shows both. The field is no part
+ * of the tag string.
  *
  * What a list, a string or a record holds is free: the functions take every content, and answer with a number where they turn a call away.
  * What the functions cannot look at is the caller's duty:
  *
  * - A pointer is aligned for its type and valid: a list's for as many items as the length after it says, every other one for its object.
  *   With length 0 a list's pointer may have any value, NULL among them: nothing is read or written through it. No other one may be NULL.
- * - What a function writes (the record, the state, out, written, words and count of tuilarder_read_tag, place, value) overlaps nothing
- *   else that the call was lent. Nobody else reads or writes that, and nobody writes what the function reads, until the call returns.
+ * - What a function writes (the record, the state, constants, out, written, words and count of tuilarder_read_tag, place, value) overlaps
+ *   nothing else that the call was lent. Nobody else reads or writes that, and nobody writes what the function reads, until the call returns.
  *
  * What a function only writes need not be set before. The library has no state of its own, so distinct records may be used by distinct
  * threads at once. The time that a call takes depends on what it is lent, and copies of a record may stay behind on the stack: nothing is
@@ -42,13 +43,22 @@ extern "C" {
 #define TUILARDER_ANSWER uint32_t
 #endif
 
-/* Elements are the numbers below this prime, p. */
-#define TUILARDER_PRIME 2013265921u
+/*
+ * The numbers of the fields, and their primes. Elements of a field are the numbers below its prime. Here p is the prime of the field that the
+ * call names, or else the record.
+ */
+#define TUILARDER_BABY_BEAR 1u
+#define TUILARDER_BABY_BEAR_PRIME 2013265921u
+#define TUILARDER_KOALA_BEAR 2u
+#define TUILARDER_KOALA_BEAR_PRIME 2130706433u
 
 /* The state's outer elements, which are absorbed into and squeezed from; its inner elements; and all of them. */
 #define TUILARDER_RATE 8
 #define TUILARDER_CAPACITY 16
 #define TUILARDER_WIDTH 24
+
+/* The most round constants that a field has: KoalaBear's. BabyBear has 696. */
+#define TUILARDER_MAX_ROUND_CONSTANTS 744
 
 /* A word is a length, with this bit set for ABSORB and clear for SQUEEZE. */
 #define TUILARDER_ABSORB_BIT 0x80000000u
@@ -100,16 +110,20 @@ enum tuilarder_number {
     /* a number that no row holds */
     TUILARDER_OWNERS_GAP = 16,
     /* the separator asked about is under four bytes */
-    TUILARDER_SEPARATOR_TOO_SHORT = 17
+    TUILARDER_SEPARATOR_TOO_SHORT = 17,
+    /* field number neither 1 nor 2 */
+    TUILARDER_FIELD_UNKNOWN = 18
 };
 
 /*
- * The record of a session. Any contents may be handed over: a call looks at them before it uses them. Wiped means every field 0.
- * A copied record is a fork: each copy goes on by itself.
+ * The record of a session. Any contents may be handed over: a call looks at them before it uses them. Wiped means every member 0.
+ * A copied record is a fork: each copy goes on by itself. The four bytes before permutations are padding: compare records member by member.
  */
 struct tuilarder_session {
     /* 1 open, otherwise closed */
     uint32_t status;
+    /* the number of the field that its elements are of */
+    uint32_t field;
     /* the outer elements, then the inner ones */
     uint32_t state[TUILARDER_WIDTH];
     /* the merged words of the pattern, with unused ones 0 */
@@ -133,19 +147,20 @@ struct tuilarder_session {
 #else
 #define TUILARDER_ASSERT(condition) _Static_assert(condition, #condition)
 #endif
-#define TUILARDER_FIELD_AT(field, offset) TUILARDER_ASSERT(offsetof(struct tuilarder_session, field) == (offset))
-TUILARDER_ASSERT(sizeof(struct tuilarder_session) == 384);
-TUILARDER_FIELD_AT(status, 0);
-TUILARDER_FIELD_AT(state, 4);
-TUILARDER_FIELD_AT(words, 100);
-TUILARDER_FIELD_AT(count, 356);
-TUILARDER_FIELD_AT(phase, 360);
-TUILARDER_FIELD_AT(done, 364);
-TUILARDER_FIELD_AT(absorb_position, 368);
-TUILARDER_FIELD_AT(squeeze_position, 372);
-TUILARDER_FIELD_AT(permutations, 376);
+#define TUILARDER_MEMBER_AT(member, offset) TUILARDER_ASSERT(offsetof(struct tuilarder_session, member) == (offset))
+TUILARDER_ASSERT(sizeof(struct tuilarder_session) == 392);
+TUILARDER_MEMBER_AT(status, 0);
+TUILARDER_MEMBER_AT(field, 4);
+TUILARDER_MEMBER_AT(state, 8);
+TUILARDER_MEMBER_AT(words, 104);
+TUILARDER_MEMBER_AT(count, 360);
+TUILARDER_MEMBER_AT(phase, 364);
+TUILARDER_MEMBER_AT(done, 368);
+TUILARDER_MEMBER_AT(absorb_position, 372);
+TUILARDER_MEMBER_AT(squeeze_position, 376);
+TUILARDER_MEMBER_AT(permutations, 384);
 TUILARDER_ASSERT(sizeof(size_t) == 8 && sizeof(void *) == 8);
-#undef TUILARDER_FIELD_AT
+#undef TUILARDER_MEMBER_AT
 #undef TUILARDER_ASSERT
 
 /*
@@ -153,15 +168,15 @@ TUILARDER_ASSERT(sizeof(size_t) == 8 && sizeof(void *) == 8);
  * header is for TUILARDER_LAYOUT. A library of another version has no function of this name, so a program that compares the two links only
  * with one of this version.
  */
-#define TUILARDER_LAYOUT (UINT64_C(1) << 32 | 384)
-uint64_t tuilarder_layout_1(void);
+#define TUILARDER_LAYOUT (UINT64_C(2) << 32 | 392)
+uint64_t tuilarder_layout_2(void);
 
 /*
- * START: opens a session for a pattern and a separator in the record, whatever that held. Checks 1 to 6 in number order, whichever word is
- * at fault. Refused, it leaves a wiped record. The separator names the protocol: no two of a verifier have the same, and all of them have
- * one length.
+ * START: opens a session for a field, a pattern and a separator in the record, whatever that held. Checks 18, then 1 to 6 in number order,
+ * whichever word is at fault. Refused, it leaves a wiped record. The separator names the protocol: no two of a verifier have the same, and all
+ * of them have one length.
  */
-TUILARDER_ANSWER tuilarder_start(struct tuilarder_session *record, const uint32_t *words, size_t words_length,
+TUILARDER_ANSWER tuilarder_start(struct tuilarder_session *record, uint32_t field, const uint32_t *words, size_t words_length,
                                  const uint8_t *separator, size_t separator_length);
 
 /*
@@ -196,8 +211,14 @@ TUILARDER_ANSWER tuilarder_write_tag(const uint32_t *words, size_t words_length,
 TUILARDER_ANSWER tuilarder_read_tag(const uint8_t *string, size_t length, size_t separator_length,
                                     uint32_t words[TUILARDER_MAX_WORDS], size_t *count);
 
-/* One Poseidon permutation in place. Checks 10. Refused, it leaves the state as it was. */
-TUILARDER_ANSWER tuilarder_permute(uint32_t state[TUILARDER_WIDTH]);
+/* One Poseidon permutation of a field in place. Checks 18, then 10. Refused, it leaves the state as it was. */
+TUILARDER_ANSWER tuilarder_permute(uint32_t field, uint32_t state[TUILARDER_WIDTH]);
+
+/*
+ * The round constants of a field's permutation, made by Poseidon's generator, with 0 in the places left, and how many they are: 696 of
+ * BabyBear, 744 of KoalaBear. Checks 18. Refused, it gives 744 zeros and count 0. No other function needs it.
+ */
+TUILARDER_ANSWER tuilarder_generate(uint32_t field, uint32_t constants[TUILARDER_MAX_ROUND_CONSTANTS], size_t *count);
 
 /* The SHA3-256 digest of a string of bytes. It turns nothing away. */
 void tuilarder_sha3_256(const uint8_t *data, size_t length, uint8_t out[TUILARDER_DIGEST_LENGTH]);

@@ -1,5 +1,5 @@
 /*
- * What tuilarder.h declares, as a caller sees it: the figures of documents 01 and 02 as literals, and the type of every field and function. It is
+ * What tuilarder.h declares, as a caller sees it: the figures of documents 01 and 02 as literals, and the type of every member and function. It is
  * only compiled. The header is taken in twice, as a program may.
  */
 #include "tuilarder.h"
@@ -8,11 +8,16 @@
 #define IS(constant, literal) _Static_assert((constant) == (literal), #constant)
 #define HAS_TYPE(expression, type) _Static_assert(_Generic((expression), type: 1, default: 0), #expression)
 
-/* "p = 2013265921 = 15 × 2^27 + 1", "rate 8, capacity 16, width 24" */
-IS(TUILARDER_PRIME, 2013265921);
+/* "1 for today's and 2 for this one"; "p = 2013265921 = 15 × 2^27 + 1", "2130706433 = 2^31 − 2^24 + 1" */
+IS(TUILARDER_BABY_BEAR, 1);
+IS(TUILARDER_KOALA_BEAR, 2);
+IS(TUILARDER_BABY_BEAR_PRIME, 2013265921);
+IS(TUILARDER_KOALA_BEAR_PRIME, 2130706433);
+/* "rate 8, capacity 16, width 24"; "744 places in either field" */
 IS(TUILARDER_RATE, 8);
 IS(TUILARDER_CAPACITY, 16);
 IS(TUILARDER_WIDTH, 24);
+IS(TUILARDER_MAX_ROUND_CONSTANTS, 744);
 /* "A word has its top bit set for ABSORB"; the longest pattern, separator and tag string; FIPS 202's 256 bits */
 IS(TUILARDER_ABSORB_BIT, 2147483648);
 IS(TUILARDER_MAX_WORDS, 64);
@@ -22,11 +27,14 @@ IS(TUILARDER_DIGEST_LENGTH, 32);
 /* "ten a row", "at most 128 rows" */
 IS(TUILARDER_OWNER_ROW_BYTES, 10);
 IS(TUILARDER_MAX_OWNER_ROWS, 128);
-/* version 1, and a record of 94 numbers of four bytes and one of eight */
-IS(TUILARDER_LAYOUT, 4294967296 + 94 * 4 + 8);
+/* version 2, and a record of 95 numbers of four bytes, four bytes of padding and a number of eight */
+IS(TUILARDER_LAYOUT, 2 * 4294967296 + 95 * 4 + 4 + 8);
 HAS_TYPE(TUILARDER_LAYOUT, uint64_t);
-/* these two are compared with and put into words and elements, so they are unsigned as those are */
-HAS_TYPE(TUILARDER_PRIME, uint32_t);
+/* these are compared with and put into words, elements and field numbers, so they are unsigned as those are */
+HAS_TYPE(TUILARDER_BABY_BEAR, uint32_t);
+HAS_TYPE(TUILARDER_KOALA_BEAR, uint32_t);
+HAS_TYPE(TUILARDER_BABY_BEAR_PRIME, uint32_t);
+HAS_TYPE(TUILARDER_KOALA_BEAR_PRIME, uint32_t);
 HAS_TYPE(TUILARDER_ABSORB_BIT, uint32_t);
 
 /* "Calls turned away", and the numbers that document 02 adds to them */
@@ -47,9 +55,11 @@ IS(TUILARDER_NOT_TAG_STRING, 13);
 IS(TUILARDER_OWNERS_ROW_INVALID, 15);
 IS(TUILARDER_OWNERS_GAP, 16);
 IS(TUILARDER_SEPARATOR_TOO_SHORT, 17);
+IS(TUILARDER_FIELD_UNKNOWN, 18);
 
 #define RECORD ((struct tuilarder_session *)0)
 HAS_TYPE(RECORD->status, uint32_t);
+HAS_TYPE(RECORD->field, uint32_t);
 HAS_TYPE(&RECORD->state, uint32_t (*)[24]);
 HAS_TYPE(&RECORD->words, uint32_t (*)[64]);
 HAS_TYPE(RECORD->count, uint32_t);
@@ -61,20 +71,21 @@ HAS_TYPE(RECORD->permutations, uint64_t);
 
 /* what is only read is const */
 typedef struct tuilarder_session record;
-HAS_TYPE(&tuilarder_start, uint32_t (*)(record *, const uint32_t *, size_t, const uint8_t *, size_t));
+HAS_TYPE(&tuilarder_start, uint32_t (*)(record *, uint32_t, const uint32_t *, size_t, const uint8_t *, size_t));
 HAS_TYPE(&tuilarder_absorb, uint32_t (*)(record *, const uint32_t *, size_t));
 HAS_TYPE(&tuilarder_squeeze, uint32_t (*)(record *, uint32_t *, size_t));
 HAS_TYPE(&tuilarder_finish, uint32_t (*)(record *));
 HAS_TYPE(&tuilarder_write_tag,
          uint32_t (*)(const uint32_t *, size_t, const uint8_t *, size_t, uint8_t *, size_t, size_t *));
 HAS_TYPE(&tuilarder_read_tag, uint32_t (*)(const uint8_t *, size_t, size_t, uint32_t *, size_t *));
-HAS_TYPE(&tuilarder_permute, uint32_t (*)(uint32_t *));
-HAS_TYPE(&tuilarder_layout_1, uint64_t (*)(void));
+HAS_TYPE(&tuilarder_permute, uint32_t (*)(uint32_t, uint32_t *));
+HAS_TYPE(&tuilarder_generate, uint32_t (*)(uint32_t, uint32_t *, size_t *));
+HAS_TYPE(&tuilarder_layout_2, uint64_t (*)(void));
 HAS_TYPE(&tuilarder_sha3_256, void (*)(const uint8_t *, size_t, uint8_t *));
 HAS_TYPE(&tuilarder_check_owners, uint32_t (*)(const uint8_t *, size_t, uint32_t *));
 HAS_TYPE(&tuilarder_owner, uint32_t (*)(const uint8_t *, size_t, const uint8_t *, size_t, uint32_t *));
 
 /* macros that only the header itself needs */
-#if defined TUILARDER_ANSWER || defined TUILARDER_ASSERT || defined TUILARDER_FIELD_AT
+#if defined TUILARDER_ANSWER || defined TUILARDER_ASSERT || defined TUILARDER_MEMBER_AT
 #error "tuilarder.h leaves a macro of its own behind"
 #endif

@@ -76,6 +76,14 @@ static inline int same(const struct lent *lent)
     return memcmp(lent->copy, lent->block, lent->size) == 0;
 }
 
+/* Whether the guard bytes are as they were, whatever the part has. */
+static inline int same_guards(const struct lent *lent)
+{
+    size_t behind = GUARD + lent->length;
+    return memcmp(lent->copy, lent->block, GUARD) == 0
+        && memcmp(lent->copy + behind, lent->block + behind, lent->size - behind) == 0;
+}
+
 /* Whether the part has these bytes, and its guard bytes are as they were. */
 static inline int holds(const struct lent *lent, const void *contents)
 {

@@ -16,18 +16,19 @@ static void check(bool holds, int line, const char *what)
     }
 }
 
-// Sample B4, with 1 to 8 absorbed. The element squeezed is from the second implementation, in Python.
-static void test_session()
+// Sample B4 in a field, with 1 to 8 absorbed. The element squeezed is from the second implementation, in Python.
+static void test_session(uint32_t field, uint32_t wanted)
 {
     const uint32_t words[2] = {TUILARDER_ABSORB_BIT | 8, 1}, elements[8] = {1, 2, 3, 4, 5, 6, 7, 8};
     tuilarder_session session;
     uint32_t challenge = 0;
-    CHECK(tuilarder_start(&session, words, 2, nullptr, 0) == TUILARDER_ACCEPTED);
+    CHECK(tuilarder_start(&session, field, words, 2, nullptr, 0) == TUILARDER_ACCEPTED);
+    CHECK(session.field == field);
     CHECK(tuilarder_absorb(&session, elements, 8) == TUILARDER_ACCEPTED);
     CHECK(tuilarder_squeeze(&session, &challenge, 1) == TUILARDER_ACCEPTED);
-    CHECK(challenge == 1413794352 && session.permutations == 1);
+    CHECK(challenge == wanted && session.permutations == 1);
     CHECK(tuilarder_finish(&session) == TUILARDER_ACCEPTED);
-    CHECK(session.status == 0);
+    CHECK(session.status == 0 && session.field == 0);
 }
 
 // Sample B1.
@@ -44,12 +45,18 @@ static void test_tag_string()
     CHECK(count == 2 && merged[0] == 0x80000006 && merged[1] == 0x00000003 && merged[2] == 0);
 }
 
-// 10 for p, and the first bytes of the digest of nothing that NIST publishes.
+// 18, and 10 for BabyBear's p, which is an element of KoalaBear; how many constants there are; and the first bytes of the digest of nothing that
+// NIST publishes.
 static void test_permutation_and_hash()
 {
-    uint32_t state[TUILARDER_WIDTH] = {2013265921};
+    uint32_t state[TUILARDER_WIDTH] = {2013265921}, constants[TUILARDER_MAX_ROUND_CONSTANTS];
     uint8_t digest[TUILARDER_DIGEST_LENGTH];
-    CHECK(tuilarder_permute(state) == TUILARDER_ELEMENT_NOT_REDUCED);
+    std::size_t count = 0;
+    CHECK(tuilarder_permute(0, state) == TUILARDER_FIELD_UNKNOWN);
+    CHECK(tuilarder_permute(TUILARDER_BABY_BEAR, state) == TUILARDER_ELEMENT_NOT_REDUCED);
+    CHECK(tuilarder_permute(TUILARDER_KOALA_BEAR, state) == TUILARDER_ACCEPTED);
+    CHECK(tuilarder_generate(TUILARDER_BABY_BEAR, constants, &count) == TUILARDER_ACCEPTED && count == 696);
+    CHECK(tuilarder_generate(3, constants, &count) == TUILARDER_FIELD_UNKNOWN && count == 0);
     tuilarder_sha3_256(nullptr, 0, digest);
     CHECK(digest[0] == 0xa7 && digest[1] == 0xff && digest[2] == 0xc6);
 }
@@ -67,8 +74,9 @@ static void test_owners()
 
 int main()
 {
-    CHECK(tuilarder_layout_1() == TUILARDER_LAYOUT);
-    test_session();
+    CHECK(tuilarder_layout_2() == TUILARDER_LAYOUT);
+    test_session(TUILARDER_BABY_BEAR, 1413794352);
+    test_session(TUILARDER_KOALA_BEAR, 660617525);
     test_tag_string();
     test_permutation_and_hash();
     test_owners();

@@ -1,6 +1,6 @@
 /*
- * Calls the static library through tuilarder.h: sessions, the record's fields, an example of each number, empty lists, and bad records.
- * It is meant for valgrind: most of what is lent ends where its block ends.
+ * Calls the static library through tuilarder.h: sessions of both fields, the record's members, an example of each number, empty lists, and bad
+ * records. It is meant for valgrind: most of what is lent ends where its block ends.
  */
 #include "tuilarder.h"
 
@@ -9,7 +9,10 @@
 #include <inttypes.h>
 
 #define A TUILARDER_ABSORB_BIT
-#define P TUILARDER_PRIME
+#define BABY_BEAR TUILARDER_BABY_BEAR
+#define KOALA_BEAR TUILARDER_KOALA_BEAR
+/* below KoalaBear's prime and not below BabyBear's: an element of the one field alone */
+#define BETWEEN TUILARDER_BABY_BEAR_PRIME
 #define ROUNDS 3000
 #define SEED UINT64_C(0x7475696c61726465)
 
@@ -35,22 +38,68 @@ static void fill_random(void *at, size_t length)
         ((unsigned char *)at)[i] = (unsigned char)next_random();
 }
 
+/* ---- fields and records */
+
+static const uint32_t fields[] = {BABY_BEAR, KOALA_BEAR}, unknown_fields[] = {0, 3, 0x80000000u, 0xffffffffu};
+
+static uint32_t prime(uint32_t field)
+{
+    return field == KOALA_BEAR ? TUILARDER_KOALA_BEAR_PRIME : TUILARDER_BABY_BEAR_PRIME;
+}
+
+/* A number that is no element of the field, at times one that is an element of the other. */
+static uint32_t bad_element(uint32_t field)
+{
+    if (field == BABY_BEAR && next_random() % 2)
+        return BETWEEN + below(TUILARDER_KOALA_BEAR_PRIME - BETWEEN);
+    return prime(field) + below(UINT64_C(0x100000000) - prime(field));
+}
+
+/* Member by member: what a call leaves in the padding is open. */
+static int same_members(const struct tuilarder_session *a, const struct tuilarder_session *b)
+{
+    return a->status == b->status && a->field == b->field && memcmp(a->state, b->state, sizeof a->state) == 0
+        && memcmp(a->words, b->words, sizeof a->words) == 0 && a->count == b->count && a->phase == b->phase && a->done == b->done
+        && a->absorb_position == b->absorb_position && a->squeeze_position == b->squeeze_position
+        && a->permutations == b->permutations;
+}
+
+/* Whether a lent record and its guard bytes are as they were remembered. */
+static int same_record(const struct lent *record)
+{
+    return same_guards(record) && same_members(record->part, (const void *)(record->copy + GUARD));
+}
+
+static int wiped_record(const struct lent *record)
+{
+    static const struct tuilarder_session zeros;
+    return same_guards(record) && same_members(record->part, &zeros);
+}
+
 /* ---- sessions */
 
-/* Document 01's samples B4 to B7, and B7 with a separator: permutations before FINISH, and the last element squeezed where 1, 2, 3 .. are
-   absorbed. That element is from the second implementation, in Python. */
+/* Document 01's samples B4 to B7, and B7 with a separator, in both fields: permutations before FINISH, and the last element squeezed where the
+   numbers from first on are absorbed. That element is from the second implementation, in Python. */
 static const struct sample {
+    uint32_t field;
     uint32_t words[4];
     size_t count;
     const char *separator;
+    uint32_t first;
     uint64_t permutations;
     uint32_t last;
 } samples[] = {
-    {{A | 8, 1}, 2, "", 1, 1413794352},
-    {{A | 9, 1}, 2, "", 2, 774647143},
-    {{A | 1, 9}, 2, "", 2, 669881811},
-    {{A | 8, 8, A | 1, 1}, 4, "", 2, 19357506},
-    {{A | 8, 8, A | 1, 1}, 4, "AB", 2, 1610560294},
+    {BABY_BEAR, {A | 8, 1}, 2, "", 1, 1, 1413794352},
+    {BABY_BEAR, {A | 9, 1}, 2, "", 1, 2, 774647143},
+    {BABY_BEAR, {A | 1, 9}, 2, "", 1, 2, 669881811},
+    {BABY_BEAR, {A | 8, 8, A | 1, 1}, 4, "", 1, 2, 19357506},
+    {BABY_BEAR, {A | 8, 8, A | 1, 1}, 4, "AB", 1, 2, 1610560294},
+    {KOALA_BEAR, {A | 8, 1}, 2, "", 1, 1, 660617525},
+    {KOALA_BEAR, {A | 9, 1}, 2, "", 1, 2, 340153162},
+    {KOALA_BEAR, {A | 1, 9}, 2, "", 1, 2, 992041210},
+    {KOALA_BEAR, {A | 8, 8, A | 1, 1}, 4, "", 1, 2, 1420244152},
+    {KOALA_BEAR, {A | 8, 8, A | 1, 1}, 4, "AB", 1, 2, 71205172},
+    {KOALA_BEAR, {A | 8, 1}, 2, "", BETWEEN, 1, 2112122197},
 };
 
 /* One phase of a sample: absorbs the numbers from first on, or squeezes. Gives the last element. */
@@ -79,30 +128,31 @@ static void test_sample(const struct sample *sample)
     struct lent words = lend_copy(sample->words, sample->count * sizeof(uint32_t));
     struct lent separator = lend_copy(sample->separator, strlen(sample->separator));
     struct tuilarder_session *session = record.part;
-    CHECK(tuilarder_start(session, words.part, sample->count, separator.part, separator.length) == TUILARDER_ACCEPTED);
-    uint32_t absorbed = 0, squeezed = 0;
+    CHECK(tuilarder_start(session, sample->field, words.part, sample->count, separator.part, separator.length)
+          == TUILARDER_ACCEPTED);
+    uint32_t next = sample->first, squeezed = 0;
     for (size_t k = 0; k < sample->count; k++) {
         if (sample->words[k] & A)
-            absorbed = run_phase(session, sample->words[k], absorbed + 1);
+            next = run_phase(session, sample->words[k], next) + 1;
         else
             squeezed = run_phase(session, sample->words[k], 0);
     }
     CHECK(session->permutations == sample->permutations);
     CHECK(squeezed == sample->last);
     CHECK(tuilarder_finish(session) == TUILARDER_ACCEPTED);
-    CHECK(wiped(&record));
+    CHECK(wiped_record(&record));
     CHECK(same(&words) && same(&separator));
     give_back(&separator);
     give_back(&words);
     give_back(&record);
 }
 
-/* ---- the record's fields, by name */
+/* ---- the record's members, by name */
 
-#define FIELD_WORDS {A | 3, 33, A | 13, 15}
+#define MEMBER_WORDS {A | 3, 33, A | 13, 15}
 
 /* Calls of a session, and the place behind each by document 01's steps. Behind the fifth call, and behind the seventh, status, count and these
-   are seven different numbers. */
+   are seven different numbers; behind the seventh no one of them is the number of KoalaBear. */
 static const struct place {
     uint32_t call;
     uint32_t phase, done, absorb_position, squeeze_position;
@@ -118,10 +168,11 @@ static const struct place {
     {2, 4, 0, 0, 7, 8},
 };
 
-static void check_place(const struct tuilarder_session *session, const struct place *place)
+static void check_place(const struct tuilarder_session *session, uint32_t field, const struct place *place)
 {
-    const uint32_t words[TUILARDER_MAX_WORDS] = FIELD_WORDS;
+    const uint32_t words[TUILARDER_MAX_WORDS] = MEMBER_WORDS;
     CHECK(session->status == 1);
+    CHECK(session->field == field);
     CHECK(memcmp(session->words, words, sizeof words) == 0);
     CHECK(session->count == 4);
     CHECK(session->phase == place->phase);
@@ -131,8 +182,8 @@ static void check_place(const struct tuilarder_session *session, const struct pl
     CHECK(session->permutations == place->permutations);
 }
 
-/* The state that START gives: the eight words of the tag string's digest, of 30 bits each, behind eight zeros. The digest is that of
-   Python's hashlib. */
+/* The state that START gives, whatever the field is: the eight words of the tag string's digest, of 30 bits each, behind eight zeros. The digest is
+   that of Python's hashlib. */
 static void check_first_state(const struct tuilarder_session *session)
 {
     const uint32_t state[TUILARDER_WIDTH] = {
@@ -158,17 +209,17 @@ static void call_of_place(struct tuilarder_session *session, const struct place 
     }
 }
 
-static void test_fields(void)
+static void test_members(uint32_t field)
 {
-    const uint32_t words[] = FIELD_WORDS;
+    const uint32_t words[] = MEMBER_WORDS;
     const struct place start = {0, 0, 0, 0, 0, 0};
     struct tuilarder_session session;
-    CHECK(tuilarder_start(&session, words, 4, (const uint8_t *)"fields", 6) == TUILARDER_ACCEPTED);
-    check_place(&session, &start);
+    CHECK(tuilarder_start(&session, field, words, 4, (const uint8_t *)"fields", 6) == TUILARDER_ACCEPTED);
+    check_place(&session, field, &start);
     check_first_state(&session);
     for (size_t i = 0; i < sizeof places / sizeof *places; i++) {
         call_of_place(&session, &places[i]);
-        check_place(&session, &places[i]);
+        check_place(&session, field, &places[i]);
     }
     CHECK(tuilarder_finish(&session) == TUILARDER_ACCEPTED);
 }
@@ -193,38 +244,53 @@ static const struct start_example {
     {TUILARDER_ACCEPTED, {0xfffffffeu, A | 1, 1}, 3, 0},
 };
 
-/* START into a record of any bytes, and the same of writing. */
+/* START into a record of any bytes, in each field; in an unknown one it gives 18, whatever else is wrong. */
+static void start_in_fields(uint32_t number, const struct lent *words, const struct lent *separator)
+{
+    size_t count = words->length / sizeof(uint32_t);
+    struct lent record = lend(sizeof(struct tuilarder_session), 0);
+    struct tuilarder_session *session = record.part;
+    for (size_t i = 0; i < 2; i++) {
+        fill_random(record.part, record.length);
+        CHECK(tuilarder_start(session, fields[i], words->part, count, separator->part, separator->length) == number);
+        CHECK(number == TUILARDER_ACCEPTED ? session->status == 1 && session->field == fields[i] : wiped_record(&record));
+    }
+    for (size_t i = 0; i < 4; i++) {
+        fill_random(record.part, record.length);
+        CHECK(tuilarder_start(session, unknown_fields[i], words->part, count, separator->part, separator->length)
+              == TUILARDER_FIELD_UNKNOWN);
+        CHECK(wiped_record(&record));
+    }
+    give_back(&record);
+}
+
+/* START, and the same of writing, which takes no field. */
 static void test_start(const struct start_example *example)
 {
-    struct lent record = lend(sizeof(struct tuilarder_session), 0);
     struct lent words = lend(example->count * sizeof(uint32_t), 0);
     struct lent separator = lend(example->separator_length, 0);
     struct lent out = lend(TUILARDER_MAX_TAG_STRING, 0);
     size_t written = 1;
-    fill_random(record.part, record.length);
     fill_random(out.part, out.length);
     memset(words.part, 0, words.length);
     memcpy(words.part, example->words, example->count > 4 ? sizeof example->words : words.length);
     memset(separator.part, 7, separator.length);
     remember(&out);
-    CHECK(tuilarder_start(record.part, words.part, example->count, separator.part, separator.length) == example->number);
-    CHECK((example->number == TUILARDER_ACCEPTED) == (((struct tuilarder_session *)record.part)->status == 1));
-    CHECK(example->number == TUILARDER_ACCEPTED || wiped(&record));
+    start_in_fields(example->number, &words, &separator);
     CHECK(tuilarder_write_tag(words.part, example->count, separator.part, separator.length, out.part, out.length, &written)
           == example->number);
     CHECK(example->number == TUILARDER_ACCEPTED ? written == 8 + separator.length : written == 0 && same(&out));
     give_back(&out);
     give_back(&separator);
     give_back(&words);
-    give_back(&record);
 }
 
 /* A record that START opened for ABSORB 1, SQUEEZE 1. */
-static struct lent open_record(void)
+static struct lent open_record(uint32_t field)
 {
     const uint32_t words[2] = {A | 1, 1};
     struct lent record = lend(sizeof(struct tuilarder_session), 0);
-    CHECK(tuilarder_start(record.part, words, 2, NULL, 0) == TUILARDER_ACCEPTED);
+    CHECK(tuilarder_start(record.part, field, words, 2, NULL, 0) == TUILARDER_ACCEPTED);
     remember(&record);
     return record;
 }
@@ -236,25 +302,25 @@ static void check_all_refuse(struct lent *record, struct lent *buffer, uint32_t 
     remember(record);
     remember(buffer);
     CHECK(tuilarder_absorb(record->part, buffer->part, length) == number);
-    CHECK(same(record) && same(buffer));
+    CHECK(same_record(record) && same(buffer));
     CHECK(tuilarder_squeeze(record->part, buffer->part, length) == number);
-    CHECK(same(record) && same(buffer));
+    CHECK(same_record(record) && same(buffer));
     CHECK(tuilarder_finish(record->part) == number);
-    CHECK(same(record) && same(buffer));
+    CHECK(same_record(record) && same(buffer));
 }
 
 /* 7 after FINISH, and 8 at absorb position 9. */
-static void test_bad_record(void)
+static void test_bad_record(uint32_t field)
 {
     const uint32_t one = 1;
     uint32_t squeezed;
     struct lent buffer = lend_copy(&one, sizeof one);
-    struct lent finished = open_record(), spoilt = open_record();
+    struct lent finished = open_record(field), spoilt = open_record(field);
     CHECK(tuilarder_absorb(finished.part, &one, 1) == TUILARDER_ACCEPTED);
     CHECK(tuilarder_squeeze(finished.part, &squeezed, 1) == TUILARDER_ACCEPTED);
     CHECK(tuilarder_finish(finished.part) == TUILARDER_ACCEPTED);
     check_all_refuse(&finished, &buffer, TUILARDER_RECORD_NOT_OPEN);
-    CHECK(wiped(&finished));
+    CHECK(wiped_record(&finished));
     ((struct tuilarder_session *)spoilt.part)->absorb_position = 9;
     check_all_refuse(&spoilt, &buffer, TUILARDER_RECORD_NOT_SOUND);
     give_back(&spoilt);
@@ -262,21 +328,41 @@ static void test_bad_record(void)
     give_back(&buffer);
 }
 
+/* 8 for a record of an unknown field, and for one of BabyBear with an element that is of KoalaBear alone. */
+static void test_record_of_another_field(uint32_t field)
+{
+    const uint32_t one = 1;
+    struct lent record = open_record(field), buffer = lend_copy(&one, sizeof one);
+    struct tuilarder_session *session = record.part;
+    for (size_t i = 0; i < 4; i++) {
+        session->field = unknown_fields[i];
+        check_all_refuse(&record, &buffer, TUILARDER_RECORD_NOT_SOUND);
+    }
+    session->state[23] = BETWEEN;
+    session->field = BABY_BEAR;
+    check_all_refuse(&record, &buffer, TUILARDER_RECORD_NOT_SOUND);
+    session->field = KOALA_BEAR;
+    CHECK(tuilarder_absorb(session, &one, 1) == TUILARDER_ACCEPTED);
+    CHECK(session->field == KOALA_BEAR && session->state[23] == BETWEEN);
+    give_back(&buffer);
+    give_back(&record);
+}
+
 /* 9 for the wrong kind, past the phase's end, and after the last phase. */
-static void test_call_not_in_pattern(void)
+static void test_call_not_in_pattern(uint32_t field)
 {
     const uint32_t ones[2] = {1, 1};
     uint32_t squeezed;
     struct lent buffer = lend_copy(ones, sizeof ones);
-    struct lent wrong_kind = open_record(), past_end = open_record(), after_last = open_record();
+    struct lent wrong_kind = open_record(field), past_end = open_record(field), after_last = open_record(field);
     CHECK(tuilarder_squeeze(wrong_kind.part, buffer.part, 1) == TUILARDER_CALL_NOT_IN_PATTERN);
-    CHECK(wiped(&wrong_kind) && same(&buffer));
+    CHECK(wiped_record(&wrong_kind) && same(&buffer));
     CHECK(tuilarder_absorb(past_end.part, buffer.part, 2) == TUILARDER_CALL_NOT_IN_PATTERN);
-    CHECK(wiped(&past_end) && same(&buffer));
+    CHECK(wiped_record(&past_end) && same(&buffer));
     CHECK(tuilarder_absorb(after_last.part, ones, 1) == TUILARDER_ACCEPTED);
     CHECK(tuilarder_squeeze(after_last.part, &squeezed, 1) == TUILARDER_ACCEPTED);
     CHECK(tuilarder_squeeze(after_last.part, buffer.part, 1) == TUILARDER_CALL_NOT_IN_PATTERN);
-    CHECK(wiped(&after_last) && same(&buffer));
+    CHECK(wiped_record(&after_last) && same(&buffer));
     give_back(&after_last);
     give_back(&past_end);
     give_back(&wrong_kind);
@@ -284,21 +370,21 @@ static void test_call_not_in_pattern(void)
 }
 
 /* 10 for p, not for p - 1; 11 for FINISH straight after START. */
-static void test_element_and_finish(void)
+static void test_element_and_finish(uint32_t field)
 {
-    const uint32_t prime = P, less = P - 1;
-    struct lent record = open_record(), unfinished = open_record();
-    CHECK(tuilarder_absorb(record.part, &prime, 1) == TUILARDER_ELEMENT_NOT_REDUCED);
-    CHECK(same(&record));
+    const uint32_t p = prime(field), less = p - 1;
+    struct lent record = open_record(field), unfinished = open_record(field);
+    CHECK(tuilarder_absorb(record.part, &p, 1) == TUILARDER_ELEMENT_NOT_REDUCED);
+    CHECK(same_record(&record));
     CHECK(tuilarder_absorb(record.part, &less, 1) == TUILARDER_ACCEPTED);
-    CHECK(!same(&record));
+    CHECK(!same_record(&record));
     CHECK(tuilarder_finish(unfinished.part) == TUILARDER_PATTERN_NOT_DONE);
-    CHECK(wiped(&unfinished));
+    CHECK(wiped_record(&unfinished));
     give_back(&unfinished);
     give_back(&record);
 }
 
-/* ---- tag strings, the permutation and the hash */
+/* ---- tag strings, the permutation, the generator and the hash */
 
 /* Sample B1: its string, written into 10 bytes and 11, and not into 9. */
 static void test_write_tag(void)
@@ -369,24 +455,85 @@ static void test_longest_tag_string(void)
     give_back(&words);
 }
 
-/* The permutation of 0 to 23 is from the second implementation, in Python. */
-static void test_permute(void)
+/* The permutation of 0 to 23 in either field, from the second implementation, in Python. */
+static const uint32_t permuted[2][TUILARDER_WIDTH] = {
+    {1388997836, 948162243, 1299935936, 1025156667, 515334320, 1361602483, 546021127, 900157588,
+     1193585924, 1723824986, 1518293279, 475657192, 4224694, 1309519042, 867247226, 230798774,
+     1889843499, 86006077, 1548273803, 983866312, 738482988, 1675543977, 27100451, 609882057},
+    {510806392, 1355501408, 1719995572, 2092411216, 1988116991, 488094167, 1203990344, 893373600,
+     1465575190, 1079286647, 1569729795, 1908110097, 566821531, 1378116955, 867914127, 1681584149,
+     2036892222, 1911071438, 892216489, 814670350, 1841195610, 593412065, 1128049343, 2112072181},
+};
+
+static void test_permute(uint32_t field)
 {
-    const uint32_t permuted[TUILARDER_WIDTH] = {
-        1388997836, 948162243, 1299935936, 1025156667, 515334320, 1361602483, 546021127, 900157588,
-        1193585924, 1723824986, 1518293279, 475657192, 4224694, 1309519042, 867247226, 230798774,
-        1889843499, 86006077, 1548273803, 983866312, 738482988, 1675543977, 27100451, 609882057};
-    struct lent state = lend(sizeof permuted, 0);
+    struct lent state = lend(sizeof *permuted, 0);
     uint32_t *elements = state.part;
     for (uint32_t i = 0; i < TUILARDER_WIDTH; i++)
         elements[i] = i;
-    CHECK(tuilarder_permute(elements) == TUILARDER_ACCEPTED);
-    CHECK(holds(&state, permuted));
-    elements[23] = P;
+    CHECK(tuilarder_permute(field, elements) == TUILARDER_ACCEPTED);
+    CHECK(holds(&state, permuted[field - 1]));
+    elements[23] = prime(field);
     remember(&state);
-    CHECK(tuilarder_permute(elements) == TUILARDER_ELEMENT_NOT_REDUCED);
+    CHECK(tuilarder_permute(field, elements) == TUILARDER_ELEMENT_NOT_REDUCED);
     CHECK(same(&state));
+    elements[23] = BETWEEN;
+    remember(&state);
+    CHECK(tuilarder_permute(field, elements) == (field == BABY_BEAR ? TUILARDER_ELEMENT_NOT_REDUCED : TUILARDER_ACCEPTED));
+    CHECK(same(&state) == (field == BABY_BEAR));
     give_back(&state);
+}
+
+/* 18 in an unknown field, before 10, and the state is left. */
+static void test_permute_unknown(uint32_t field)
+{
+    struct lent state = lend(sizeof *permuted, 0);
+    memset(state.part, 0, state.length);
+    remember(&state);
+    CHECK(tuilarder_permute(field, state.part) == TUILARDER_FIELD_UNKNOWN && same(&state));
+    memset(state.part, 0xff, state.length);
+    remember(&state);
+    CHECK(tuilarder_permute(field, state.part) == TUILARDER_FIELD_UNKNOWN && same(&state));
+    give_back(&state);
+}
+
+/* How many constants either field has, some of them, and the sum of all, from the second implementation. */
+static const struct generated {
+    size_t count;
+    uint32_t first, at_695, at_696, at_743;
+    uint64_t sum;
+} generated[2] = {
+    {696, 262278199, 1255733430, 0, 0, UINT64_C(708767628501)},
+    {744, 487143900, 1811673508, 116999280, 570045382, UINT64_C(765939669399)},
+};
+
+static void test_generate(uint32_t field)
+{
+    const struct generated *wanted = &generated[field - 1];
+    struct lent places = lend(TUILARDER_MAX_ROUND_CONSTANTS * sizeof(uint32_t), 0), number = lend(sizeof(size_t), 0);
+    const uint32_t *constants = places.part;
+    uint64_t sum = 0;
+    CHECK(tuilarder_generate(field, places.part, number.part) == TUILARDER_ACCEPTED);
+    CHECK(holds(&number, &wanted->count) && same_guards(&places));
+    CHECK(constants[0] == wanted->first && constants[695] == wanted->at_695);
+    CHECK(constants[696] == wanted->at_696 && constants[743] == wanted->at_743);
+    for (size_t k = 0; k < TUILARDER_MAX_ROUND_CONSTANTS; k++)
+        sum += constants[k];
+    CHECK(sum == wanted->sum);
+    give_back(&number);
+    give_back(&places);
+}
+
+/* 18 in an unknown field, with 744 zeros and count 0. */
+static void test_generate_unknown(uint32_t field)
+{
+    struct lent places = lend(TUILARDER_MAX_ROUND_CONSTANTS * sizeof(uint32_t), 0), number = lend(sizeof(size_t), 0);
+    fill_random(places.part, places.length);
+    fill_random(number.part, number.length);
+    CHECK(tuilarder_generate(field, places.part, number.part) == TUILARDER_FIELD_UNKNOWN);
+    CHECK(wiped(&places) && wiped(&number));
+    give_back(&number);
+    give_back(&places);
 }
 
 /* SHA3-256 of "abc" and of nothing, from the example values that NIST publishes with FIPS 202. */
@@ -415,14 +562,15 @@ static void test_empty(void *place)
     const uint32_t words[2] = {A | 1, 1};
     const uint8_t separator[1] = {7};
     uint32_t read[TUILARDER_MAX_WORDS];
-    struct lent record = open_record();
+    struct lent record = open_record(BABY_BEAR);
     size_t number = 1;
-    CHECK(tuilarder_absorb(record.part, place, 0) == TUILARDER_ACCEPTED && same(&record));
-    CHECK(tuilarder_squeeze(record.part, place, 0) == TUILARDER_ACCEPTED && same(&record));
-    CHECK(tuilarder_start(record.part, words, 2, place, 0) == TUILARDER_ACCEPTED && same(&record));
-    CHECK(tuilarder_start(record.part, place, 0, separator, 1) == TUILARDER_WORD_COUNT_OUT_OF_RANGE && wiped(&record));
-    CHECK(tuilarder_absorb(record.part, place, 0) == TUILARDER_RECORD_NOT_OPEN && wiped(&record));
-    CHECK(tuilarder_squeeze(record.part, place, 0) == TUILARDER_RECORD_NOT_OPEN && wiped(&record));
+    CHECK(tuilarder_absorb(record.part, place, 0) == TUILARDER_ACCEPTED && same_record(&record));
+    CHECK(tuilarder_squeeze(record.part, place, 0) == TUILARDER_ACCEPTED && same_record(&record));
+    CHECK(tuilarder_start(record.part, BABY_BEAR, words, 2, place, 0) == TUILARDER_ACCEPTED && same_record(&record));
+    CHECK(tuilarder_start(record.part, BABY_BEAR, place, 0, separator, 1) == TUILARDER_WORD_COUNT_OUT_OF_RANGE);
+    CHECK(wiped_record(&record));
+    CHECK(tuilarder_absorb(record.part, place, 0) == TUILARDER_RECORD_NOT_OPEN && wiped_record(&record));
+    CHECK(tuilarder_squeeze(record.part, place, 0) == TUILARDER_RECORD_NOT_OPEN && wiped_record(&record));
     CHECK(tuilarder_write_tag(words, 2, place, 0, place, 0, &number) == TUILARDER_BUFFER_TOO_SHORT && number == 0);
     number = 1;
     CHECK(tuilarder_write_tag(place, 0, place, 0, place, 0, &number) == TUILARDER_WORD_COUNT_OUT_OF_RANGE && number == 0);
@@ -436,10 +584,21 @@ static void test_empty(void *place)
 
 /* ---- bad records */
 
-/* Small numbers, and a state element of p or more. */
+/* Bytes at random, at times with a field that there is: an element is then bad. */
+static void make_random(struct tuilarder_session *record)
+{
+    fill_random(record, sizeof *record);
+    if (next_random() % 2) {
+        record->field = fields[below(2)];
+        record->state[below(TUILARDER_WIDTH)] = bad_element(record->field);
+    }
+}
+
+/* Small numbers, and a bad element. */
 static void make_small(struct tuilarder_session *record)
 {
     memset(record, 0, sizeof *record);
+    record->field = fields[below(2)];
     record->count = below(67);
     for (uint32_t k = 0; k < record->count && k < TUILARDER_MAX_WORDS; k++)
         record->words[k] = (k % 2 ? 0 : A) + 1 + below(4);
@@ -448,7 +607,7 @@ static void make_small(struct tuilarder_session *record)
     record->absorb_position = below(10);
     record->squeeze_position = below(10);
     record->permutations = below(70);
-    record->state[below(TUILARDER_WIDTH)] = P + below(UINT64_C(0x100000000) - P);
+    record->state[below(TUILARDER_WIDTH)] = bad_element(record->field);
 }
 
 /* A record that some calls have left at any place of its pattern. */
@@ -458,7 +617,7 @@ static void make_sound(struct tuilarder_session *record)
     size_t count = 2 + 2 * below(4), phases = below(count + 1);
     for (size_t k = 0; k < count; k++)
         words[k] = (k % 2 ? 0 : A) + 1 + below(20);
-    CHECK(tuilarder_start(record, words, count, NULL, 0) == TUILARDER_ACCEPTED);
+    CHECK(tuilarder_start(record, fields[below(2)], words, count, NULL, 0) == TUILARDER_ACCEPTED);
     for (size_t k = 0; k < phases; k++) {
         size_t length = words[k] & ~A;
         if (k + 1 == phases)
@@ -471,8 +630,8 @@ static void make_sound(struct tuilarder_session *record)
 static void spoil(struct tuilarder_session *record)
 {
     uint32_t used = below(record->count), other = 1 + below(next_random() % 2 ? 9 : UINT32_MAX);
-    switch (below(10)) {
-    case 0: record->state[below(TUILARDER_WIDTH)] = P + below(UINT64_C(0x100000000) - P); break;
+    switch (below(11)) {
+    case 0: record->state[below(TUILARDER_WIDTH)] = bad_element(record->field); break;
     case 1: record->words[record->count + below(TUILARDER_MAX_WORDS - record->count)] = other; break;
     case 2: record->words[used] ^= A; break;
     case 3: record->words[used] &= A; break;
@@ -481,6 +640,7 @@ static void spoil(struct tuilarder_session *record)
     case 6: record->done += other; break;
     case 7: record->absorb_position += other; break;
     case 8: record->squeeze_position += other; break;
+    case 9: record->field = unknown_fields[below(4)]; break;
     default: record->permutations += next_random() % 2 ? other : (uint64_t)other << 32; break;
     }
 }
@@ -489,7 +649,7 @@ static void spoil(struct tuilarder_session *record)
 static void make_bad(struct tuilarder_session *record, unsigned round)
 {
     switch (round / 4 % 3) {
-    case 0: fill_random(record, sizeof *record); break;
+    case 0: make_random(record); break;
     case 1: make_small(record); break;
     default: make_sound(record); spoil(record); break;
     }
@@ -515,22 +675,35 @@ static void test_bad_records(void)
     }
 }
 
+/* What is the same in both fields but for p, the constants and what is squeezed. */
+static void test_field(uint32_t field)
+{
+    test_members(field);
+    test_bad_record(field);
+    test_record_of_another_field(field);
+    test_call_not_in_pattern(field);
+    test_element_and_finish(field);
+    test_permute(field);
+    test_generate(field);
+}
+
 int main(void)
 {
     struct lent empty = lend(0, 0);
-    CHECK(tuilarder_layout_1() == TUILARDER_LAYOUT);
+    CHECK(tuilarder_layout_2() == TUILARDER_LAYOUT);
     for (size_t i = 0; i < sizeof samples / sizeof *samples; i++)
         test_sample(&samples[i]);
-    test_fields();
     for (size_t i = 0; i < sizeof start_examples / sizeof *start_examples; i++)
         test_start(&start_examples[i]);
-    test_bad_record();
-    test_call_not_in_pattern();
-    test_element_and_finish();
+    for (size_t i = 0; i < 2; i++)
+        test_field(fields[i]);
+    for (size_t i = 0; i < 4; i++) {
+        test_permute_unknown(unknown_fields[i]);
+        test_generate_unknown(unknown_fields[i]);
+    }
     test_write_tag();
     test_read_tag();
     test_longest_tag_string();
-    test_permute();
     test_empty(NULL);
     test_empty(empty.part);
     test_bad_records();
