@@ -7,7 +7,8 @@
 //! - What a function writes overlaps nothing else that the call was lent. Nobody else reads or writes that, and nobody writes what the
 //!   function reads, until the call returns.
 //!
-//! Each answers 0 where the call is accepted, or the number of a [`Refusal`](crate::Refusal).
+//! Each answers 0 where the call is accepted, or the number of a [`Refusal`](crate::Refusal). Elements are those of the field that the call
+//! names, or else the record: the numbers below its prime, p.
 
 use core::mem::{offset_of, size_of};
 
@@ -17,6 +18,8 @@ use core::mem::{offset_of, size_of};
 pub struct Record {
     /// 1 open, otherwise closed.
     pub status: u32,
+    /// The number of the field that its elements are of.
+    pub field: u32,
     /// Eight outer elements, then sixteen inner ones.
     pub state: [u32; 24],
     /// The merged words of the pattern, with unused ones 0.
@@ -36,9 +39,10 @@ pub struct Record {
 }
 
 impl Record {
-    /// Every field 0, as FINISH leaves a record.
+    /// 0 throughout, as FINISH leaves a record.
     pub const WIPED: Record = Record {
         status: 0,
+        field: 0,
         state: [0; 24],
         words: [0; 64],
         count: 0,
@@ -50,33 +54,36 @@ impl Record {
     };
 }
 
-// The library was compiled for this layout.
+// The library was compiled for this layout. Four bytes of padding stand before `permutations`.
 const _: () = {
-    assert!(size_of::<Record>() == 384);
+    assert!(size_of::<Record>() == 392);
     assert!(offset_of!(Record, status) == 0);
-    assert!(offset_of!(Record, state) == 4);
-    assert!(offset_of!(Record, words) == 100);
-    assert!(offset_of!(Record, count) == 356);
-    assert!(offset_of!(Record, phase) == 360);
-    assert!(offset_of!(Record, done) == 364);
-    assert!(offset_of!(Record, absorb_position) == 368);
-    assert!(offset_of!(Record, squeeze_position) == 372);
-    assert!(offset_of!(Record, permutations) == 376);
+    assert!(offset_of!(Record, field) == 4);
+    assert!(offset_of!(Record, state) == 8);
+    assert!(offset_of!(Record, words) == 104);
+    assert!(offset_of!(Record, count) == 360);
+    assert!(offset_of!(Record, phase) == 364);
+    assert!(offset_of!(Record, done) == 368);
+    assert!(offset_of!(Record, absorb_position) == 372);
+    assert!(offset_of!(Record, squeeze_position) == 376);
+    assert!(offset_of!(Record, permutations) == 384);
     assert!(size_of::<usize>() == 8);
 };
 
-/// The version of the functions and of the record, from bit 32 on, and below it the bytes of a record: what [`tuilarder_layout_1`] answers in the
+/// The version of the functions and of the record, from bit 32 on, and below it the bytes of a record: what [`tuilarder_layout_2`] answers in the
 /// library that this crate is written for.
-pub const LAYOUT: u64 = (1 << 32) | 384;
+pub const LAYOUT: u64 = (2 << 32) | 392;
 
 extern "C" {
     /// What the library was compiled for: [`LAYOUT`]. A library of another version has no function of this name, and the build of this crate
     /// turns it away.
-    pub fn tuilarder_layout_1() -> u64;
+    pub fn tuilarder_layout_2() -> u64;
 
-    /// START: opens a session in the record, whatever that held. Checks 1 to 6 in number order. Refused, it leaves a wiped record.
+    /// START: opens a session of a field in the record, whatever that held. Checks 18, then 1 to 6 in number order. Refused, it leaves a
+    /// wiped record.
     pub fn tuilarder_start(
         record: *mut Record,
+        field: u32,
         words: *const u32,
         words_len: usize,
         separator: *const u8,
@@ -95,8 +102,12 @@ extern "C" {
     /// as it was.
     pub fn tuilarder_finish(record: *mut Record) -> u32;
 
-    /// One permutation in place. Checks 10. Refused, it leaves the state as it was.
-    pub fn tuilarder_permute(state: *mut [u32; 24]) -> u32;
+    /// One permutation of a field in place. Checks 18, then 10. Refused, it leaves the state as it was.
+    pub fn tuilarder_permute(field: u32, state: *mut [u32; 24]) -> u32;
+
+    /// The round constants of a field, made by the generator, with 0 in the places left, and how many they are. Checks 18. Refused, it gives
+    /// 744 zeros and count 0.
+    pub fn tuilarder_generate(field: u32, constants: *mut [u32; 744], count: *mut usize) -> u32;
 
     /// Writes a tag string, from the start of `out` and only the string's bytes, and its length to `written`. Checks 1 to 6 in number
     /// order, then 12. Refused, it writes nothing to `out`, and 0 to `written`.

@@ -1,5 +1,5 @@
-//! The challenge sponge that turns a protocol's messages into challenges: SAFE sessions over the BabyBear field
-//! (p = 2013265921), with the Poseidon permutation and SHA3-256.
+//! The challenge sponge that turns a protocol's messages into challenges: SAFE sessions over the field BabyBear (p = 2013265921) or
+//! KoalaBear (p = 2130706433), with the Poseidon permutation and SHA3-256.
 //!
 //! The work is done by a static library in Rattle, whose every function is proved to do what its specification, documents 01 and 02, says, on
 //! every input. This crate declares its functions ([`ffi`]) and puts types over them. It checks no rule of its own but that a length fits in a
@@ -8,24 +8,26 @@
 //! # Separators
 //!
 //! **Every protocol of a verifier needs a separator of its own, and all of them one length.** Then, as is proved, no two of them share a tag
-//! string. Sessions of one tag string get the same challenges for the same messages, so a proof made for one protocol passes in the other.
+//! string. Sessions of one tag string and field get the same challenges for the same messages, so a proof made for one protocol passes in the
+//! other.
 //! With one separator, two protocols share it where their merged patterns are equal: calls of 3 and 3 elements merge to one of 6. With
 //! separators of unequal length, other patterns can share it too: a tag string is the merged pattern's words in bytes with the separator
-//! behind them, and says nowhere where the separator begins.
+//! behind them, and says nowhere where the separator begins. It does not say the field either, and of sessions of two fields nothing is proved: so
+//! their separators have to differ too.
 //!
 //! Where a house hands out separators to its product lines, [`Owners`] is the table of which line has which.
 //!
 //! # A protocol of two rounds
 //!
-//! The prover commits to four elements and gets a challenge, answers with two elements and gets another. Both sides open a session for the
-//! same pattern and separator and absorb the same messages, so both derive the same challenges.
+//! The prover commits to four elements and gets a challenge, answers with two elements and gets another. Both sides open a session of the
+//! same protocol and absorb the same messages, so both derive the same challenges.
 //!
 //! ```
-//! use tuilarder::{Call, Pattern, Refusal, Session};
+//! use tuilarder::{Call, Field, Pattern, Protocol, Refusal};
 //!
 //! fn challenges(commitment: [u32; 4], response: [u32; 2]) -> Result<[u32; 2], Refusal> {
 //!     let pattern = Pattern::new(&[Call::Absorb(4), Call::Squeeze(1), Call::Absorb(2), Call::Squeeze(1)])?;
-//!     let mut session = Session::start(&pattern, b"two rounds")?;
+//!     let mut session = Protocol::new(Field::BabyBear, &pattern, b"two rounds")?.start();
 //!     session.absorb(&commitment)?;
 //!     let [first] = session.challenge()?;
 //!     session.absorb(&response)?;
@@ -59,13 +61,17 @@
 #![no_std]
 
 pub mod ffi;
+mod field;
 mod owners;
 mod pattern;
+mod protocol;
 mod refusal;
 mod session;
 
+pub use field::Field;
 pub use owners::{Owners, OwnersFault};
 pub use pattern::{Call, Pattern};
+pub use protocol::Protocol;
 pub use refusal::Refusal;
 pub use session::Session;
 
@@ -78,17 +84,27 @@ pub const CAPACITY: usize = 16;
 /// All elements of the state.
 pub const WIDTH: usize = RATE + CAPACITY;
 
-/// Elements are the numbers below this prime.
-pub const PRIME: u32 = 2013265921;
+/// The most round constants that a field has: KoalaBear's.
+pub const MAX_ROUND_CONSTANTS: usize = 744;
 
-/// One Poseidon permutation in place.
+/// One Poseidon permutation of a field in place.
 ///
 /// # Errors
 ///
-/// [`Refusal::ElementNotReduced`] (10), with the state as it was, where an element is p or more.
-pub fn permute(state: &mut [u32; WIDTH]) -> Result<(), Refusal> {
+/// [`Refusal::ElementNotReduced`] (10), with the state as it was, where an element is the field's prime or more.
+pub fn permute(field: Field, state: &mut [u32; WIDTH]) -> Result<(), Refusal> {
     // SAFETY: the state is lent for the call.
-    refusal::result(unsafe { ffi::tuilarder_permute(state) })
+    refusal::result(unsafe { ffi::tuilarder_permute(field.number(), state) })
+}
+
+/// The round constants of a field's permutation, made anew by Poseidon's generator, to the start of the buffer with zeros behind them, and gives the
+/// part that they are: 696 of BabyBear, 744 of KoalaBear. Nothing else here needs them.
+pub fn round_constants(field: Field, buffer: &mut [u32; MAX_ROUND_CONSTANTS]) -> &[u32] {
+    let mut count = 0;
+    // SAFETY: the buffer is lent for the call, and the count is this function's own.
+    let number = unsafe { ffi::tuilarder_generate(field.number(), buffer, &mut count) };
+    refusal::result(number).expect("a field has a known number");
+    &buffer[..count]
 }
 
 /// The SHA3-256 digest of a string of bytes.

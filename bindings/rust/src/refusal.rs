@@ -55,7 +55,8 @@ refusals! {
     8 RecordNotSound "open record not sound",
     /// The record is wiped.
     9 CallNotInPattern "call of the wrong kind, past the phase's end, or after the last phase",
-    10 ElementNotReduced "an element of 2013265921 or more",
+    /// Of the session's field, or of that which the call names ([`Field::prime`](crate::Field::prime)).
+    10 ElementNotReduced "an element of the field's prime or more",
     /// The record is wiped.
     11 PatternNotDone "FINISH before the last phase's end",
     12 BufferTooShort "lent buffer shorter than the tag string",
@@ -65,6 +66,8 @@ refusals! {
     /// [`OwnersFault::Gap`](crate::OwnersFault::Gap) says which is the least.
     16 OwnersGap "a number that no row holds",
     17 SeparatorTooShort "the separator asked about is under four bytes",
+    /// Only functions of [`ffi`](crate::ffi) give it: a [`Field`](crate::Field) has a known number.
+    18 FieldUnknown "field number neither 1 nor 2",
 }
 
 impl core::error::Error for Refusal {}

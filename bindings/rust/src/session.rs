@@ -3,10 +3,10 @@ use core::ptr;
 use core::sync::atomic::{compiler_fence, Ordering};
 
 use crate::ffi::{self, Record};
-use crate::pattern::Pattern;
+use crate::field::Field;
 use crate::refusal::{result, Refusal};
 
-/// One use of the sponge, from START to FINISH.
+/// One use of the sponge, from START to FINISH. [`Protocol::start`](crate::Protocol::start) opens one.
 ///
 /// A session is neither `Clone` nor `Copy`, so that no second one is made by accident: [`Session::fork`] makes one. When it is dropped, its
 /// record is wiped. As all moves in Rust, that of a session may leave its bytes behind in the old place, and so may the library's own copies
@@ -24,33 +24,10 @@ use crate::refusal::{result, Refusal};
 /// }
 /// ```
 pub struct Session {
-    record: Record,
+    pub(crate) record: Record,
 }
 
 impl Session {
-    /// START: a session for a pattern and a separator, the byte string that names the protocol. Each protocol of a verifier needs one of its
-    /// own, and all of them one length: see the [crate's page](crate#separators).
-    ///
-    /// # Errors
-    ///
-    /// [`Refusal::SeparatorTooLong`] (6); an accepted pattern has none of 1 to 5.
-    pub fn start(pattern: &Pattern, separator: &[u8]) -> Result<Session, Refusal> {
-        let words = pattern.words();
-        let mut session = Session { record: Record::WIPED };
-        // SAFETY: the slices are valid for their lengths, and the record is this function's own.
-        let number = unsafe {
-            ffi::tuilarder_start(
-                &mut session.record,
-                words.as_ptr(),
-                words.len(),
-                separator.as_ptr(),
-                separator.len(),
-            )
-        };
-        result(number)?;
-        Ok(session)
-    }
-
     /// ABSORB: takes elements in. A phase's elements may be cut into calls freely. A call with no elements changes nothing.
     ///
     /// # Errors
@@ -97,6 +74,11 @@ impl Session {
     /// A second session at the same place. Each goes on by itself.
     pub fn fork(&self) -> Session {
         Session { record: self.record }
+    }
+
+    /// The field that its elements are of; none where the record is wiped or has another number.
+    pub fn field(&self) -> Option<Field> {
+        Field::from_number(self.record.field)
     }
 
     /// How many permutations the session has had.
