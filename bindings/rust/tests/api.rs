@@ -1,17 +1,19 @@
 //! The crate's types: each refusal, what the calls leave, and known challenges.
 //!
-//! Squeezed elements and the permuted state are from the second implementation, in Python, of document 01. The numbers and their
-//! conditions are those of docs/NUMBERS.md, the examples those of document 01's table, "Calls turned away"; B1 to B7 are its samples. What
-//! tables of owners give is worked out by hand from document 02.
+//! Squeezed elements, permuted states and round constants are from the second implementation, in Python, of documents 01 and 02. The numbers
+//! and their conditions are those of docs/NUMBERS.md, the examples those of document 01's table, "Calls turned away"; B1 to B7 are its samples.
+//! What tables of owners give is worked out by hand from document 02.
 
 use std::mem::{size_of, ManuallyDrop};
 use std::ptr;
 
 use tuilarder::ffi::Record;
 use tuilarder::{
-    permute, sha3_256, Call, Owners, OwnersFault, Pattern, Refusal, Session, CAPACITY, PRIME, RATE, WIDTH,
+    permute, round_constants, sha3_256, Call, Field, Owners, OwnersFault, Pattern, Protocol, Refusal, Session,
+    CAPACITY, MAX_ROUND_CONSTANTS, RATE, WIDTH,
 };
 use Call::{Absorb, Squeeze};
+use Field::{BabyBear, KoalaBear};
 
 const ABSORB_BIT: u32 = 1 << 31;
 const MAX_LENGTH: u32 = 2147483647;
@@ -37,6 +39,8 @@ fn refused_with(number: u32) -> Vec<Result<(), Refusal>> {
         1..=5 => patterns_refused_with(number),
         6 | 12 | 13 => strings_refused_with(number),
         15..=17 => owners_refused_with(number),
+        // a field's number is known
+        18 => vec![],
         _ => sessions_refused_with(number),
     }
 }
@@ -67,7 +71,8 @@ fn strings_refused_with(number: u32) -> Vec<Result<(), Refusal>> {
     let long = [0; 257];
     match number {
         6 => vec![
-            Session::start(&one_and_one(), &long).map(drop),
+            Protocol::new(BabyBear, &one_and_one(), &long).map(drop),
+            Protocol::new(KoalaBear, &one_and_one(), &long).map(drop),
             one_and_one().tag_string(&long, &mut [0; 1024]).map(drop),
             Pattern::read(&long, 257).map(drop),
         ],
@@ -82,16 +87,27 @@ fn strings_refused_with(number: u32) -> Vec<Result<(), Refusal>> {
 fn sessions_refused_with(number: u32) -> Vec<Result<(), Refusal>> {
     match number {
         7 => on_each_call(Record::WIPED),
-        8 => on_each_call(Record {
-            absorb_position: 9,
-            ..*opened().record()
-        }),
+        8 => [(1, 9), (2, 9), (0, 0), (3, 0), (1 << 31, 0)]
+            .into_iter()
+            .flat_map(|(field, absorb_position)| {
+                on_each_call(Record {
+                    field,
+                    absorb_position,
+                    ..*opened().record()
+                })
+            })
+            .collect(),
         9 => vec![
             opened().squeeze(&mut [0]),
             opened().absorb(&[1, 1]),
             opened().challenge::<1>().map(drop),
         ],
-        10 => vec![opened().absorb(&[2013265921]), permute(&mut [2013265921; WIDTH])],
+        10 => vec![
+            opened().absorb(&[2013265921]),
+            opened_in(KoalaBear).absorb(&[2130706433]),
+            permute(BabyBear, &mut [2013265921; WIDTH]),
+            permute(KoalaBear, &mut [2130706433; WIDTH]),
+        ],
         _ => vec![opened().finish()],
     }
 }
@@ -132,7 +148,11 @@ fn b1() -> Pattern {
 }
 
 fn opened() -> Session {
-    Session::start(&one_and_one(), b"").unwrap()
+    opened_in(BabyBear)
+}
+
+fn opened_in(field: Field) -> Session {
+    Protocol::new(field, &one_and_one(), b"").unwrap().start()
 }
 
 fn on_each_call(record: Record) -> Vec<Result<(), Refusal>> {
@@ -231,14 +251,15 @@ fn a_string_is_read_by_the_length_of_its_separator() {
     assert_eq!(Pattern::read(&string, 17), Err(Refusal::NotTagString));
 }
 
-/// Absorbs 1, 2, 3 .. in one call a phase. Gives the elements squeezed, and the permutations before FINISH.
-fn run(lengths: &[u32]) -> (Vec<u32>, u64) {
+/// Absorbs the numbers from `first` on in one call a phase. Gives the elements squeezed, and the permutations before FINISH.
+fn run(field: Field, lengths: &[u32], first: u32) -> (Vec<u32>, u64) {
     let calls: Vec<Call> = (0..)
         .zip(lengths)
         .map(|(k, &n)| if k % 2 == 0 { Absorb(n) } else { Squeeze(n) })
         .collect();
-    let mut session = Session::start(&Pattern::new(&calls).unwrap(), b"").unwrap();
-    let (mut next, mut squeezed) = (1, Vec::new());
+    let protocol = Protocol::new(field, &Pattern::new(&calls).unwrap(), b"").unwrap();
+    let mut session = protocol.start();
+    let (mut next, mut squeezed) = (first, Vec::new());
     for call in calls {
         match call {
             Absorb(length) => {
@@ -266,15 +287,84 @@ fn sessions_of_b4_to_b7_squeeze_what_the_second_implementation_does() {
     let b7 = [
         1520755747, 1654583900, 665816991, 1723433768, 502947992, 381137256, 437094857, 279161951, 19357506,
     ];
-    assert_eq!(run(&[8, 1]), (vec![1413794352], 1));
-    assert_eq!(run(&[9, 1]), (vec![774647143], 2));
-    assert_eq!(run(&[1, 9]), (b6.to_vec(), 2));
-    assert_eq!(run(&[8, 8, 1, 1]), (b7.to_vec(), 2));
+    assert_eq!(run(BabyBear, &[8, 1], 1), (vec![1413794352], 1));
+    assert_eq!(run(BabyBear, &[9, 1], 1), (vec![774647143], 2));
+    assert_eq!(run(BabyBear, &[1, 9], 1), (b6.to_vec(), 2));
+    assert_eq!(run(BabyBear, &[8, 8, 1, 1], 1), (b7.to_vec(), 2));
+}
+
+/// The last absorbs elements of KoalaBear that are none of BabyBear.
+#[test]
+fn sessions_of_koala_bear_squeeze_what_the_second_implementation_does() {
+    let b6 = [
+        1834553000, 760461083, 991941584, 377514315, 733311804, 512969868, 1258999047, 314449334, 992041210,
+    ];
+    let b7 = [
+        972710713, 1648933959, 801303886, 301456778, 1771243869, 1979520185, 1867126874, 1116637231, 1420244152,
+    ];
+    assert_eq!(run(KoalaBear, &[8, 1], 1), (vec![660617525], 1));
+    assert_eq!(run(KoalaBear, &[9, 1], 1), (vec![340153162], 2));
+    assert_eq!(run(KoalaBear, &[1, 9], 1), (b6.to_vec(), 2));
+    assert_eq!(run(KoalaBear, &[8, 8, 1, 1], 1), (b7.to_vec(), 2));
+    assert_eq!(run(KoalaBear, &[8, 1], 2013265921), (vec![2112122197], 1));
+}
+
+fn two_rounds() -> Protocol {
+    let pattern = Pattern::new(&[Absorb(4), Squeeze(1), Absorb(2), Squeeze(1)]).unwrap();
+    Protocol::new(BabyBear, &pattern, b"two rounds").unwrap()
 }
 
 fn two_rounds_session() -> Session {
-    let pattern = Pattern::new(&[Absorb(4), Squeeze(1), Absorb(2), Squeeze(1)]).unwrap();
-    Session::start(&pattern, b"two rounds").unwrap()
+    two_rounds().start()
+}
+
+#[test]
+fn a_protocol_holds_what_it_was_made_of() {
+    let protocol = Protocol::new(KoalaBear, &b1(), b"A\"").unwrap();
+    assert_eq!((protocol.field(), protocol.pattern()), (KoalaBear, &b1()));
+    assert_eq!(protocol.separator(), b"A\"");
+    assert_eq!(protocol.tag_string(), [0x80, 0, 0, 6, 0, 0, 0, 3, b'A', b'"']);
+    assert_eq!(
+        format!("{protocol:?}"),
+        r#"Protocol { field: KoalaBear, pattern: Pattern [Absorb(3), Absorb(3), Squeeze(3)], separator: "A\"" }"#
+    );
+    let none = Protocol::new(BabyBear, &b1(), b"").unwrap();
+    assert_eq!((none.separator(), none.tag_string().len()), (&[][..], 8));
+}
+
+/// The tag, and so the first state, does not depend on the field.
+#[test]
+fn a_protocol_opens_sessions_of_its_field() {
+    let [baby, koala] = [BabyBear, KoalaBear].map(|field| Protocol::new(field, &one_and_one(), b"tag").unwrap());
+    assert_eq!(baby.tag_string(), koala.tag_string());
+    let (first, second) = (baby.start(), koala.start());
+    assert_eq!((first.field(), second.field()), (Some(BabyBear), Some(KoalaBear)));
+    assert_eq!(first.record().state, second.record().state);
+    assert_eq!((first.record().field, second.record().field), (1, 2));
+    assert_eq!(baby.start().record(), first.record());
+    for number in [0, 3, 1 << 31, u32::MAX] {
+        let record = Record {
+            field: number,
+            ..*first.record()
+        };
+        assert_eq!(Session::from_record(record).field(), None);
+    }
+}
+
+#[test]
+fn protocols_are_equal_if_all_three_are() {
+    let merged = b1().merged();
+    let others = [
+        (KoalaBear, &b1(), &b"two rounds"[..]),
+        (BabyBear, &merged, b"two rounds"),
+        (BabyBear, &b1(), b"two round2"),
+        (BabyBear, &b1(), b"two round"),
+    ];
+    let protocol = Protocol::new(BabyBear, &b1(), b"two rounds").unwrap();
+    assert_eq!(protocol, protocol.clone());
+    for (field, pattern, separator) in others {
+        assert_ne!(protocol, Protocol::new(field, pattern, separator).unwrap());
+    }
 }
 
 #[test]
@@ -309,9 +399,9 @@ fn calls_may_be_cut_and_empty_ones_change_nothing() {
 fn a_refused_call_leaves_what_document_01_says() {
     let mut session = opened();
     let record = *session.record();
-    assert_eq!(session.absorb(&[PRIME]), Err(Refusal::ElementNotReduced));
+    assert_eq!(session.absorb(&[BabyBear.prime()]), Err(Refusal::ElementNotReduced));
     assert_eq!(*session.record(), record);
-    session.absorb(&[PRIME - 1]).unwrap();
+    session.absorb(&[BabyBear.prime() - 1]).unwrap();
     let mut buffer = [7; 2];
     assert_eq!(session.squeeze(&mut buffer), Err(Refusal::CallNotInPattern));
     assert_eq!((buffer, *session.record()), ([7; 2], Record::WIPED));
@@ -336,10 +426,11 @@ fn a_record_goes_in_and_out() {
 }
 
 #[test]
-fn dropping_wipes_every_byte() {
+fn dropping_wipes_the_whole_record() {
     const ONES: u32 = u32::MAX;
     let record = Record {
         status: ONES,
+        field: ONES,
         state: [ONES; 24],
         words: [ONES; 64],
         count: ONES,
@@ -351,12 +442,12 @@ fn dropping_wipes_every_byte() {
     };
     let mut session = ManuallyDrop::new(Session::from_record(record));
     let place: *mut Session = &mut *session;
-    assert_eq!(size_of::<Session>(), 384);
-    // SAFETY: the bytes are those of a session in this function, which is dropped once; a session has integers only, and no padding.
+    assert_eq!(size_of::<Session>(), size_of::<Record>());
+    // SAFETY: a session is a record and no more; it is in this function, and dropped once.
     unsafe {
-        assert_eq!(ptr::read_volatile(place.cast::<[u8; 384]>()), [0xff; 384]);
+        assert_eq!(ptr::read_volatile(place.cast::<Record>()), record);
         ptr::drop_in_place(place);
-        assert_eq!(ptr::read_volatile(place.cast::<[u8; 384]>()), [0; 384]);
+        assert_eq!(ptr::read_volatile(place.cast::<Record>()), Record::WIPED);
     }
 }
 
@@ -377,13 +468,36 @@ fn the_permutation_is_the_second_implementations() {
         1723824986, 1518293279, 475657192, 4224694, 1309519042, 867247226, 230798774, 1889843499, 86006077, 1548273803,
         983866312, 738482988, 1675543977, 27100451, 609882057,
     ];
-    let mut state: [u32; WIDTH] = std::array::from_fn(|i| i as u32);
-    assert_eq!(permute(&mut state), Ok(()));
-    assert_eq!(state, permuted);
-    state[23] = PRIME;
-    let refused = state;
-    assert_eq!(permute(&mut state), Err(Refusal::ElementNotReduced));
-    assert_eq!(state, refused);
+    let of_koala_bear = [
+        510806392, 1355501408, 1719995572, 2092411216, 1988116991, 488094167, 1203990344, 893373600, 1465575190,
+        1079286647, 1569729795, 1908110097, 566821531, 1378116955, 867914127, 1681584149, 2036892222, 1911071438,
+        892216489, 814670350, 1841195610, 593412065, 1128049343, 2112072181,
+    ];
+    for (field, permuted) in [(BabyBear, permuted), (KoalaBear, of_koala_bear)] {
+        let mut state: [u32; WIDTH] = std::array::from_fn(|i| i as u32);
+        assert_eq!(permute(field, &mut state), Ok(()));
+        assert_eq!(state, permuted);
+        state[23] = field.prime();
+        let refused = state;
+        assert_eq!(permute(field, &mut state), Err(Refusal::ElementNotReduced));
+        assert_eq!(state, refused);
+    }
+}
+
+#[test]
+fn the_constants_are_the_second_implementations() {
+    let mut buffer = [7; MAX_ROUND_CONSTANTS];
+    let constants = round_constants(BabyBear, &mut buffer);
+    assert_eq!(
+        (constants.len(), constants[..2].to_vec(), constants[695]),
+        (696, vec![262278199, 127253399], 1255733430)
+    );
+    assert_eq!(buffer[696..], [0; 48]);
+    let constants = round_constants(KoalaBear, &mut buffer);
+    assert_eq!(
+        (constants.len(), constants[..2].to_vec(), constants[743]),
+        (744, vec![487143900, 1829048205], 570045382)
+    );
 }
 
 /// The example values that NIST publishes with FIPS 202.
@@ -469,16 +583,23 @@ fn a_fault_has_its_number_and_words() {
     }
 }
 
-/// The figures of document 01.
 #[test]
-fn the_figures_are_document_01s() {
-    assert_eq!((RATE, CAPACITY, WIDTH, PRIME), (8, 16, 24, 15 * (1 << 27) + 1));
+fn the_figures_are_the_documents() {
+    assert_eq!((RATE, CAPACITY, WIDTH, MAX_ROUND_CONSTANTS), (8, 16, 24, 744));
+    assert_eq!(BabyBear.prime(), 15 * (1 << 27) + 1);
+    assert_eq!(KoalaBear.prime(), (1 << 31) - (1 << 24) + 1);
+    assert_eq!((BabyBear.number(), KoalaBear.number()), (1, 2));
+    let known = [BabyBear, KoalaBear].map(|field| Field::from_number(field.number()));
+    assert_eq!(known, [Some(BabyBear), Some(KoalaBear)]);
+    assert_eq!([0, 3, 1 << 31, u32::MAX].map(Field::from_number), [None; 4]);
 }
 
 const fn shared_between_threads<T: Send + Sync>() {}
 const _: () = {
     shared_between_threads::<Session>();
     shared_between_threads::<Pattern>();
+    shared_between_threads::<Protocol>();
+    shared_between_threads::<Field>();
     shared_between_threads::<Call>();
     shared_between_threads::<Refusal>();
     shared_between_threads::<Owners>();

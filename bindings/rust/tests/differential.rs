@@ -11,8 +11,8 @@ mod inputs;
 mod interfaces;
 mod run;
 
-use guarded::Any;
-use independent::{ABSORB, P};
+use guarded::{Any, Random};
+use independent::{ABSORB, P_1, P_2};
 use inputs::*;
 use interfaces::Interface;
 use run::Run;
@@ -57,16 +57,22 @@ by_both! {
     reading_of_any_string
     hashes_of_any_bytes
     permutations_of_any_state
+    constants_of_any_field
+    elements_between_the_primes
+    records_of_the_other_field
     owners_by_any_table
 }
 
 fn start_on_any_pattern_and_separator(library: &'static dyn Interface) {
     let run = Run::of("start_on_any_pattern_and_separator", library, START_CALLS, |run| {
         let (words, separator) = (any_pattern(&mut run.random), any_separator(&mut run.random));
-        let mut record = Record::any(&mut run.random);
-        run.call(&mut record, Call::Start(words, separator));
+        let (field, mut record) = (any_field(&mut run.random), Record::any(&mut run.random));
+        let number = run.call(&mut record, Call::Start(field, words, separator));
+        run.answered("field of a session", record.field);
+        assert_eq!(record.field, if number == 0 { field } else { 0 });
     });
-    run.assert_numbers("START", &[0, 1, 2, 3, 4, 5, 6]);
+    run.assert_numbers("START", &[0, 1, 2, 3, 4, 5, 6, 18]);
+    run.assert_numbers("field of a session", &[0, 1, 2]);
     assert!(run.session_calls() >= START_CALLS);
 }
 
@@ -75,8 +81,8 @@ fn open(run: &mut Run, record: &mut Record) {
     let pairs = pairs(&mut run.random).min(4);
     let merged = merged_words(&mut run.random, pairs, short_length);
     let words = cut_words(&mut run.random, &merged);
-    let separator = good_separator(&mut run.random);
-    assert_eq!(run.call(record, Call::Start(words, separator)), 0);
+    let (field, separator) = (known_field(&mut run.random), good_separator(&mut run.random));
+    assert_eq!(run.call(record, Call::Start(field, words, separator)), 0);
 }
 
 /// One step with the sessions of a case: a fork, a call on a damaged copy, another START, or the next call of one.
@@ -89,7 +95,7 @@ fn session_step(run: &mut Run, records: &mut Vec<Record>, any_once_in: u64) {
             run.answered("fork", 0);
         }
         1 | 2 => {
-            damage_fields(&mut run.random, &mut copy);
+            damage_parts(&mut run.random, &mut copy);
             for _ in 0..2 {
                 let call = any_call(&mut run.random, &copy);
                 run.call(&mut copy, call);
@@ -128,22 +134,22 @@ fn sessions_with_forks_and_refused_calls(library: &'static dyn Interface) {
 /// Each of the three calls on a record. Gives their numbers.
 fn each_call(run: &mut Run, record: &Record) -> Vec<u32> {
     let sizes: [usize; 2] = std::array::from_fn(|_| run.random.pick(&[0, 1, 1, 9]));
-    let absorb = call_of(&mut run.random, true, sizes[0]);
-    let squeeze = call_of(&mut run.random, false, sizes[1]);
+    let absorb = call_of(&mut run.random, record.field, true, sizes[0]);
+    let squeeze = call_of(&mut run.random, record.field, false, sizes[1]);
     [absorb, squeeze, Call::Finish]
         .map(|call| run.call(&mut record.clone(), call))
         .to_vec()
 }
 
 fn calls_on_unsound_and_closed_records(library: &'static dyn Interface) {
-    let damages: Vec<Damage> = FIELD_DAMAGES.into_iter().chain(CONDITION_DAMAGES).collect();
+    let damages: Vec<Damage> = PART_DAMAGES.into_iter().chain(CONDITION_DAMAGES).collect();
     let run = Run::of(
         "calls_on_unsound_and_closed_records",
         library,
         UNSOUND_CALLS / 9 + 1,
         |run| {
             let mut record = sound_record(&mut run.random);
-            damage_fields(&mut run.random, &mut record);
+            damage_parts(&mut run.random, &mut record);
             each_call(run, &record);
             let record = any_record(&mut run.random);
             each_call(run, &record);
@@ -159,7 +165,7 @@ fn calls_on_unsound_and_closed_records(library: &'static dyn Interface) {
         run.assert_reached(call, &[7, 8]);
     }
     run.assert_numbers("status", &[7]);
-    for (name, _) in &FIELD_DAMAGES[1..] {
+    for (name, _) in &PART_DAMAGES[1..] {
         run.assert_reached(name, &[8]);
     }
     for (name, _) in CONDITION_DAMAGES {
@@ -189,11 +195,9 @@ fn long_calls(library: &'static dyn Interface) {
     let run = Run::of("long_calls", library, 10, |run| {
         let mut record = Record::any(&mut run.random);
         let (absorbed, squeezed) = (run.random.below(3000) as usize + 1, run.random.below(3000) as usize + 1);
-        run.call(
-            &mut record,
-            Call::Start(vec![ABSORB + absorbed as u32, squeezed as u32], vec![]),
-        );
-        let elements: Vec<u32> = (0..absorbed).map(|_| good_element(&mut run.random)).collect();
+        let (field, words) = (1 + run.case as u32 % 2, vec![ABSORB + absorbed as u32, squeezed as u32]);
+        run.call(&mut record, Call::Start(field, words, vec![]));
+        let elements: Vec<u32> = (0..absorbed).map(|_| good_element(&mut run.random, field)).collect();
         assert_eq!(run.call(&mut record, Call::Absorb(elements)), 0);
         let buffer = run.random.list(squeezed);
         assert_eq!(run.call(&mut record, Call::Squeeze(buffer)), 0);
@@ -266,17 +270,83 @@ fn hashes_of_any_bytes(library: &'static dyn Interface) {
 fn permutations_of_any_state(library: &'static dyn Interface) {
     let run = Run::of("permutations_of_any_state", library, 20_000, |run| {
         let random = &mut run.random;
+        let field = any_field(random);
         let mut state: [u32; 24] = match random.below(8) {
-            0 => [random.pick(&[0, 1, P - 1, P, u32::MAX]); 24],
+            0 => [random.pick(&[0, 1, P_1 - 1, P_1, P_2 - 1, P_2, u32::MAX]); 24],
             1 => Any::any(random),
-            _ => std::array::from_fn(|_| good_element(random)),
+            _ => std::array::from_fn(|_| good_element(random, field)),
         };
         if random.once_in(8) {
-            state[random.below(24) as usize] = bad_element(random);
+            state[random.below(24) as usize] = bad_element(random, field);
         }
-        run.permute(&mut state);
+        let name = ["permute in field 1", "permute in field 2"].get(field.wrapping_sub(1) as usize);
+        let number = run.permute(field, &mut state);
+        if let Some(name) = name {
+            run.answered(name, number);
+        }
     });
-    run.assert_numbers("permute", &[0, 10]);
+    run.assert_numbers("permute", &[0, 10, 18]);
+    run.assert_numbers("permute in field 1", &[0, 10]);
+    run.assert_numbers("permute in field 2", &[0, 10]);
+}
+
+fn constants_of_any_field(library: &'static dyn Interface) {
+    let run = Run::of("constants_of_any_field", library, 120, |run| {
+        let field = match run.case as usize {
+            case if case < UNKNOWN_FIELDS.len() => UNKNOWN_FIELDS[case],
+            _ => any_field(&mut run.random),
+        };
+        let (number, count) = run.generate(field);
+        let wanted = match field {
+            1 => (0, 696),
+            2 => (0, 744),
+            _ => (18, 0),
+        };
+        assert_eq!((number, count), wanted);
+        run.answered("found", count as u32);
+    });
+    run.assert_numbers("generate", &[0, 18]);
+    run.assert_numbers("found", &[0, 696, 744]);
+}
+
+/// Elements of field 2 that field 1 does not have: 10 where they are absorbed or permuted in field 1, and 8 where a record of it holds one.
+fn elements_between_the_primes(library: &'static dyn Interface) {
+    let run = Run::of("elements_between_the_primes", library, 600, |run| {
+        let (field, place) = (1 + run.case as u32 % 2, run.case as usize / 2 % 24);
+        let mut list = elements_of(&mut run.random, field);
+        list[place] = between_the_primes(&mut run.random);
+        let mut state: [u32; 24] = list[..].try_into().expect("24 elements");
+        let mut record = record_at(&mut run.random, field, &[ABSORB + 30, 30], 0, 0);
+        let numbers = [
+            run.call(&mut record, Call::Absorb(list)),
+            run.call(&mut Record { state, ..record }, Call::Absorb(vec![1])),
+            run.permute(field, &mut state),
+        ];
+        assert_eq!(numbers, if field == 1 { [10, 8, 10] } else { [0, 0, 0] });
+    });
+    run.assert_numbers("ABSORB", &[0, 8, 10]);
+}
+
+fn elements_of(random: &mut Random, field: u32) -> Vec<u32> {
+    (0..24).map(|_| good_element(random, field)).collect()
+}
+
+/// A session that goes on in the other field, as no call leads to: it is sound where its elements are that field's.
+fn records_of_the_other_field(library: &'static dyn Interface) {
+    let run = Run::of("records_of_the_other_field", library, 2_000, |run| {
+        let mut record = sound_record(&mut run.random);
+        if run.random.once_in(4) {
+            record.state = record.state.map(|element| element % P_1);
+        }
+        let small = record.state.iter().all(|element| *element < P_1);
+        record.field = 3 - record.field;
+        let sound = record.field == 2 || small;
+        for number in each_call(run, &record) {
+            assert_eq!(number != 8, sound, "soundness");
+        }
+        run.answered("sound", u32::from(sound));
+    });
+    run.assert_numbers("sound", &[0, 1]);
 }
 
 fn owners_by_any_table(library: &'static dyn Interface) {

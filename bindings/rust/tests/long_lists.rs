@@ -6,7 +6,7 @@ use std::ops::{Deref, DerefMut};
 use std::{ptr, slice};
 
 use tuilarder::ffi::{self, Record};
-use tuilarder::{Call, Owners, OwnersFault, Pattern, Refusal, Session};
+use tuilarder::{Call, Field, Owners, OwnersFault, Pattern, Protocol, Refusal, Session};
 
 const LENGTH: usize = (1 << 32) + 5;
 
@@ -66,7 +66,7 @@ fn open() -> Record {
     let mut record = Record::WIPED;
     // SAFETY: the pointers are to that many cells, and the lists are apart.
     assert_eq!(
-        unsafe { ffi::tuilarder_start(&mut record, WORDS.as_ptr(), 2, [].as_ptr(), 0) },
+        unsafe { ffi::tuilarder_start(&mut record, 1, WORDS.as_ptr(), 2, [].as_ptr(), 0) },
         0
     );
     record
@@ -101,7 +101,7 @@ fn pattern_of_more_than_32_bits_is_too_long() {
     words[..2].copy_from_slice(&WORDS);
     // SAFETY: the pointers are to that many cells, and the lists are apart.
     assert_eq!(
-        unsafe { ffi::tuilarder_start(&mut record, words.as_ptr(), words.len(), [].as_ptr(), 0) },
+        unsafe { ffi::tuilarder_start(&mut record, 1, words.as_ptr(), words.len(), [].as_ptr(), 0) },
         1
     );
     assert_eq!(record, Record::WIPED);
@@ -112,7 +112,7 @@ fn separator_of_more_than_32_bits_is_too_long() {
     let (separator, mut record) = (Zeros::<u8>::of(LENGTH), open());
     // SAFETY: the pointers are to that many cells, and the lists are apart.
     assert_eq!(
-        unsafe { ffi::tuilarder_start(&mut record, WORDS.as_ptr(), 2, separator.as_ptr(), LENGTH) },
+        unsafe { ffi::tuilarder_start(&mut record, 1, WORDS.as_ptr(), 2, separator.as_ptr(), LENGTH) },
         6
     );
     assert_eq!(record, Record::WIPED);
@@ -179,7 +179,7 @@ fn pattern() -> Pattern {
 }
 
 fn session() -> Session {
-    Session::start(&pattern(), &[]).unwrap()
+    Protocol::new(Field::BabyBear, &pattern(), &[]).unwrap().start()
 }
 
 #[test]
@@ -224,7 +224,7 @@ fn types_refuse_more_calls_than_32_bits() {
 #[test]
 fn types_refuse_a_separator_of_more_than_32_bits() {
     let separator = Zeros::<u8>::of(LENGTH);
-    let refused = Session::start(&pattern(), &separator).map(drop);
+    let refused = Protocol::new(Field::BabyBear, &pattern(), &separator).map(drop);
     assert_eq!(refused, Err(Refusal::SeparatorTooLong));
     let mut buffer = [7; 600];
     assert_eq!(

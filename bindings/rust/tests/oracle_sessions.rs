@@ -28,6 +28,7 @@ fn lists_of(r: &Record) -> Lists {
     let permutations = [(r.permutations >> 32) as u32, r.permutations as u32];
     let numbers = [
         r.status,
+        r.field,
         r.count,
         r.phase,
         r.done,
@@ -44,14 +45,15 @@ fn lists_of(r: &Record) -> Lists {
 fn record_of([numbers, state, words]: &Lists) -> Record {
     Record {
         status: numbers[0],
+        field: numbers[1],
         state: state[..].try_into().unwrap(),
         words: words[..].try_into().unwrap(),
-        count: numbers[1],
-        phase: numbers[2],
-        done: numbers[3],
-        absorb_position: numbers[4],
-        squeeze_position: numbers[5],
-        permutations: u64::from(numbers[6]) << 32 | u64::from(numbers[7]),
+        count: numbers[2],
+        phase: numbers[3],
+        done: numbers[4],
+        absorb_position: numbers[5],
+        squeeze_position: numbers[6],
+        permutations: u64::from(numbers[7]) << 32 | u64::from(numbers[8]),
     }
 }
 
@@ -69,6 +71,12 @@ fn words_of(digits: &str) -> Vec<u32> {
         .collect()
 }
 
+fn word_of(digits: &str) -> u32 {
+    let words = words_of(digits);
+    assert_eq!(words.len(), 1);
+    words[0]
+}
+
 /// The three lists of a record with the zeros at their ends, where `=` is the list before.
 fn lists_in(fields: &[&str], before: &Lists) -> Lists {
     let list = |k: usize, size: usize| {
@@ -80,7 +88,7 @@ fn lists_in(fields: &[&str], before: &Lists) -> Lists {
         words.resize(size, 0);
         words
     };
-    [list(0, 8), list(1, 24), list(2, 64)]
+    [list(0, 9), list(1, 24), list(2, 64)]
 }
 
 /// Does one line's call and compares all that it left with the line of output.
@@ -98,7 +106,13 @@ fn replay_line(replay: &mut Replay, input: &str, output: &str) {
     let Replay { by, record, noise } = replay;
     let mut buffer = words_of(if fields[0] == "q" { fields[1] } else { "" });
     let number = match fields[0] {
-        "s" => by.start(noise, record, &words_of(fields[1]), &bytes_of(fields[2])),
+        "s" => by.start(
+            noise,
+            record,
+            word_of(fields[1]),
+            &words_of(fields[2]),
+            &bytes_of(fields[3]),
+        ),
         "a" => by.absorb(noise, record, &words_of(fields[1])),
         "q" => by.squeeze(noise, record, &mut buffer),
         "f" => by.finish(noise, record),
@@ -110,7 +124,7 @@ fn replay_line(replay: &mut Replay, input: &str, output: &str) {
 }
 
 fn replay_all(by: &'static dyn Interface) {
-    let (record, noise) = (record_of(&[vec![0; 8], vec![0; 24], vec![0; 64]]), Random::new(1));
+    let (record, noise) = (record_of(&[vec![0; 9], vec![0; 24], vec![0; 64]]), Random::new(1));
     let mut replay = Replay { by, record, noise };
     let (inputs, outputs) = (stored::lines(PROGRAM, "stdin"), stored::lines(PROGRAM, "stdout"));
     let records = inputs.iter().filter(|line| line.starts_with("t ")).count();

@@ -7,15 +7,15 @@ mod independent;
 
 use independent::*;
 
-fn started(words: &[u32], separator: &[u8]) -> Session {
-    let (number, record) = start(words, separator);
-    assert_eq!(number, 0);
+fn started(field: u32, words: &[u32], separator: &[u8]) -> Session {
+    let (number, record) = start(field, words, separator);
+    assert_eq!((number, record.field), (0, field));
     record
 }
 
 /// A whole session with each phase in one call. Gives the permutations in the record that FINISH gets.
-fn permutations(words: &[u32]) -> u64 {
-    let mut record = started(words, &[]);
+fn permutations(field: u32, words: &[u32]) -> u64 {
+    let mut record = started(field, words, &[]);
     for word in words {
         let size = length(*word) as usize;
         let number = if word & ABSORB != 0 {
@@ -68,7 +68,7 @@ fn tag_strings_b1_to_b3() {
         written(&[0x80000001, 0x00000001], &[0x80, 0, 0, 2, 0, 0, 0, 2]),
         written(&[0x80000001, 0x00000001, 0x80000002, 0x00000002], &[])
     );
-    let b3 = started(&[0xfffffffe, 0x80000001, 0x00000001], &[]);
+    let b3 = started(1, &[0xfffffffe, 0x80000001, 0x00000001], &[]);
     assert_eq!((b3.count, &b3.words[..3]), (2, &[0xffffffff, 0x00000001, 0][..]));
 }
 
@@ -83,33 +83,98 @@ fn tag_strings_read_back() {
 
 #[test]
 fn permutation_counts_b4_to_b7() {
-    assert_eq!(permutations(&[ABSORB + 8, 1]), 1);
-    assert_eq!(permutations(&[ABSORB + 9, 1]), 2);
-    assert_eq!(permutations(&[ABSORB + 1, 9]), 2);
-    assert_eq!(permutations(&[ABSORB + 8, 8, ABSORB + 1, 1]), 2);
+    for field in [1, 2] {
+        assert_eq!(permutations(field, &[ABSORB + 8, 1]), 1);
+        assert_eq!(permutations(field, &[ABSORB + 9, 1]), 2);
+        assert_eq!(permutations(field, &[ABSORB + 1, 9]), 2);
+        assert_eq!(permutations(field, &[ABSORB + 8, 8, ABSORB + 1, 1]), 2);
+    }
 }
 
 #[test]
 fn arithmetic_b8_to_b10() {
-    assert_eq!((inverse(24), inverse(32)), (1929379841, 1950351361));
-    assert_eq!((power(2, 7), power(P - 1, 7)), (128, P - 1));
+    assert_eq!((inverse(&FIELD_1, 24), inverse(&FIELD_1, 32)), (1929379841, 1950351361));
+    assert_eq!((power(&FIELD_1, 2, 7), power(&FIELD_1, P_1 - 1, 7)), (128, P_1 - 1));
     assert_eq!(tag_elements(&[0xff; 32]), [1073741823; 8]);
+}
+
+/// "1 for today's and 2 for this one"; "2130706433 = 2^31 − 2^24 + 1"; "the third power, 4 full, 23 partial and 4 full rounds"; "the same 47 sums
+/// inverted in its own field". That an inverse is right, its product with the number says.
+#[test]
+fn figures_of_both_fields() {
+    assert_eq!((P_1, P_2), (15 * (1 << 27) + 1, (1 << 31) - (1 << 24) + 1));
+    assert_eq!(
+        (FIELD_1.p, FIELD_1.exponent, FIELD_1.partial_rounds),
+        (2013265921, 7, 21)
+    );
+    assert_eq!(
+        (FIELD_2.p, FIELD_2.exponent, FIELD_2.partial_rounds),
+        (2130706433, 3, 23)
+    );
+    assert_eq!((power(&FIELD_2, 2, 3), power(&FIELD_2, P_2 - 1, 3)), (8, P_2 - 1));
+    for (field, number) in [&FIELD_1, &FIELD_2]
+        .into_iter()
+        .flat_map(|field| (24..71).map(move |n| (field, n)))
+    {
+        assert_eq!(
+            u64::from(inverse(field, number)) * u64::from(number) % u64::from(field.p),
+            1
+        );
+    }
 }
 
 #[test]
 fn patterns_turned_away_as_in_the_table() {
-    assert_eq!(start(&[], &[]), (1, WIPED));
-    assert_eq!(start(&[0x80000003, 0x00000000], &[]), (2, WIPED));
-    assert_eq!(start(&[0x00000001], &[]), (3, WIPED));
-    assert_eq!(start(&[0x80000001], &[]), (4, WIPED));
-    assert_eq!(start(&[0xffffffff, 0x80000001, 0x00000001], &[]), (5, WIPED));
-    assert_eq!(start(&[0x80000001, 0x00000001], &[0; 257]), (6, WIPED));
-    assert_eq!(start(&[0x80000001, 0x00000001], &[0; 256]).0, 0);
+    for field in [1, 2] {
+        assert_eq!(start(field, &[], &[]), (1, WIPED));
+        assert_eq!(start(field, &[0x80000003, 0x00000000], &[]), (2, WIPED));
+        assert_eq!(start(field, &[0x00000001], &[]), (3, WIPED));
+        assert_eq!(start(field, &[0x80000001], &[]), (4, WIPED));
+        assert_eq!(start(field, &[0xffffffff, 0x80000001, 0x00000001], &[]), (5, WIPED));
+        assert_eq!(start(field, &[0x80000001, 0x00000001], &[0; 257]), (6, WIPED));
+        assert_eq!(start(field, &[0x80000001, 0x00000001], &[0; 256]).0, 0);
+    }
+}
+
+/// "18: field number neither 1 nor 2, before 1 at START, before 10 in the bare permutation, which gives its input back, and in the generator, whose list
+/// has 744 places in either field and then holds zeros, none found". "A record with another field number isn't sound."
+#[test]
+fn fields_turned_away_as_in_the_request() {
+    let fresh = started(1, &[ABSORB + 1, 1], &[]);
+    for field in [0, 3, 1 << 31, u32::MAX] {
+        assert_eq!(start(field, &[ABSORB + 1, 1], &[]), (18, WIPED));
+        assert_eq!(start(field, &[], &[0; 257]), (18, WIPED));
+        for mut state in [[5; 24], [u32::MAX; 24]] {
+            let before = state;
+            assert_eq!((permute(field, &mut state), state), (18, before));
+        }
+        assert_eq!(generate(field), (18, [0; 744], 0));
+        let unsound = Session { field, ..fresh.clone() };
+        let mut record = unsound.clone();
+        assert_eq!((absorb(&mut record, &[1]), squeeze(&mut record, &mut [0])), (8, 8));
+        assert_eq!((finish(&mut record), record), (8, unsound));
+    }
+}
+
+/// "p and element .. mean those of the field that the record or the call names".
+#[test]
+fn elements_of_either_field() {
+    for (field, p) in [(1, 2013265921), (2, 2130706433)] {
+        let fresh = started(field, &[ABSORB + 1, 1], &[]);
+        let mut record = fresh.clone();
+        assert_eq!((absorb(&mut record, &[p]), &record), (10, &fresh));
+        assert_eq!(absorb(&mut record, &[p - 1]), 0);
+        let mut state = [p; 24];
+        assert_eq!((permute(field, &mut state), state), (10, [p; 24]));
+        state = [p - 1; 24];
+        assert_eq!(permute(field, &mut state), 0);
+        assert!(state.iter().all(|element| *element < p));
+    }
 }
 
 #[test]
 fn numbers_7_8_and_10_leave_the_record() {
-    let fresh = started(&[ABSORB + 1, 1], &[]);
+    let fresh = started(1, &[ABSORB + 1, 1], &[]);
     let mut record = fresh.clone();
     assert_eq!((absorb(&mut record, &[2013265921]), &record), (10, &fresh));
     assert_eq!(absorb(&mut record, &[2013265920]), 0);
@@ -127,7 +192,7 @@ fn numbers_7_8_and_10_leave_the_record() {
 
 #[test]
 fn numbers_9_and_11_wipe_the_record() {
-    let fresh = started(&[ABSORB + 1, 1], &[]);
+    let fresh = started(2, &[ABSORB + 1, 1], &[]);
     let (mut record, mut buffer) = (fresh.clone(), [77]);
     assert_eq!((squeeze(&mut record, &mut buffer), record, buffer), (9, WIPED, [77]));
     let mut record = fresh.clone();
@@ -147,11 +212,15 @@ fn tags_turned_away_as_in_the_table() {
     assert_eq!(read_tag(&[0x80, 0, 0, 3], 0), (13, [0; 64], 0));
 }
 
+/// "The 696 round constants"; "so 744 constants from the same generator".
 #[test]
 fn generator_finds_all_constants() {
-    let (constants, found) = round_constants();
-    assert_eq!(found, CONSTANTS);
-    assert!(constants.iter().all(|constant| *constant < P));
+    for (field, count) in [(&FIELD_1, 696), (&FIELD_2, 744)] {
+        let (number, constants, found) = generate(field.number);
+        assert_eq!((number, found, constants_needed(field)), (0, count, count));
+        assert!(constants[..count].iter().all(|constant| *constant < field.p));
+        assert!(constants[count..].iter().all(|place| *place == 0));
+    }
 }
 
 /// One element of the phase where a record is.
@@ -169,7 +238,7 @@ fn step(record: &mut Session) {
 fn formula_gives_what_the_steps_give() {
     for (first, second, third) in [(1, 1, 1), (7, 8, 9), (8, 9, 7), (9, 16, 8), (17, 7, 25), (24, 33, 16)] {
         let words = [ABSORB + first, second, ABSORB + third, 1];
-        let mut record = started(&words, &[]);
+        let mut record = started(2, &words, &[]);
         for _ in 0..=first + second + third {
             step(&mut record);
             let here = place(&words, record.phase as usize, record.done);

@@ -1,6 +1,6 @@
-//! The crate's types against the independent implementation, where `differential.rs` does not reach: patterns by their calls, each length of
-//! a separator and of a hashed string, sessions that live through all of their calls, forks, challenges, records of every status, and tables
-//! of owners that are asked often.
+//! The crate's types against the independent implementation, where `differential.rs` does not reach: fields by their numbers, patterns by their
+//! calls, protocols, each length of a separator and of a hashed string, sessions that live through all of their calls, forks, challenges, records
+//! of every status, and tables of owners that are asked often.
 
 mod guarded;
 mod independent;
@@ -12,15 +12,20 @@ mod run;
 
 use independent::{ABSORB, LONGEST};
 use inputs::*;
-use interfaces::{number_and_place, number_of, perform, record_of, Independent, Interface, Types};
+use interfaces::{
+    check_protocol, field_of, number_and_place, number_of, perform, record_of, Independent, Interface, Types,
+};
 use run::Run;
 use std::fmt::Debug;
 use std::hash::{DefaultHasher, Hash, Hasher};
-use std::mem::{transmute, ManuallyDrop};
+use std::mem::ManuallyDrop;
+use std::ops::Range;
 use std::ptr;
 use tuilarder::ffi::Record;
 use tuilarder::Call::{Absorb, Squeeze};
-use tuilarder::{Owners, OwnersFault, Pattern, Refusal, Session, CAPACITY, PRIME, RATE, WIDTH};
+use tuilarder::{
+    Field, Owners, OwnersFault, Pattern, Protocol, Refusal, Session, CAPACITY, MAX_ROUND_CONSTANTS, RATE, WIDTH,
+};
 
 /// A call that a pattern declares; `Call` here is one of a session.
 type Declared = tuilarder::Call;
@@ -30,7 +35,7 @@ type Declared = tuilarder::Call;
 /// The figures of documents 01 and 02; the longest tag string is 64 words of four bytes and 256 bytes.
 #[test]
 fn figures_are_those_of_the_documents() {
-    assert_eq!((RATE, CAPACITY, WIDTH, PRIME), (8, 16, 24, 2013265921));
+    assert_eq!((RATE, CAPACITY, WIDTH, MAX_ROUND_CONSTANTS), (8, 16, 24, 744));
     assert_eq!(
         (Pattern::MAX_WORDS, Pattern::MAX_SEPARATOR, Pattern::MAX_TAG_STRING),
         (64, 256, 512)
@@ -41,13 +46,35 @@ fn figures_are_those_of_the_documents() {
 }
 
 #[test]
-fn refusals_have_the_numbers_1_to_13_and_15_to_17() {
-    for number in (1..=13).chain(15..=17) {
+fn fields_have_the_numbers_1_and_2() {
+    for (number, field) in [(1, Field::BabyBear), (2, Field::KoalaBear)] {
+        let expected = independent::named(number).expect("a field");
+        assert_eq!((field.number(), field.prime()), (number, expected.p));
+        assert_eq!(field_of(number), Some(field));
+    }
+    for number in (3..1 << 20)
+        .chain((2..32).flat_map(|k| [1 << k, (1 << k) + 1, (1 << k) + 2]))
+        .chain([0, u32::MAX])
+    {
+        assert_eq!(Field::from_number(number), None, "{number}");
+    }
+}
+
+// These are known at compile time too, and there is no third: if there were, this `match` would not compile.
+const _: () = assert!(Field::KoalaBear.number() == 2 && Field::BabyBear.prime() == 2013265921);
+const _: () = assert!(matches!(Field::from_number(1), Some(Field::BabyBear)));
+const _: fn(Field) = |field| match field {
+    Field::BabyBear | Field::KoalaBear => (),
+};
+
+#[test]
+fn refusals_have_the_numbers_1_to_13_and_15_to_18() {
+    for number in (1..=13).chain(15..=18) {
         let refusal = Refusal::from_number(number).expect("a refusal");
         assert_eq!(number_of::<()>(&Err(refusal)), number);
     }
-    let others = (18..1 << 20)
-        .chain((5..32).map(|k| (1 << k) + 16))
+    let others = (19..1 << 20)
+        .chain((5..32).map(|k| (1 << k) + 18))
         .chain([0, 14, u32::MAX]);
     for number in others {
         assert_eq!(Refusal::from_number(number), None, "{number}");
@@ -55,7 +82,7 @@ fn refusals_have_the_numbers_1_to_13_and_15_to_17() {
 }
 
 // The numbers are known at compile time too.
-const _: () = assert!(Refusal::SeparatorTooShort.number() == 17 && Refusal::from_number(14).is_none());
+const _: () = assert!(Refusal::FieldUnknown.number() == 18 && Refusal::from_number(14).is_none());
 const _: () = assert!(OwnersFault::Gap(0).refusal().number() == 16);
 
 /// A `match` needs an arm for other refusals: if it did not, `_` would be unreachable, and this would not compile.
@@ -67,6 +94,7 @@ fn others_are_possible(refusal: Refusal) -> bool {
         WordCountOutOfRange | WordLengthZero | FirstWordSqueeze | LastWordAbsorb | MergedLengthTooLong => false,
         SeparatorTooLong | RecordNotOpen | RecordNotSound | CallNotInPattern | ElementNotReduced => false,
         PatternNotDone | BufferTooShort | NotTagString | OwnersRowInvalid | OwnersGap | SeparatorTooShort => false,
+        FieldUnknown => false,
         _ => true,
     }
 }
@@ -77,10 +105,12 @@ const fn cloned<T: Clone + Eq + Hash + Debug>() {}
 const fn printed<T: Debug>() {}
 const _: () = {
     plain::<Refusal>();
+    plain::<Field>();
     plain::<Declared>();
     plain::<Owners>();
     plain::<OwnersFault>();
     cloned::<Pattern>();
+    cloned::<Protocol>();
     printed::<Session>();
 };
 
@@ -268,7 +298,8 @@ fn separators_of_every_length() {
             let words = cut_words(&mut run.random, &merged);
             let separator: Vec<u8> = run.random.list(length);
             let mut record = Record::WIPED;
-            let number = run.call(&mut record, Call::Start(words.clone(), separator.clone()));
+            let field = known_field(&mut run.random);
+            let number = run.call(&mut record, Call::Start(field, words.clone(), separator.clone()));
             assert_eq!(number, if length <= 256 { 0 } else { 6 });
             let needed = 8 * pairs + length;
             for size in [needed, needed - 1, needed + 3, 0] {
@@ -295,6 +326,69 @@ fn hashes_of_every_length_up_to_2000() {
     });
 }
 
+// Protocols
+
+/// A protocol of any pattern that is accepted, its parts, and the independent implementation's record.
+fn any_protocol(run: &mut Run) -> (Protocol, Field, Vec<u32>, Vec<u8>) {
+    let pairs = pairs(&mut run.random);
+    let merged = merged_words(&mut run.random, pairs, any_length);
+    let words = cut_words(&mut run.random, &merged);
+    let (number, separator) = (known_field(&mut run.random), good_separator(&mut run.random));
+    let field = field_of(number).expect("a field");
+    let pattern = Pattern::from_words(&words).expect("an accepted pattern");
+    let protocol = Protocol::new(field, &pattern, &separator).expect("an accepted separator");
+    (protocol, field, words, separator)
+}
+
+/// That it is equal to one of the same parts, and to none that differs in one of them.
+fn assert_equal_by_parts(run: &mut Run, protocol: &Protocol, words: &[u32], separator: &[u8]) {
+    let of = |field, words: &[u32], separator: &[u8]| {
+        Protocol::new(field, &Pattern::from_words(words).expect("accepted words"), separator).expect("accepted parts")
+    };
+    let (field, other) = match protocol.field() {
+        Field::BabyBear => (Field::BabyBear, Field::KoalaBear),
+        Field::KoalaBear => (Field::KoalaBear, Field::BabyBear),
+    };
+    let same = of(field, words, separator);
+    assert_eq!((&same, hash_of(&same)), (protocol, hash_of(protocol)));
+    assert_ne!(of(other, words, separator), *protocol);
+    let mut longer = words.to_vec();
+    longer[0] = words[0].wrapping_add(1);
+    if Pattern::from_words(&longer).is_ok() {
+        assert_ne!(of(field, &longer, separator), *protocol);
+    }
+    if !separator.is_empty() {
+        let mut changed = separator.to_vec();
+        changed[run.random.below(separator.len() as u64) as usize] ^= 1 << run.random.below(8);
+        assert_ne!(of(field, words, &changed), *protocol);
+        assert_ne!(of(field, words, &separator[1..]), *protocol);
+    }
+}
+
+#[test]
+fn protocols_of_any_parts() {
+    let run = Run::of("protocols_of_any_parts", &Types, 3_000, |run| {
+        let (protocol, field, words, separator) = any_protocol(run);
+        run.last = Box::new((field, words.clone(), separator.clone()));
+        check_protocol(&protocol, field, &words, &separator);
+        let (number, started) = independent::start(field.number(), &words, &separator);
+        let expected = same_fields!(Record, started);
+        // it opens as many sessions as are asked for
+        for session in [protocol.start(), protocol.start(), protocol.clone().start()] {
+            assert_eq!((0, record_of(&session)), (number, expected));
+        }
+        let escaped = separator.escape_ascii();
+        let pattern = protocol.pattern();
+        assert_eq!(
+            format!("{protocol:?}"),
+            format!("Protocol {{ field: {field:?}, pattern: {pattern:?}, separator: \"{escaped}\" }}")
+        );
+        assert_equal_by_parts(run, &protocol, &words, &separator);
+        run.answered("field", field.number());
+    });
+    run.assert_numbers("field", &[1, 2]);
+}
+
 // Sessions that live through all of their calls
 
 /// A session, and the record that the independent implementation has.
@@ -317,11 +411,16 @@ fn challenge(session: &mut Session, length: usize) -> Option<Result<Vec<u32>, Re
 }
 
 impl Live {
-    fn start(run: &mut Run, words: &[u32], separator: &[u8]) -> Live {
+    fn start(run: &mut Run, field: u32, words: &[u32], separator: &[u8]) -> Live {
         let mut expected = Record::WIPED;
-        assert_eq!(Independent.start(&mut run.noise, &mut expected, words, separator), 0);
+        assert_eq!(
+            Independent.start(&mut run.noise, &mut expected, field, words, separator),
+            0
+        );
         let pattern = Pattern::from_words(words).expect("an accepted pattern");
-        let session = Session::start(&pattern, separator).expect("an accepted separator");
+        let field = field_of(field).expect("a field");
+        let protocol = Protocol::new(field, &pattern, separator).expect("an accepted separator");
+        let session = protocol.start();
         let live = Live { session, expected };
         live.compare();
         live
@@ -386,7 +485,8 @@ fn any_live(run: &mut Run) -> Live {
     let words = cut_words(&mut run.random, &merged);
     let size = run.random.below(257) as usize;
     let separator: Vec<u8> = run.random.list(size);
-    Live::start(run, &words, &separator)
+    let field = known_field(&mut run.random);
+    Live::start(run, field, &words, &separator)
 }
 
 /// A fork, or the next call, of one of the sessions.
@@ -443,14 +543,15 @@ fn to_the_end(run: &mut Run, mut live: Live) {
 fn forks_at_every_element() {
     let words = [ABSORB + 9, 17, ABSORB + 1, 1, ABSORB + 8, 8];
     let elements: u32 = 9 + 17 + 1 + 1 + 8 + 8;
-    let run = Run::of("forks_at_every_element", &Types, 3, |run| {
-        let mut live = Live::start(run, &words, b"forked");
+    let run = Run::of("forks_at_every_element", &Types, 4, |run| {
+        let field = 1 + run.case as u32 % 2;
+        let mut live = Live::start(run, field, &words, b"forked");
         for _ in 0..elements {
             to_the_end(run, live.fork());
             live.compare();
             let absorbing = phase_of(&live.expected).expect("a phase").0;
             let call = if absorbing {
-                Call::Absorb(vec![good_element(&mut run.random)])
+                Call::Absorb(vec![good_element(&mut run.random, field)])
             } else {
                 Call::Squeeze(vec![7])
             };
@@ -465,15 +566,16 @@ fn forks_at_every_element() {
 #[test]
 fn lists_of_70000_elements() {
     const LENGTH: usize = 70_000;
-    let run = Run::of("lists_of_70000_elements", &Types, 1, |run| {
+    let run = Run::of("lists_of_70000_elements", &Types, 2, |run| {
+        let field = 1 + run.case as u32;
         let words = [ABSORB + LENGTH as u32, LENGTH as u32, ABSORB + 1, 3000];
-        let elements = (0..LENGTH).map(|_| good_element(&mut run.random)).collect();
+        let elements = (0..LENGTH).map(|_| good_element(&mut run.random, field)).collect();
         let calls = [
             Call::Absorb(elements),
             Call::Squeeze(run.random.list(LENGTH)),
             Call::Absorb(vec![1]),
         ];
-        let mut live = Live::start(run, &words, b"long");
+        let mut live = Live::start(run, field, &words, b"long");
         for call in calls {
             live = live.call(run, &call).expect("no FINISH");
         }
@@ -483,23 +585,24 @@ fn lists_of_70000_elements() {
         live.compare();
         assert!(live.call(run, &Call::Finish).is_none());
     });
-    assert_eq!(run.session_calls(), 4);
+    assert_eq!(run.session_calls(), 8);
 }
 
 // Records
+
+/// The bytes of a record that belong to none of its numbers.
+const PADDING: Range<usize> = 380..384;
 
 /// What the other tests compare with has to tell any two records apart.
 #[test]
 fn records_differ_by_each_byte() {
     let run = Run::of("records_differ_by_each_byte", &Types, 20, |run| {
         let record = sound_record(&mut run.random);
-        for k in 0..384 {
-            // SAFETY: a record has 384 bytes of integers, and any bytes are a record.
-            let other: Record = unsafe {
-                let mut bytes: [u8; 384] = transmute(record);
-                bytes[k] ^= 1 << run.random.below(8);
-                transmute(bytes)
-            };
+        for k in (0..size_of::<Record>()).filter(|k| !PADDING.contains(k)) {
+            let mut other = record;
+            let place: *mut Record = &mut other;
+            // SAFETY: it is a byte of an integer of the record, and any byte is one.
+            unsafe { *place.cast::<u8>().add(k) ^= 1 << run.random.below(8) };
             assert_ne!(record, other, "byte {k}");
             run.answered("changed", 0);
         }
@@ -544,14 +647,14 @@ fn records_of_every_status() {
     }
 }
 
-/// The bytes that dropping leaves of a session.
-fn dropped(session: Session) -> [u8; 384] {
+/// The record that dropping leaves of a session.
+fn dropped(session: Session) -> Record {
     let mut session = ManuallyDrop::new(session);
     let place: *mut Session = &mut *session;
-    // SAFETY: the bytes are those of a session in this function, which is dropped once; a session has integers only, and no padding.
+    // SAFETY: a session is a record and no more; it is in this function, and dropped once.
     unsafe {
         ptr::drop_in_place(place);
-        ptr::read_volatile(place.cast::<[u8; 384]>())
+        ptr::read_volatile(place.cast::<Record>())
     }
 }
 
@@ -562,8 +665,8 @@ fn dropping_wipes_any_record() {
             0 => any_record(&mut run.random),
             _ => sound_record(&mut run.random),
         };
-        assert_eq!(dropped(Session::from_record(record)), [0; 384]);
-        assert_eq!(dropped(Session::from_record(record).fork()), [0; 384]);
+        assert_eq!(dropped(Session::from_record(record)), Record::WIPED);
+        assert_eq!(dropped(Session::from_record(record).fork()), Record::WIPED);
         run.answered("open", u32::from(record.status == 1));
     });
     run.assert_numbers("open", &[0, 1]);

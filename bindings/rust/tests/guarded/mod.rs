@@ -87,6 +87,7 @@ impl Any for Record {
     fn any(random: &mut Random) -> Record {
         Record {
             status: Any::any(random),
+            field: Any::any(random),
             state: Any::any(random),
             words: Any::any(random),
             count: Any::any(random),
@@ -158,13 +159,14 @@ impl<T: Any + Copy + PartialEq + Debug> Lent<T> {
     }
 }
 
-pub fn start(random: &mut Random, record: &mut Record, words: &[u32], separator: &[u8]) -> u32 {
+pub fn start(random: &mut Random, record: &mut Record, field: u32, words: &[u32], separator: &[u8]) -> u32 {
     let mut lent = Lent::new(&[*record], random);
     let (mut words, mut separator) = (Lent::new(words, random), Lent::new(separator, random));
     // SAFETY: the pointers are to that many cells, and the lists are apart.
     let number = unsafe {
         ffi::tuilarder_start(
             lent.pointer(),
+            field,
             words.pointer(),
             words.len,
             separator.pointer(),
@@ -203,12 +205,23 @@ pub fn finish(random: &mut Random, record: &mut Record) -> u32 {
     number
 }
 
-pub fn permute(random: &mut Random, state: &mut [u32; 24]) -> u32 {
+pub fn permute(random: &mut Random, field: u32, state: &mut [u32; 24]) -> u32 {
     let mut lent = Lent::new(&[*state], random);
     // SAFETY: the pointer is to a state.
-    let number = unsafe { ffi::tuilarder_permute(lent.pointer()) };
+    let number = unsafe { ffi::tuilarder_permute(field, lent.pointer()) };
     *state = lent.returned()[0];
     number
+}
+
+/// The number, the places and how many constants were found.
+pub fn generate(random: &mut Random, field: u32) -> (u32, [u32; 744], usize) {
+    let (mut places, mut count) = (
+        Lent::new(&[<[u32; 744]>::any(random)], random),
+        Lent::new(&[usize::any(random)], random),
+    );
+    // SAFETY: the pointers are to that many cells, and the lists are apart.
+    let number = unsafe { ffi::tuilarder_generate(field, places.pointer(), count.pointer()) };
+    (number, places.returned()[0], count.returned()[0])
 }
 
 /// The number, and what the library says was written.

@@ -1,10 +1,10 @@
-//! Random inputs, most of them good and others damaged: patterns, separators, elements, calls, records, strings and tables of owners.
+//! Random inputs, most of them good and others damaged: patterns, separators, fields, elements, calls, records, strings and tables of owners.
 
 // Each program that takes this file in uses only a part of it.
 #![allow(dead_code)]
 
 use crate::guarded::{Any, Random};
-use crate::independent::{self, length, ABSORB, LONGEST, MOST_WORDS, P};
+use crate::independent::{self, length, ABSORB, LONGEST, MOST_WORDS, P_1, P_2};
 use std::collections::BTreeSet;
 use tuilarder::ffi::Record;
 
@@ -110,44 +110,80 @@ pub fn good_separator(random: &mut Random) -> Vec<u8> {
     random.list(size)
 }
 
+// Fields
+
+/// Numbers that no field has, some with the low bits of one that has.
+pub const UNKNOWN_FIELDS: [u32; 10] = [0, 3, 4, 257, 258, 65538, ABSORB, ABSORB + 1, ABSORB + 2, u32::MAX];
+
+pub fn known_field(random: &mut Random) -> u32 {
+    random.pick(&[1, 2])
+}
+
+/// The number of a field, at times of none.
+pub fn any_field(random: &mut Random) -> u32 {
+    match random.below(8) {
+        0 => random.pick(&UNKNOWN_FIELDS),
+        _ => known_field(random),
+    }
+}
+
+/// The prime of a field; of a number that no field has, any of them.
+fn prime(random: &mut Random, field: u32) -> u32 {
+    independent::named(field).map_or_else(|| random.pick(&[P_1, P_2]), |field| field.p)
+}
+
+/// A number that is an element of field 2 and not of field 1.
+pub fn between_the_primes(random: &mut Random) -> u32 {
+    let any = P_1 + random.below(u64::from(P_2 - P_1)) as u32;
+    random.pick(&[P_1, P_1 + 1, P_2 - 1, any, any])
+}
+
 // Elements and calls
 
 #[derive(Clone, Debug)]
 pub enum Call {
-    Start(Vec<u32>, Vec<u8>),
+    Start(u32, Vec<u32>, Vec<u8>),
     Absorb(Vec<u32>),
     Squeeze(Vec<u32>),
     Finish,
 }
 
-pub fn good_element(random: &mut Random) -> u32 {
+/// An element of a field; of field 2, often one that field 1 does not have.
+pub fn good_element(random: &mut Random, field: u32) -> u32 {
+    let p = prime(random, field);
     match random.below(8) {
         0 => 0,
         1 => 1,
-        2 => P - 1,
-        _ => random.below(u64::from(P)) as u32,
+        2 => p - 1,
+        3 | 4 if p == P_2 => between_the_primes(random),
+        _ => random.below(u64::from(p)) as u32,
     }
 }
 
-pub fn bad_element(random: &mut Random) -> u32 {
-    let any = P + random.below((1 << 32) - u64::from(P)) as u32;
-    random.pick(&[P, P + 1, u32::MAX, ABSORB, any])
+/// No element of a field; of field 1, often one of field 2.
+pub fn bad_element(random: &mut Random, field: u32) -> u32 {
+    let p = prime(random, field);
+    if p == P_1 && random.once_in(2) {
+        return between_the_primes(random);
+    }
+    let any = p + random.below((1 << 32) - u64::from(p)) as u32;
+    random.pick(&[p, p + 1, u32::MAX, ABSORB, any])
 }
 
 /// Elements to absorb, at times with one or several of p or more.
-pub fn elements(random: &mut Random, size: usize) -> Vec<u32> {
-    let mut list: Vec<u32> = (0..size).map(|_| good_element(random)).collect();
+pub fn elements(random: &mut Random, field: u32, size: usize) -> Vec<u32> {
+    let mut list: Vec<u32> = (0..size).map(|_| good_element(random, field)).collect();
     if size > 0 && random.once_in(10) {
         for _ in 0..random.pick(&[1, 1, 1, 2, 20]) {
-            list[random.below(size as u64) as usize] = bad_element(random);
+            list[random.below(size as u64) as usize] = bad_element(random, field);
         }
     }
     list
 }
 
-pub fn call_of(random: &mut Random, absorbing: bool, size: usize) -> Call {
+pub fn call_of(random: &mut Random, field: u32, absorbing: bool, size: usize) -> Call {
     if absorbing {
-        Call::Absorb(elements(random, size))
+        Call::Absorb(elements(random, field, size))
     } else {
         Call::Squeeze(random.list(size))
     }
@@ -161,13 +197,13 @@ pub fn phase_of(record: &Record) -> Option<(bool, u32)> {
 }
 
 /// A call that the phase has room for.
-pub fn fitting_call(random: &mut Random, absorbing: bool, left: u32) -> Call {
+pub fn fitting_call(random: &mut Random, field: u32, absorbing: bool, left: u32) -> Call {
     let most = left.min(40);
     let any = random.below(u64::from(most) + 1) as u32;
     let size = random
         .pick(&[0, 1, 7, 8, 9, 16, most, most, most, any, any, any])
         .min(most);
-    call_of(random, absorbing, size as usize)
+    call_of(random, field, absorbing, size as usize)
 }
 
 /// Any call: of the wrong kind, one past the phase's end, of any length, or FINISH.
@@ -176,10 +212,10 @@ pub fn any_call(random: &mut Random, record: &Record) -> Call {
     let size = random.pick(&[0, 1, 7, 8, 9, 16, left.min(100) as usize]);
     match random.below(5) {
         0 => Call::Finish,
-        1 => call_of(random, !absorbing, size),
-        2 => call_of(random, absorbing, left.min(100) as usize + 1),
-        3 => call_of(random, absorbing, size),
-        _ => fitting_call(random, absorbing, left),
+        1 => call_of(random, record.field, !absorbing, size),
+        2 => call_of(random, record.field, absorbing, left.min(100) as usize + 1),
+        3 => call_of(random, record.field, absorbing, size),
+        _ => fitting_call(random, record.field, absorbing, left),
     }
 }
 
@@ -189,19 +225,20 @@ pub fn next_call(random: &mut Random, record: &Record, any_once_in: u64) -> Call
         return any_call(random, record);
     }
     match phase_of(record) {
-        Some((absorbing, left)) => fitting_call(random, absorbing, left),
+        Some((absorbing, left)) => fitting_call(random, record.field, absorbing, left),
         None => Call::Finish,
     }
 }
 
 // Records
 
-/// A record with any state at a place of a word list, with the positions and the count that the steps give there.
-pub fn record_at(random: &mut Random, words: &[u32], phase: usize, done: u32) -> Record {
+/// A record with any state of a field at a place of a word list, with the positions and the count that the steps give there.
+pub fn record_at(random: &mut Random, field: u32, words: &[u32], phase: usize, done: u32) -> Record {
     let place = independent::place(words, phase, done);
     Record {
         status: 1,
-        state: std::array::from_fn(|_| good_element(random)),
+        field,
+        state: std::array::from_fn(|_| good_element(random, field)),
         words: std::array::from_fn(|k| words.get(k).copied().unwrap_or(0)),
         count: words.len() as u32,
         phase: phase as u32,
@@ -236,7 +273,8 @@ pub fn sound_record(random: &mut Random) -> Record {
     let pairs = pairs(random);
     let words = merged_words(random, pairs, any_length);
     let (phase, done) = any_place(random, &words);
-    record_at(random, &words, phase, done)
+    let field = known_field(random);
+    record_at(random, field, &words, phase, done)
 }
 
 /// A number near another one, or far off.
@@ -256,13 +294,17 @@ fn changed(random: &mut Random, number: u32) -> u32 {
 
 pub type Damage = (&'static str, fn(&mut Random, &mut Record));
 
-/// Ways to change one field.
-pub const FIELD_DAMAGES: [Damage; 10] = [
+/// Ways to change one part of a record.
+pub const PART_DAMAGES: [Damage; 11] = [
     ("status", |random, record| {
         record.status = random.pick(&[0, 2, 3, ABSORB + 1, u32::MAX])
     }),
+    ("field", |random, record| {
+        let near = changed(random, record.field);
+        record.field = random.pick(&[near, 3 ^ record.field, 0, 3, ABSORB]);
+    }),
     ("state", |random, record| {
-        record.state[random.below(24) as usize] = bad_element(random)
+        record.state[random.below(24) as usize] = bad_element(random, record.field)
     }),
     ("any word", |random, record| {
         let k = random.below(64) as usize;
@@ -296,7 +338,7 @@ pub const FIELD_DAMAGES: [Damage; 10] = [
 /// Moves a record to a place of other words, so that all but the words or the place itself is as it should be.
 fn put_at(random: &mut Random, record: &mut Record, words: &[u32]) {
     let (phase, done) = any_place(random, words);
-    *record = record_at(random, words, phase, done);
+    *record = record_at(random, record.field, words, phase, done);
 }
 
 fn used_words(record: &Record) -> Vec<u32> {
@@ -305,7 +347,16 @@ fn used_words(record: &Record) -> Vec<u32> {
 
 /// Ways to break a condition of soundness and to keep the positions and the count that the steps give at the place.
 /// None of them leaves a sound record.
-pub const CONDITION_DAMAGES: [Damage; 9] = [
+pub const CONDITION_DAMAGES: [Damage; 11] = [
+    ("unknown field", |random, record| {
+        record.field = random.pick(&UNKNOWN_FIELDS);
+    }),
+    ("element of field 2 alone", |random, record| {
+        let words = used_words(record);
+        record.field = 1;
+        put_at(random, record, &words);
+        record.state[random.below(24) as usize] = between_the_primes(random);
+    }),
     ("no words", |random, record| put_at(random, record, &[])),
     ("first word missing", |random, record| {
         put_at(random, record, &used_words(record)[1..])
@@ -329,33 +380,34 @@ pub const CONDITION_DAMAGES: [Damage; 9] = [
     }),
     ("phase past the count", |random, record| {
         let words = used_words(record);
-        *record = record_at(random, &words, words.len(), 0);
+        *record = record_at(random, record.field, &words, words.len(), 0);
         record.phase += random.pick(&[1, 2, 64]);
     }),
     ("done at the phase's end", |random, record| {
         let words = used_words(record);
         let phase = random.below(words.len() as u64) as usize;
-        *record = record_at(random, &words, phase, length(words[phase]));
+        *record = record_at(random, record.field, &words, phase, length(words[phase]));
     }),
     ("done after the last phase", |random, record| {
         let words = used_words(record);
-        *record = record_at(random, &words, words.len(), 0);
+        *record = record_at(random, record.field, &words, words.len(), 0);
         record.done = random.pick(&[1, 8, LONGEST, u32::MAX]);
     }),
 ];
 
-pub fn damage_fields(random: &mut Random, record: &mut Record) {
+pub fn damage_parts(random: &mut Random, record: &mut Record) {
     for _ in 0..random.pick(&[1, 1, 1, 2, 3]) {
-        random.pick(&FIELD_DAMAGES).1(random, record);
+        random.pick(&PART_DAMAGES).1(random, record);
     }
 }
 
-/// Any contents, at times with some fields of likely sizes.
+/// Any contents, at times with some parts of likely sizes.
 pub fn any_record(random: &mut Random) -> Record {
     let mut record = Record::any(random);
     record.status = random.pick(&[1, 1, 1, 1, record.status]);
     if random.once_in(2) {
-        record.state = std::array::from_fn(|_| good_element(random));
+        record.field = any_field(random);
+        record.state = std::array::from_fn(|_| good_element(random, record.field));
         record.count = 2 + random.below(64) as u32;
         record.phase = random.below(u64::from(record.count)) as u32;
         record.absorb_position = random.below(10) as u32;

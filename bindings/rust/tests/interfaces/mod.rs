@@ -3,20 +3,22 @@
 // Each program that takes this file in uses only a part of it.
 #![allow(dead_code)]
 
-use crate::guarded::{self, Lent, Random};
+use crate::guarded::{self, Any, Lent, Random};
 use crate::independent::{self, Session as Other};
 use crate::inputs::Call;
 use std::ptr;
 use tuilarder::ffi::Record;
-use tuilarder::{Owners, OwnersFault, Pattern, Refusal, Session};
+use tuilarder::{Field, Owners, OwnersFault, Pattern, Protocol, Refusal, Session};
 
 /// What takes calls, and answers each with a number. The random numbers are for what surrounds the lent lists.
 pub trait Interface {
-    fn start(&self, noise: &mut Random, record: &mut Record, words: &[u32], separator: &[u8]) -> u32;
+    fn start(&self, noise: &mut Random, record: &mut Record, field: u32, words: &[u32], separator: &[u8]) -> u32;
     fn absorb(&self, noise: &mut Random, record: &mut Record, elements: &[u32]) -> u32;
     fn squeeze(&self, noise: &mut Random, record: &mut Record, buffer: &mut [u32]) -> u32;
     fn finish(&self, noise: &mut Random, record: &mut Record) -> u32;
-    fn permute(&self, noise: &mut Random, state: &mut [u32; 24]) -> u32;
+    fn permute(&self, noise: &mut Random, field: u32, state: &mut [u32; 24]) -> u32;
+    /// The number, the places and how many constants were found.
+    fn generate(&self, noise: &mut Random, field: u32) -> (u32, [u32; 744], usize);
     /// The number, and how many bytes were written.
     fn write_tag(&self, noise: &mut Random, words: &[u32], separator: &[u8], out: &mut [u8]) -> (u32, usize);
     /// The number, the words and their count.
@@ -36,7 +38,10 @@ pub fn perform(
     call: &Call,
 ) -> (&'static str, u32, Vec<u32>) {
     match call {
-        Call::Start(words, separator) => ("START", interface.start(noise, record, words, separator), vec![]),
+        Call::Start(field, words, separator) => {
+            let number = interface.start(noise, record, *field, words, separator);
+            ("START", number, vec![])
+        }
         Call::Absorb(elements) => ("ABSORB", interface.absorb(noise, record, elements), vec![]),
         Call::Squeeze(buffer) => {
             let mut buffer = buffer.clone();
@@ -51,8 +56,8 @@ pub fn perform(
 pub struct Functions;
 
 impl Interface for Functions {
-    fn start(&self, noise: &mut Random, record: &mut Record, words: &[u32], separator: &[u8]) -> u32 {
-        guarded::start(noise, record, words, separator)
+    fn start(&self, noise: &mut Random, record: &mut Record, field: u32, words: &[u32], separator: &[u8]) -> u32 {
+        guarded::start(noise, record, field, words, separator)
     }
     fn absorb(&self, noise: &mut Random, record: &mut Record, elements: &[u32]) -> u32 {
         guarded::absorb(noise, record, elements)
@@ -63,8 +68,11 @@ impl Interface for Functions {
     fn finish(&self, noise: &mut Random, record: &mut Record) -> u32 {
         guarded::finish(noise, record)
     }
-    fn permute(&self, noise: &mut Random, state: &mut [u32; 24]) -> u32 {
-        guarded::permute(noise, state)
+    fn permute(&self, noise: &mut Random, field: u32, state: &mut [u32; 24]) -> u32 {
+        guarded::permute(noise, field, state)
+    }
+    fn generate(&self, noise: &mut Random, field: u32) -> (u32, [u32; 744], usize) {
+        guarded::generate(noise, field)
     }
     fn write_tag(&self, noise: &mut Random, words: &[u32], separator: &[u8], out: &mut [u8]) -> (u32, usize) {
         guarded::write_tag(noise, words, separator, out)
@@ -86,7 +94,7 @@ impl Interface for Functions {
 // The types
 
 /// The refusals, each with the number that documents 01 and 02 have for it; 14 belongs to cards.
-const REFUSALS: [(u32, Refusal); 16] = [
+const REFUSALS: [(u32, Refusal); 17] = [
     (1, Refusal::WordCountOutOfRange),
     (2, Refusal::WordLengthZero),
     (3, Refusal::FirstWordSqueeze),
@@ -103,6 +111,7 @@ const REFUSALS: [(u32, Refusal); 16] = [
     (15, Refusal::OwnersRowInvalid),
     (16, Refusal::OwnersGap),
     (17, Refusal::SeparatorTooShort),
+    (18, Refusal::FieldUnknown),
 ];
 
 /// The number of an answer by its variant, which has to be the one that the crate gives it.
@@ -127,9 +136,21 @@ pub fn number_and_place(fault: &OwnersFault) -> (u32, u32) {
     (number, place)
 }
 
+/// The field with this number, if there is one: "1 for today's and 2 for this one".
+pub fn field_of(number: u32) -> Option<Field> {
+    let field = match number {
+        1 => Some(Field::BabyBear),
+        2 => Some(Field::KoalaBear),
+        _ => None,
+    };
+    assert_eq!(Field::from_number(number), field);
+    field
+}
+
 /// The record of a session, which has to be what is seen of it otherwise, and in its fork.
 pub fn record_of(session: &Session) -> Record {
     let record = *session.record();
+    assert_eq!(session.field(), field_of(record.field), "the field");
     assert_eq!(session.permutations(), record.permutations, "the permutations");
     let (open, phase, done, permutations) = (record.status == 1, record.phase, record.done, record.permutations);
     assert_eq!(
@@ -147,14 +168,33 @@ fn session_of(record: &Record) -> Session {
     session
 }
 
+/// That a protocol holds what it was made of, and the tag string that belongs to it.
+pub fn check_protocol(protocol: &Protocol, field: Field, words: &[u32], separator: &[u8]) {
+    let mut string = [0; 512];
+    let size = independent::write_tag(words, separator, &mut string).expect("an accepted opening");
+    assert_eq!(protocol.field(), field, "the protocol's field");
+    assert_eq!(protocol.pattern().words(), words, "the protocol's words");
+    assert_eq!(protocol.separator(), separator, "the protocol's separator");
+    assert_eq!(protocol.tag_string(), &string[..size], "the protocol's tag string");
+}
+
 pub struct Types;
 
 impl Interface for Types {
-    /// Numbers 1 to 5 are those of the pattern, 6 is START's. Refused, it gives no record.
-    fn start(&self, noise: &mut Random, record: &mut Record, words: &[u32], separator: &[u8]) -> u32 {
+    /// No type holds an unknown field, so that 18 is not asked for. Numbers 1 to 5 are those of the pattern, 6 is the protocol's. Refused, it
+    /// gives no record.
+    fn start(&self, noise: &mut Random, record: &mut Record, field: u32, words: &[u32], separator: &[u8]) -> u32 {
+        *record = Record::WIPED;
+        let Some(field) = field_of(field) else {
+            return 18;
+        };
         let (words, separator) = (Lent::new(words, noise), Lent::new(separator, noise));
-        let answer = Pattern::from_words(words.part()).and_then(|pattern| Session::start(&pattern, separator.part()));
-        *record = answer.as_ref().map_or(Record::WIPED, record_of);
+        let pattern = Pattern::from_words(words.part());
+        let answer = pattern.and_then(|pattern| Protocol::new(field, &pattern, separator.part()));
+        if let Ok(protocol) = &answer {
+            check_protocol(protocol, field, words.part(), separator.part());
+            *record = record_of(&protocol.start());
+        }
         number_of(&answer)
     }
 
@@ -183,11 +223,26 @@ impl Interface for Types {
         number
     }
 
-    fn permute(&self, noise: &mut Random, state: &mut [u32; 24]) -> u32 {
+    fn permute(&self, noise: &mut Random, field: u32, state: &mut [u32; 24]) -> u32 {
+        let Some(field) = field_of(field) else {
+            return 18;
+        };
         let mut lent = Lent::new(&[*state], noise);
-        let number = number_of(&tuilarder::permute(&mut lent.part_mut()[0]));
+        let number = number_of(&tuilarder::permute(field, &mut lent.part_mut()[0]));
         *state = lent.returned()[0];
         number
+    }
+
+    fn generate(&self, noise: &mut Random, field: u32) -> (u32, [u32; 744], usize) {
+        let Some(field) = field_of(field) else {
+            return (18, [0; 744], 0);
+        };
+        let mut lent = Lent::new(&[<[u32; 744]>::any(noise)], noise);
+        let start = lent.part()[0].as_ptr();
+        let constants = tuilarder::round_constants(field, &mut lent.part_mut()[0]);
+        assert!(ptr::eq(constants.as_ptr(), start), "not the buffer's start");
+        let count = constants.len();
+        (0, lent.returned()[0], count)
     }
 
     /// Numbers 1 to 5 are those of the pattern.
@@ -262,8 +317,8 @@ fn on_other<T>(record: &mut Record, call: impl FnOnce(&mut Other) -> T) -> T {
 }
 
 impl Interface for Independent {
-    fn start(&self, _: &mut Random, record: &mut Record, words: &[u32], separator: &[u8]) -> u32 {
-        let (number, started) = independent::start(words, separator);
+    fn start(&self, _: &mut Random, record: &mut Record, field: u32, words: &[u32], separator: &[u8]) -> u32 {
+        let (number, started) = independent::start(field, words, separator);
         *record = same_fields!(Record, started);
         number
     }
@@ -276,8 +331,11 @@ impl Interface for Independent {
     fn finish(&self, _: &mut Random, record: &mut Record) -> u32 {
         on_other(record, independent::finish)
     }
-    fn permute(&self, _: &mut Random, state: &mut [u32; 24]) -> u32 {
-        independent::permute(state)
+    fn permute(&self, _: &mut Random, field: u32, state: &mut [u32; 24]) -> u32 {
+        independent::permute(field, state)
+    }
+    fn generate(&self, _: &mut Random, field: u32) -> (u32, [u32; 744], usize) {
+        independent::generate(field)
     }
     fn write_tag(&self, _: &mut Random, words: &[u32], separator: &[u8], out: &mut [u8]) -> (u32, usize) {
         match independent::write_tag(words, separator, out) {

@@ -169,14 +169,29 @@ impl Run {
         self.answered("sha3_256", 0);
     }
 
-    /// One permutation by both.
-    pub fn permute(&mut self, state: &mut [u32; 24]) {
-        self.last = Box::new(("permute", *state));
+    /// One permutation by both. Gives the number.
+    pub fn permute(&mut self, field: u32, state: &mut [u32; 24]) -> u32 {
+        self.last = Box::new(("permute", field, *state));
         let mut expected = *state;
-        let number = Independent.permute(&mut self.noise, &mut expected);
-        assert_eq!(self.library.permute(&mut self.noise, state), number, "the number");
+        let number = Independent.permute(&mut self.noise, field, &mut expected);
+        assert_eq!(
+            self.library.permute(&mut self.noise, field, state),
+            number,
+            "the number"
+        );
         assert_eq!(*state, expected, "the state");
         self.answered("permute", number);
+        number
+    }
+
+    /// The generator by both. Gives the number and how many constants were found.
+    pub fn generate(&mut self, field: u32) -> (u32, usize) {
+        self.last = Box::new(("generate", field));
+        let expected = Independent.generate(&mut self.noise, field);
+        let answer = self.library.generate(&mut self.noise, field);
+        assert_eq!(answer, expected, "the number, the places and how many were found");
+        self.answered("generate", answer.0);
+        (answer.0, answer.2)
     }
 
     /// A table of owners checked by both. Gives the number and the place.

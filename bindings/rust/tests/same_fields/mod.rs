@@ -5,6 +5,7 @@ macro_rules! same_fields {
     ($record:ident, $from:expr) => {
         $record {
             status: $from.status,
+            field: $from.field,
             state: $from.state,
             words: $from.words,
             count: $from.count,
