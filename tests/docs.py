@@ -114,9 +114,9 @@ def words(calls):
     return [(ABSORB if call[0] == "a" else 0) + int(call[1:]) for call in calls.split()]
 
 
-def opened(out, calls, separator):
+def opened(out, calls, separator, field=1):
     out.append(f"tag string {oracle.tag_string(words(calls), separator).hex()}")
-    number, record = oracle.start(words(calls), separator)
+    number, record = oracle.start(words(calls), separator, field)
     refuse(number)
     return Session(record)
 
@@ -140,6 +140,18 @@ def element(out):
     session.absorb([7])
     out.append(f"challenge {session.squeeze(1)[0]}")
     session.finish()
+
+
+def fields(out):
+    for field, name in ((1, "BabyBear"), (2, "KoalaBear")):
+        separator, prime = b"field %d" % field, oracle.PRIME[field]
+        session = opened([], "a3 s2", separator, field)
+        out.append(f"tag string {bytes_of(oracle.tag_string(words('a3 s2'), separator))}")
+        session.absorb([1, 2])
+        out.append(f"{name}: {prime} is {refusal(session.absorb, [prime])}")
+        session.absorb([prime - 1])
+        out.append(f"{prime - 1} is absorbed, challenges {session.squeeze(2)}")
+        session.finish()
 
 
 def pattern(out):

@@ -1,8 +1,10 @@
-//! An element is a whole number from 0 to 2013265920.
+//! An element is a whole number below the prime of its field.
 
 mod opening;
 
-use tuilarder::{Call::*, Refusal, PRIME};
+use tuilarder::{Call::*, Field, Refusal};
+
+const PRIME: u32 = Field::BabyBear.prime();
 
 fn main() -> Result<(), Refusal> {
     let mut session = opening::open(&[Absorb(2), Squeeze(1)], b"element")?;

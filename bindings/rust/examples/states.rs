@@ -1,6 +1,6 @@
 //! A session whose record is printed after each call. docs/session_picture.py draws it.
 
-use tuilarder::{Call::*, Pattern, Refusal, Session};
+use tuilarder::{Call::*, Field, Pattern, Protocol, Refusal, Session};
 
 fn print(call: &str, session: &Session) {
     let record = session.record();
@@ -12,7 +12,7 @@ fn print(call: &str, session: &Session) {
 
 fn main() -> Result<(), Refusal> {
     let pattern = Pattern::new(&[Absorb(10), Squeeze(3), Absorb(2), Squeeze(2)])?;
-    let mut session = Session::start(&pattern, b"picture")?;
+    let mut session = Protocol::new(Field::BabyBear, &pattern, b"picture")?.start();
     print("START", &session);
     session.absorb(&[1, 2, 3, 4, 5, 6, 7, 8])?;
     print("ABSORB 8", &session);

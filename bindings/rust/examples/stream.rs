@@ -3,7 +3,9 @@
 
 mod opening;
 
-use tuilarder::{Call::*, Refusal, PRIME};
+use tuilarder::{Call::*, Field, Refusal};
+
+const PRIME: u32 = Field::BabyBear.prime();
 
 fn stream(key: &[u32; 8], nonce: &[u32; 2]) -> Result<[u32; 5], Refusal> {
     let mut session = opening::open(&[Absorb(8), Absorb(2), Squeeze(5)], b"cipher")?;
