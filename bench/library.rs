@@ -4,15 +4,16 @@
 #[path = "../bindings/rust/src/ffi.rs"]
 pub mod ffi;
 
-// Stops unless the other commit's library has the layout that the declarations are for.
+// Stops unless the other commit's library has the layout that the declarations are for. One of another version has no such function, so that a job
+// which calls this is not linked with it.
 pub fn check_layout() {
     #[cfg(before)]
     {
         extern "C" {
-            fn before_tuilarder_layout_1() -> u64;
+            fn before_tuilarder_layout_2() -> u64;
         }
         // SAFETY: it takes nothing.
-        assert_eq!(unsafe { before_tuilarder_layout_1() }, ffi::LAYOUT);
+        assert_eq!(unsafe { before_tuilarder_layout_2() }, ffi::LAYOUT);
     }
 }
 
@@ -25,7 +26,7 @@ macro_rules! libraries {
         }
 
         impl Library {
-            #[cfg(before)]
+            #[cfg(all(before, not(before_version_1)))]
             const BEFORE: Library = {
                 extern "C" {
                     $(#[link_name = concat!("before_", stringify!($function))]
@@ -37,10 +38,11 @@ macro_rules! libraries {
             const NOW: Library = Library { name: "library", $($function: library::ffi::$function,)* };
 
             // The last is what all ways are compared with.
+            #[allow(dead_code)]
             fn all() -> &'static [Library] {
                 library::check_layout();
                 &[
-                    #[cfg(before)]
+                    #[cfg(all(before, not(before_version_1)))]
                     Library::BEFORE,
                     Library::NOW,
                 ]

@@ -18,8 +18,12 @@ use std::hint::black_box;
 
 const ABSORB: u32 = 1 << 31;
 
+// The numbers of the fields.
+const BABY_BEAR: u32 = 1;
+const KOALA_BEAR: u32 = 2;
+
 libraries! {
-    tuilarder_start(*mut Record, *const u32, usize, *const u8, usize) -> u32;
+    tuilarder_start(*mut Record, u32, *const u32, usize, *const u8, usize) -> u32;
     tuilarder_absorb(*mut Record, *const u32, usize) -> u32;
     tuilarder_squeeze(*mut Record, *mut u32, usize) -> u32;
     tuilarder_finish(*mut Record) -> u32;
@@ -28,10 +32,11 @@ libraries! {
 
 // SAFETY of the library's functions: each gets a record and lists that are valid for their lengths, and apart.
 impl Library {
-    fn start(&self, words: &[u32], separator: &[u8]) -> Record {
+    fn start(&self, field: u32, words: &[u32], separator: &[u8]) -> Record {
         let mut record = Record::WIPED;
+        let (separator, separator_length) = (separator.as_ptr(), separator.len());
         let number =
-            unsafe { (self.tuilarder_start)(&mut record, words.as_ptr(), words.len(), separator.as_ptr(), separator.len()) };
+            unsafe { (self.tuilarder_start)(&mut record, field, words.as_ptr(), words.len(), separator, separator_length) };
         assert_eq!(number, 0);
         record
     }
@@ -45,8 +50,8 @@ impl Library {
     }
 
     // START, and the first phases of the pattern.
-    fn reach(&self, words: &[u32], phases: usize) -> Record {
-        let mut record = self.start(words, b"AB");
+    fn reach(&self, field: u32, words: &[u32], phases: usize) -> Record {
+        let mut record = self.start(field, words, b"AB");
         for word in &words[..phases] {
             let mut list = vec![7; (word % ABSORB) as usize];
             if *word >= ABSORB {
@@ -59,9 +64,9 @@ impl Library {
     }
 
     // A whole session that absorbs the elements and squeezes eight.
-    fn hash(&self, elements: &[u32]) -> [u32; 8] {
+    fn hash(&self, field: u32, elements: &[u32]) -> [u32; 8] {
         let mut out = [0; 8];
-        let mut record = self.start(&[ABSORB + elements.len() as u32, 8], b"hash");
+        let mut record = self.start(field, &[ABSORB + elements.len() as u32, 8], b"hash");
         self.absorb(&mut record, elements);
         self.squeeze(&mut record, &mut out);
         assert_eq!(unsafe { (self.tuilarder_finish)(&mut record) }, 0);
@@ -83,8 +88,8 @@ fn session_of(record: &Record) -> Session {
     same_fields!(Session, record)
 }
 
-fn independent_start(words: &[u32], separator: &[u8]) -> Session {
-    let (number, record) = independent::start(words, separator);
+fn independent_start(field: u32, words: &[u32], separator: &[u8]) -> Session {
+    let (number, record) = independent::start(field, words, separator);
     assert_eq!(number, 0);
     record
 }
@@ -93,9 +98,9 @@ fn independent_absorb(record: &mut Session, elements: &[u32]) {
     assert_eq!(independent::absorb(record, elements), 0);
 }
 
-fn independent_hash(elements: &[u32]) -> [u32; 8] {
+fn independent_hash(field: u32, elements: &[u32]) -> [u32; 8] {
     let mut out = [0; 8];
-    let mut record = independent_start(&[ABSORB + elements.len() as u32, 8], b"hash");
+    let mut record = independent_start(field, &[ABSORB + elements.len() as u32, 8], b"hash");
     independent_absorb(&mut record, elements);
     assert_eq!(independent::squeeze(&mut record, &mut out), 0);
     assert_eq!(independent::finish(&mut record), 0);
@@ -103,12 +108,12 @@ fn independent_hash(elements: &[u32]) -> [u32; 8] {
 }
 
 fn start(job: &str, words: &[u32], separator: &[u8]) {
-    let expected = independent_start(words, separator);
-    let independent = || { black_box(independent_start(black_box(words), separator)); };
+    let expected = independent_start(BABY_BEAR, words, separator);
+    let independent = || { black_box(independent_start(BABY_BEAR, black_box(words), separator)); };
     let mut ways = vec![Way::new("independent Rust", independent)];
     for library in Library::all() {
-        assert_eq!(session_of(&library.start(words, separator)), expected);
-        ways.push(Way::new(library.name, || { black_box(library.start(black_box(words), separator)); }));
+        assert_eq!(session_of(&library.start(BABY_BEAR, words, separator)), expected);
+        ways.push(Way::new(library.name, || { black_box(library.start(BABY_BEAR, black_box(words), separator)); }));
     }
     compare(&format!("START, {job}"), 1000, ways);
 }
@@ -130,8 +135,8 @@ fn write_tag(job: &str, words: &[u32], separator: &[u8]) {
 }
 
 // Each call gets its own copy of the record at that place, and permutes nothing.
-fn absorb_one(job: &str, words: &[u32], phases: usize) {
-    let reached = Library::NOW.reach(words, phases);
+fn absorb_one(job: &str, field: u32, words: &[u32], phases: usize) {
+    let reached = Library::NOW.reach(field, words, phases);
     let independent = session_of(&reached);
     let mut expected = independent.clone();
     independent_absorb(&mut expected, &[7]);
@@ -153,12 +158,12 @@ fn absorb_one(job: &str, words: &[u32], phases: usize) {
     compare(job, 10_000, ways);
 }
 
-fn hash(job: &str, elements: &[u32]) {
-    let expected = independent_hash(elements);
-    let mut ways = vec![Way::new("independent Rust", || { black_box(independent_hash(black_box(elements))); })];
+fn hash(job: &str, field: u32, elements: &[u32]) {
+    let expected = independent_hash(field, elements);
+    let mut ways = vec![Way::new("independent Rust", || { black_box(independent_hash(field, black_box(elements))); })];
     for library in Library::all() {
-        assert_eq!(library.hash(elements), expected);
-        ways.push(Way::new(library.name, || { black_box(library.hash(black_box(elements))); }));
+        assert_eq!(library.hash(field, elements), expected);
+        ways.push(Way::new(library.name, || { black_box(library.hash(field, black_box(elements))); }));
     }
     compare(job, 1, ways);
 }
@@ -168,7 +173,7 @@ fn growth() {
     for count in [1, 10, 100, 1_000, 10_000, 100_000] {
         let elements: Vec<u32> = (0..count).collect();
         let permutations = u64::from(count.div_ceil(8));
-        let call = || { black_box(Library::NOW.hash(black_box(&elements))); };
+        let call = || { black_box(Library::NOW.hash(BABY_BEAR, black_box(&elements))); };
         let time = medians(1 + 1000 / count, &mut [Way::new("library", call)])[0];
         println!("{count:>20}{permutations:>14}{time:>14.0}{:>19.0}", time / permutations as f64);
     }
@@ -186,7 +191,7 @@ fn neighbours(count: usize) -> Vec<u32> {
     words
 }
 
-// A separator has 2 bytes unless its length is named.
+// A separator has 2 bytes unless its length is named, and the field is BabyBear unless another is.
 fn main() {
     let longest = alternating(64);
     for (job, words) in [
@@ -199,8 +204,11 @@ fn main() {
         write_tag(job, &words, b"AB");
     }
     start("64 words, separator of 256 bytes", &longest, &[7; 256]);
-    absorb_one("ABSORB of 1 element, 2 words", &[ABSORB + 8, 8], 0);
-    absorb_one("ABSORB of 1 element, in phase 62 of 64", &longest, 62);
-    hash("a session that hashes 1,000 elements to 8", &(0..1000).collect::<Vec<u32>>());
+    absorb_one("ABSORB of 1 element, 2 words", BABY_BEAR, &[ABSORB + 8, 8], 0);
+    absorb_one("ABSORB of 1 element, 2 words, KoalaBear", KOALA_BEAR, &[ABSORB + 8, 8], 0);
+    absorb_one("ABSORB of 1 element, in phase 62 of 64", BABY_BEAR, &longest, 62);
+    let elements: Vec<u32> = (0..1000).collect();
+    hash("a session that hashes 1,000 elements to 8", BABY_BEAR, &elements);
+    hash("the same, KoalaBear", KOALA_BEAR, &elements);
     growth();
 }
