@@ -424,7 +424,7 @@ C = of(
      "`status` and `field` exchanged, in the assertions too"),
     ("c_member_signed", "uint32_t count;", "int32_t count;", "a member is signed"),
     ("c_member_field_signed", "    uint32_t field;\n", "    int32_t field;\n", "the field's number is signed"),
-    ("c_permutations_32_bits", "uint64_t permutations;", "uint32_t permutations, above;", "the count has 32 bits"),
+    ("c_permutations_32_bits", "uint64_t permutations;", "uint32_t below, permutations, above;", "the count has 32 bits"),
     ("c_offset", "TUILARDER_MEMBER_AT(words, 104)", "TUILARDER_MEMBER_AT(words, 100)", "a wrong offset"),
     ("c_size", "== 392)", "== 388)", "a wrong size"),
     ("c_offset_unasserted", "TUILARDER_MEMBER_AT(phase, 364);\n", "", "an offset is not asserted"),
