@@ -17,9 +17,9 @@ use stored::{bytes_of, Line};
 use tuilarder::ffi::Record;
 
 const PROGRAM: &str = "session_vectors";
-const LINES: usize = 7660;
-const CALLS: usize = 6936;
-const RECORDS: usize = 724;
+const LINES: usize = 8609;
+const CALLS: usize = 7581;
+const RECORDS: usize = 1028;
 
 /// A record as its three lists: the numbers with the permutations as two words, the state, and the pattern words.
 type Lists = [Vec<u32>; 3];
