@@ -20,7 +20,6 @@ use Rattle.field.proofs.Moduli as moduli
 use Rattle.poseidon_tables.specs.Tables.{inverses}
 use Rattle.poseidon_tables.proofs.Entries.{inverses-rule}
 use Rattle.poseidon.specs.Permutation.{Parameters, round, permutation, parameters, permuted}
-use Rattle.poseidon.specs.declared.Permuted.{Permuted}
 use Rattle.poseidon.proofs.Bounds.{multiplied}
 use Rattle.poseidon.proofs.Remainders.{round-congruent}
 use Rattle.pattern.specs.Opening.{Opening, openingNumber}

@@ -16,7 +16,6 @@ use Rattle.poseidon.specs.Permutation.{matrix, permutation, parameters}
 use Rattle.poseidon.proofs.Bounds.{permutation-state}
 use Rattle.poseidon.proofs.Matrix as rows
 use Rattle.generator.specs.Generator.{firstRegister, found, generation}
-use Rattle.generator.specs.declared.Generated.{Generated}
 use Rattle.generated_table.specs.GeneratedTable as table
 use Rattle.keccak_tables.specs.Tables.{offsets, roundConstants}
 use Rattle.keccak_tables.specs.TableRules.{offsetsByRule, roundConstantsByRule}

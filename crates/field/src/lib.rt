@@ -12,6 +12,7 @@ pub enum Field {
 
 // The field numbers, by which callers name the fields.
 const BABY_BEAR: u32 = 1;
+
 const KOALA_BEAR: u32 = 2;
 
 // Whether a number names a field.

@@ -15,7 +15,6 @@ use Rattle.field.specs.declared.Field.{Field}
 use Rattle.field.specs.declared.Field.the-variants.{BabyBear, KoalaBear}
 use Rattle.poseidon_tables.specs.Tables.{constants, babyBearConstants, koalaBearConstants}
 use Rattle.generator.specs.Generator.{firstRegister, newBits, outputBits, candidates, kept, found, constantCount, generated, withConstants, generation}
-use Rattle.generator.specs.declared.Generated.{Generated}
 use Rattle.generated_table.specs.OnNumbers.{bitsOf, next, step, after, after-bound, dropped, emitted, valueAfter, sizeAfter, run, run-is}
 
 -- the register at its start

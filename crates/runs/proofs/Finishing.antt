@@ -16,7 +16,6 @@ use Rattle.basics.proofs.Cases.{cases, and-left, and-right, and-both}
 use Rattle.field.specs.Field.{fieldOf, isElement}
 use Rattle.words.specs.Words.{isAbsorb}
 use Rattle.pattern.specs.Pattern.{phases}
-use Rattle.poseidon.specs.Permutation.{parameters}
 use Rattle.sponge.specs.Sponge.{absorbElement, squeezeElement}
 use Rattle.sponge.specs.declared.Sponge.{Sponge}
 use Rattle.session.specs.Record.{opened, spongeOf, moved, nextPlaceOf, absorbOne, squeezeOne, absorbAll, squeezeAll, fieldIn, parametersIn}

@@ -3,7 +3,6 @@
 use mathlib.Core.Path.{_≡_, refl}
 use mathlib.Core.Bool.{true}
 use Prim.Native.Nat.{ℕ, zero, suc}
-use lib.Dec.{lit<}
 use Rattle.basics.specs.Logic.{all}
 use Rattle.basics.proofs.Cases.{and-both}
 use Rattle.field.specs.Field.{isElement}

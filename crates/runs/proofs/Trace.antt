@@ -10,7 +10,6 @@ use lib.ListN.{length}
 use Rattle.basics.specs.Logic.{if_then_else_, _or_}
 use Rattle.basics.specs.Numbers.{accepted}
 use Rattle.basics.proofs.Cases.{if-true, if-false}
-use Rattle.poseidon.specs.Permutation.{parameters}
 use Rattle.sponge.specs.Sponge.{absorbElement, squeezeElement}
 use Rattle.session.specs.Record.{wiped, spongeOf, absorbOne, squeezeOne, squeezedOne, absorbAll, squeezeAll, squeezedAll, parametersIn}
 use Rattle.basics.specs.Refusals.{firstNumber}

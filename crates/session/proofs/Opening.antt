@@ -13,7 +13,6 @@ use Rattle.field.specs.Field.{isField}
 use Rattle.pattern.specs.Opening.{Opening, openingNumber}
 use Rattle.session.specs.Record.{wiped}
 use Rattle.session.specs.Calls.{giving, startRows, startNumber, startRecord, start}
-use Rattle.session.specs.declared.Answer.{Answer}
 
 module _ (field : ℕ) (o : Opening) where
   pub number-unknown : isField field ≡ false → startNumber field o ≡ fieldUnknown

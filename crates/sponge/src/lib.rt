@@ -38,12 +38,7 @@ fn next_position(position: u32) -> u32
 }
 
 // Adds an element at a position, and permutes first where that is RATE. Answers how many permutations that is.
-fn absorb_element(
-    field: Field,
-    state: &mut [u32; 24],
-    position: u32,
-    element: u32,
-) -> u64
+fn absorb_element(field: Field, state: &mut [u32; 24], position: u32, element: u32) -> u64
     ensures { λ r. ⌜ (r ≡ permutationsFor position) × (now (state .exit) ≡ stateWith (parameters field) position (now (state .entry)) element) ⌝ }
 {
     let permutations = permute_if_full(field, state, position);

@@ -5,7 +5,7 @@ use mathlib.Core.Bool.{Bool, true, false, not}
 use mathlib.Core.List.{List, [], _++_, append-assoc}
 use Prim.Native.Nat.{ℕ, _+_, _-_, _*_, _≤_}
 use native.Mathlib.Omega.{arith}
-use lib.ListN.{length, take, drop, replicate, length-take, length-replicate, replicate-append-replicate}
+use lib.ListN.{length, drop, replicate, length-take, length-replicate, replicate-append-replicate}
 use lib.Seq.{length-take-le, drop-at}
 use Rattle.basics.specs.Lists.{zeroPadded}
 use Rattle.basics.specs.Numbers.{accepted, fieldUnknown}

@@ -1,7 +1,6 @@
 -- `poseidon::permutation` meets its contract.
 -- Assumes nothing.
 use mathlib.Core.Path.{_∙_, ap}
-use lib.Dec.{lit<}
 use Rattle.field.specs.Field.{modulus}
 use Rattle.field.proofs.Moduli.{positive}
 use Rattle.poseidon.specs.Permutation.{permutation, parameters}

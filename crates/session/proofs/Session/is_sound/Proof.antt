@@ -6,7 +6,7 @@ use borrow.Author.Tests.{eq-eqb, ne-eqb, not-true, not-false}
 use lib.Dec.{eqb}
 use Rattle.basics.specs.Logic.{all}
 use Rattle.basics.proofs.Cases.{and-step, and-stop}
-use Rattle.field.specs.Field.{isField, fieldOf, isElement}
+use Rattle.field.specs.Field.{isField, isElement}
 use Rattle.field.specs.declared.Field.{Field}
 use Rattle.pattern.specs.Pattern.{soundPlaces}
 use Rattle.counters.specs.Permutations.{permutationsAt}
