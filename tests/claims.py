@@ -224,7 +224,7 @@ def mistakes():
         ("crates/field/specs/Field.antt", "\n\n", "\n\n-- one line more\n", "-| 1. The words"),
         ("crates/field/must-fail/sum_of_first.edit", "of: field::add\n", "", "field/sum_of_first: no line"),
         ("crates/field/must-fail/sum_of_first.edit", "of: field::add\n", "of: field::sum\n", "field/sum_of_first: not in the tree: field::sum"),
-        ("crates/field/must-fail/sum_of_first.edit", "of: field::add\n", "of: field::mul\n", "fewer than two edits of field::add"),
+        ("crates/field/must-fail/wide_product_of_first.edit", "of: field::wide_mul\n", "of: field::mul\n", "fewer than two edits of field::wide_mul"),
         ("crates/field/must-fail/sum_of_first.edit", "file: src/", "file: proofs/", "changes neither"),
         ("crates/field/src/lib.rt", "\npub fn ", "\npub fn untold() {}\n\npub fn ", "fewer than two edits of field::untold"),
         *public_mistakes(),
