@@ -2,6 +2,7 @@
 ghost use mathlib.Core.Path.{_≡_};
 ghost use Prim.Native.Nat.{_+_, _*_, _%_, _^_};
 ghost use Rattle.basics.specs.Logic.{all};
+ghost use Rattle.field.specs.declared.Field.the-variants.{BabyBear, KoalaBear};
 ghost use Rattle.field.specs.Field.{modulus, power, partialRounds, isField, fieldOf, isElement};
 
 // The two fields.
@@ -84,15 +85,34 @@ pub fn mul(field: Field, a: u32, b: u32) -> u32
     reduce(field, wide_mul(a, b))
 }
 
-// The field's power modulo p: the seventh in four products, the third in two.
+// The seventh power in BabyBear, in four products.
+fn seventh_power(a: u32) -> u32
+    ensures { λ r. ⌜ r ≡ a ^ 7 % modulus BabyBear ⌝ }
+{
+    let square = mul(Field::BabyBear, a, a);
+    let cube = mul(Field::BabyBear, square, a);
+    mul(
+        Field::BabyBear,
+        mul(Field::BabyBear, square, square),
+        cube,
+    )
+}
+
+// The third power in KoalaBear, in two products.
+fn third_power(a: u32) -> u32
+    ensures { λ r. ⌜ r ≡ a ^ 3 % modulus KoalaBear ⌝ }
+{
+    let square = mul(Field::KoalaBear, a, a);
+    mul(Field::KoalaBear, square, a)
+}
+
+// The field's power modulo p. It looks at the field once, and not in each product.
 pub fn power(field: Field, a: u32) -> u32
     ensures { λ r. ⌜ r ≡ a ^ power field % modulus field ⌝ }
 {
-    let square = mul(field, a, a);
-    let cube = mul(field, square, a);
     match field {
-        Field::BabyBear => mul(field, mul(field, square, square), cube),
-        Field::KoalaBear => cube,
+        Field::BabyBear => seventh_power(a),
+        Field::KoalaBear => third_power(a),
     }
 }
 

@@ -92,11 +92,11 @@ fn term(table: &[u32], place: usize, state: &[u32; 24], j: usize) -> u64
     field::wide_mul(table[place], state[j])
 }
 
-// A row of the matrix times the state, where the row is the 24 numbers of a table from start on.
+// A row of the matrix times the state, not reduced, where the row is the 24 numbers of a table from start on.
 // Four products are summed at a time, and then their low and high 32 bits apart.
-fn row_product(field: Field, table: &[u32], start: usize, state: &[u32; 24]) -> u32
+fn row_sum(field: Field, table: &[u32], start: usize, state: &[u32; 24]) -> u64
     requires { ⌜ (start + 24 ≤ length (now table)) × Below largest (now table) × Below largest (now state) ⌝ }
-    ensures { λ r. ⌜ r ≡ sum 24 (λ j. getD (now (table .entry)) (start + j) 0 * getD (now (state .entry)) j 0) % modulus field ⌝ }
+    ensures { λ r. ⌜ r % modulus field ≡ sum 24 (λ j. getD (now (table .entry)) (start + j) 0 * getD (now (state .entry)) j 0) % modulus field ⌝ }
 {
     let mut low: u64 = 0;
     let mut high: u64 = 0;
@@ -112,21 +112,43 @@ fn row_product(field: Field, table: &[u32], start: usize, state: &[u32; 24]) -> 
         j += 4;
     }
     let word = word(field);
-    field::reduce(field, high * word + low)
+    high * word + low
 }
 
-// The matrix times the state: the row i of the matrix is the 24 inverses from place i on.
-fn multiply(field: Field, state: &[u32; 24], table: &[u32; 47]) -> [u32; 24]
+// The rows of the matrix times the state, not reduced: the row i of the matrix is the 24 inverses from place i on.
+fn row_sums(field: Field, state: &[u32; 24], table: &[u32; 47]) -> [u64; 24]
     requires { ⌜ (now table ≡ inverses field) × Below (modulus field) (now state) ⌝ }
-    ensures { λ r. ⌜ r ≡ multiply (parameters field) (now (state .entry)) ⌝ }
+    ensures { λ r. ⌜ remainders (modulus field) r ≡ multiply (parameters field) (now (state .entry)) ⌝ }
+{
+    let mut out = [0u64; 24];
+    let mut i: usize = 0;
+    while i < 24 {
+        out[i] = row_sum(field, table, i, state);
+        i += 1;
+    }
+    out
+}
+
+// The remainders of 24 sums. They have a loop of their own, since one that looks at the field is not compiled to sums of vectors.
+fn reduce_sums(field: Field, sums: &[u64; 24]) -> [u32; 24]
+    ensures { λ r. ⌜ r ≡ remainders (modulus field) (now (sums .entry)) ⌝ }
 {
     let mut out = [0u32; 24];
     let mut i: usize = 0;
     while i < 24 {
-        out[i] = row_product(field, table, i, state);
+        out[i] = field::reduce(field, sums[i]);
         i += 1;
     }
     out
+}
+
+// The matrix times the state.
+fn multiply(field: Field, state: &[u32; 24], table: &[u32; 47]) -> [u32; 24]
+    requires { ⌜ (now table ≡ inverses field) × Below (modulus field) (now state) ⌝ }
+    ensures { λ r. ⌜ r ≡ multiply (parameters field) (now (state .entry)) ⌝ }
+{
+    let sums = row_sums(field, state, table);
+    reduce_sums(field, &sums)
 }
 
 // All rounds, with the field's constants to add and inverses to multiply by.
