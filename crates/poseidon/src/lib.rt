@@ -84,17 +84,18 @@ fn raise(field: Field, state: &[u32; 24], round: usize) -> [u32; 24]
     raise_all(field, state)
 }
 
-// One product of a row of the matrix with the state: at most (p - 1)^2 with the larger p, so that four of them fit 64 bits.
-fn term(table: &[u32], place: usize, state: &[u32; 24], j: usize) -> u64
+// One product of a row of the matrix with the state: at most (p - 1)^2 with the larger p, so that four of them fit 64 bits. Its remainder is the table's
+// number itself, and tells the compiler that the factors have 32 bits.
+fn term(table: &[u64], place: usize, state: &[u32; 24], j: usize) -> u64
     requires { ⌜ (place < length (now table)) × (j < 24) × Below largest (now table) × Below largest (now state) ⌝ }
     ensures { λ r. ⌜ (r ≡ getD (now (table .entry)) place 0 * getD (now (state .entry)) j 0) × (r ≤ 4539909899366170624) ⌝ }
 {
-    field::wide_mul(table[place], state[j])
+    (table[place] % 4294967296) * state[j] as u64
 }
 
 // A row of the matrix times the state, not reduced, where the row is the 24 numbers of a table from start on.
 // Four products are summed at a time, and then their low and high 32 bits apart.
-fn row_sum(field: Field, table: &[u32], start: usize, state: &[u32; 24]) -> u64
+fn row_sum(field: Field, table: &[u64], start: usize, state: &[u32; 24]) -> u64
     requires { ⌜ (start + 24 ≤ length (now table)) × Below largest (now table) × Below largest (now state) ⌝ }
     ensures { λ r. ⌜ r % modulus field ≡ sum 24 (λ j. getD (now (table .entry)) (start + j) 0 * getD (now (state .entry)) j 0) % modulus field ⌝ }
 {
@@ -116,7 +117,7 @@ fn row_sum(field: Field, table: &[u32], start: usize, state: &[u32; 24]) -> u64
 }
 
 // The rows of the matrix times the state, not reduced: the row i of the matrix is the 24 inverses from place i on.
-fn row_sums(field: Field, state: &[u32; 24], table: &[u32; 47]) -> [u64; 24]
+fn row_sums(field: Field, state: &[u32; 24], table: &[u64; 47]) -> [u64; 24]
     requires { ⌜ (now table ≡ inverses field) × Below (modulus field) (now state) ⌝ }
     ensures { λ r. ⌜ remainders (modulus field) r ≡ multiply (parameters field) (now (state .entry)) ⌝ }
 {
@@ -143,7 +144,7 @@ fn reduce_sums(field: Field, sums: &[u64; 24]) -> [u32; 24]
 }
 
 // The matrix times the state.
-fn multiply(field: Field, state: &[u32; 24], table: &[u32; 47]) -> [u32; 24]
+fn multiply(field: Field, state: &[u32; 24], table: &[u64; 47]) -> [u32; 24]
     requires { ⌜ (now table ≡ inverses field) × Below (modulus field) (now state) ⌝ }
     ensures { λ r. ⌜ r ≡ multiply (parameters field) (now (state .entry)) ⌝ }
 {
@@ -152,7 +153,7 @@ fn multiply(field: Field, state: &[u32; 24], table: &[u32; 47]) -> [u32; 24]
 }
 
 // All rounds, with the field's constants to add and inverses to multiply by.
-fn rounds(field: Field, state: [u32; 24], added: &[u32], factors: &[u32; 47]) -> [u32; 24]
+fn rounds(field: Field, state: [u32; 24], added: &[u32], factors: &[u64; 47]) -> [u32; 24]
     requires { ⌜ (now added ≡ constants field) × (now factors ≡ inverses field) × Below (modulus field) state ⌝ }
     ensures { λ r. ⌜ r ≡ permutation (parameters field) state ⌝ }
 {

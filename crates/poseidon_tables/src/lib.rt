@@ -19,15 +19,15 @@ pub fn koala_bear_constants() -> [u32; 744]
     tables::KOALA_BEAR_CONSTANTS
 }
 
-// The inverse of k + 24 at place k, in BabyBear.
-pub fn baby_bear_inverses() -> [u32; 47]
+// The inverse of k + 24 at place k, in BabyBear. The inverses are factors of products of 64 bits, and so numbers of 64 bits.
+pub fn baby_bear_inverses() -> [u64; 47]
     ensures { λ r. ⌜ r ≡ inverses BabyBear ⌝ }
 {
     tables::BABY_BEAR_INVERSES
 }
 
 // The same in KoalaBear.
-pub fn koala_bear_inverses() -> [u32; 47]
+pub fn koala_bear_inverses() -> [u64; 47]
     ensures { λ r. ⌜ r ≡ inverses KoalaBear ⌝ }
 {
     tables::KOALA_BEAR_INVERSES

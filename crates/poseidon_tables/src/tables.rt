@@ -1449,7 +1449,7 @@ pub(crate) const KOALA_BEAR_CONSTANTS: [u32; 744] = [
 ];
 
 // BabyBear's inverses of 24 to 70.
-pub(crate) const BABY_BEAR_INVERSES: [u32; 47] = [
+pub(crate) const BABY_BEAR_INVERSES: [u64; 47] = [
     1929379841,
     1530082100,
     232299914,
@@ -1500,7 +1500,7 @@ pub(crate) const BABY_BEAR_INVERSES: [u32; 47] = [
 ];
 
 // KoalaBear's.
-pub(crate) const KOALA_BEAR_INVERSES: [u32; 47] = [
+pub(crate) const KOALA_BEAR_INVERSES: [u64; 47] = [
     621456043,
     255684772,
     573651732,
