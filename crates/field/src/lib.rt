@@ -91,11 +91,7 @@ fn seventh_power(a: u32) -> u32
 {
     let square = mul(Field::BabyBear, a, a);
     let cube = mul(Field::BabyBear, square, a);
-    mul(
-        Field::BabyBear,
-        mul(Field::BabyBear, square, square),
-        cube,
-    )
+    mul(Field::BabyBear, mul(Field::BabyBear, square, square), cube)
 }
 
 // The third power in KoalaBear, in two products.
