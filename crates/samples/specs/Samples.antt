@@ -1,4 +1,5 @@
--- Document 01's proved samples, as a single list that one test covers; the digests of B4 to B7 are computed beside it (`sample_records`).
+-- Document 01's proved samples, and B8 and B9 in document 02's second field as well, as a single list that one test covers; the digests of B4 to B7
+-- are computed beside it (`sample_records`).
 use mathlib.Core.Path.{_≡_, refl, _∙_}
 use mathlib.Core.Bool.{Bool, true, false}
 use mathlib.Core.List.{List, [], _∷_, _++_}
@@ -9,23 +10,25 @@ use Rattle.basics.specs.Logic.{if_then_else_, _and_, _or_, same, all, any}
 use Rattle.basics.specs.Lists.{tabulate, sum}
 use Rattle.basics.specs.Digits.{digits, number, numberAfter}
 use Rattle.basics.specs.Numbers.{accepted}
-use Rattle.field.specs.Field.{p}
+use Rattle.field.specs.Field.{modulus, isField, fieldOf}
+use Rattle.field.specs.declared.Field.{Field}
+use Rattle.field.specs.declared.Field.the-variants.{BabyBear, KoalaBear}
 use Rattle.basics.specs.Refusals.{firstNumber}
 use Rattle.words.specs.Words.{isAbsorb, lengthOf, phaseOf, wordOf}
 use Rattle.pattern.specs.Pattern.{join, merge, phases, mergedWords, alternate, soundWords, soundPlaces}
-use Rattle.pattern.specs.Opening.{opening, tooLong, wordRows, startRows, startNumber}
+use Rattle.pattern.specs.Opening.{opening, tooLong, wordRows, openingRows}
 use Rattle.tag.specs.TagString.{wordBytes, stringOf, tagString, wordAt}
 use Rattle.tag.specs.Elements.{tagElements}
 use Rattle.counters.specs.Permutations.{blockCount, phasePermutations, permutationsAt, fullPermutations}
-use Rattle.poseidon_tables.specs.Tables.{constants, inverses}
-use Rattle.poseidon.specs.Permutation.{addConstants, raiseAll, raiseFirst, raise, matrix, multiply, rounds, permutation, babyBear}
+use Rattle.poseidon_tables.specs.Tables.{constants, inverses, babyBearConstants, babyBearInverses, koalaBearInverses}
+use Rattle.poseidon.specs.Permutation.{addConstants, raiseAll, raiseFirst, raise, matrix, multiply, rounds, permutation, parameters}
 use Rattle.sponge.specs.Sponge.{readyToAbsorb, absorbElement, readyToSqueeze, squeezedElement, squeezeElement}
 use Rattle.session.specs.Record.{tagState, wiped, openRecord, spongeOf, moved}
 use Rattle.session.specs.Record.{absorbOne, squeezeOne, squeezedOne, absorbAll, squeezeAll}
 use Rattle.counters.specs.Positions.{inLastBlock, positionsAfter, positionsAt}
 use Rattle.progress.specs.Place.{soundPlace, inPattern, nextPlace}
 use Rattle.session.specs.Soundness.{sound}
-use Rattle.session.specs.Calls.{giving, recordRows, callRows, absorbRows, finishRows, wipes, answerOf, start, absorb, squeeze, finish}
+use Rattle.session.specs.Calls.{giving, recordRows, callRows, absorbRows, finishRows, wipes, answerOf, startRows, startNumber, start, absorb, squeeze, finish}
 use Rattle.session.specs.declared.Session.{Session}
 use Rattle.runs.specs.Calls.{Call, ABSORB, SQUEEZE, answered, left, leftBy}
 use Rattle.sample_records.specs.SampleRecords.{record4, record5, record6, record7, started4, started5, started6, started7}
@@ -40,15 +43,15 @@ sameList (x ∷ xs) (y ∷ ys) = eqb x y and sameList xs ys
 -- "B1 80000003 80000003 00000003, separator 4142: 80000006000000034142."
 b1 : List Bool
 b1 =
-    eqb (startNumber (opening (0x80000003 ∷ 0x80000003 ∷ 3 ∷ []) (0x41 ∷ 0x42 ∷ []))) accepted
+    eqb (startNumber 1 (opening (0x80000003 ∷ 0x80000003 ∷ 3 ∷ []) (0x41 ∷ 0x42 ∷ []))) accepted
     ∷ sameList (tagString (opening (0x80000003 ∷ 0x80000003 ∷ 3 ∷ []) (0x41 ∷ 0x42 ∷ []))) (0x80 ∷ 0 ∷ 0 ∷ 6 ∷ 0 ∷ 0 ∷ 0 ∷ 3 ∷ 0x41 ∷ 0x42 ∷ [])
     ∷ []
 
 -- "B2 80000001 00000001, separator 8000000200000002, gives the same string as 80000001 00000001 80000002 00000002 with none."
 b2 : List Bool
 b2 =
-    eqb (startNumber (opening (0x80000001 ∷ 1 ∷ []) (0x80 ∷ 0 ∷ 0 ∷ 2 ∷ 0 ∷ 0 ∷ 0 ∷ 2 ∷ []))) accepted
-    ∷ eqb (startNumber (opening (0x80000001 ∷ 1 ∷ 0x80000002 ∷ 2 ∷ []) [])) accepted
+    eqb (startNumber 1 (opening (0x80000001 ∷ 1 ∷ []) (0x80 ∷ 0 ∷ 0 ∷ 2 ∷ 0 ∷ 0 ∷ 0 ∷ 2 ∷ []))) accepted
+    ∷ eqb (startNumber 1 (opening (0x80000001 ∷ 1 ∷ 0x80000002 ∷ 2 ∷ []) [])) accepted
     ∷ sameList
     (tagString (opening (0x80000001 ∷ 1 ∷ []) (0x80 ∷ 0 ∷ 0 ∷ 2 ∷ 0 ∷ 0 ∷ 0 ∷ 2 ∷ [])))
     (tagString (opening (0x80000001 ∷ 1 ∷ 0x80000002 ∷ 2 ∷ []) []))
@@ -57,7 +60,7 @@ b2 =
 -- "B3 fffffffe 80000001 00000001: accepted, merged ffffffff 00000001."
 b3 : List Bool
 b3 =
-    eqb (startNumber (opening (0xfffffffe ∷ 0x80000001 ∷ 1 ∷ []) [])) accepted
+    eqb (startNumber 1 (opening (0xfffffffe ∷ 0x80000001 ∷ 1 ∷ []) [])) accepted
     ∷ sameList (mergedWords (0xfffffffe ∷ 0x80000001 ∷ 1 ∷ [])) (0xffffffff ∷ 1 ∷ [])
     ∷ []
 
@@ -99,50 +102,66 @@ b7 r =
 -- "B8 inverse of 24: 1929379841; of 32: 1950351361.": the products are 1, and the inverses stand in row 0 of the matrix, in columns 0 and 8.
 b8 : List Bool
 b8 =
-    eqb (24 * 1929379841 % p) 1
-    ∷ eqb (matrix babyBear 0 0) 1929379841
-    ∷ eqb (32 * 1950351361 % p) 1
-    ∷ eqb (matrix babyBear 0 8) 1950351361
+    eqb (24 * 1929379841 % modulus BabyBear) 1
+    ∷ eqb (matrix (parameters BabyBear) 0 0) 1929379841
+    ∷ eqb (32 * 1950351361 % modulus BabyBear) 1
+    ∷ eqb (matrix (parameters BabyBear) 0 8) 1950351361
+    ∷ []
+
+-- document 02: "the same 47 sums inverted in its own field": B8 modulo 2130706433
+b8InField2 : List Bool
+b8InField2 =
+    eqb (24 * 621456043 % modulus KoalaBear) 1
+    ∷ eqb (matrix (parameters KoalaBear) 0 0) 621456043
+    ∷ eqb (32 * 2064121857 % modulus KoalaBear) 1
+    ∷ eqb (matrix (parameters KoalaBear) 0 8) 2064121857
     ∷ []
 
 -- what a partial round raises x to
-raised : ℕ → ℕ
-raised x = getD (raiseFirst babyBear (x ∷ replicate 23 0)) 0 0
+raised : Field → ℕ → ℕ
+raised f x = getD (raiseFirst (parameters f) (x ∷ replicate 23 0)) 0 0
 
 -- "B9 seventh power of 2: 128; of p − 1: p − 1."
 b9 : List Bool
-b9 = eqb (raised 2) 128 ∷ eqb (raised (p - 1)) (p - 1) ∷ []
+b9 = eqb (raised BabyBear 2) 128 ∷ eqb (raised BabyBear (modulus BabyBear - 1)) (modulus BabyBear - 1) ∷ []
+
+-- document 02: "Field 2 uses the third power": of 2, of p − 1, and of 1287, the least number whose third power is above p
+b9InField2 : List Bool
+b9InField2 =
+    eqb (raised KoalaBear 2) 8 ∷ eqb (raised KoalaBear (modulus KoalaBear - 1)) (modulus KoalaBear - 1) ∷ eqb (raised KoalaBear 1287) 1040470 ∷ []
 
 -- "B10 digest word ffffffff: 1073741823.", at each of the eight words
 b10 : List Bool
 b10 = sameList (tagElements (replicate 32 0xff)) (replicate 8 1073741823) ∷ []
 
--- the tests of B1 to B10, with a record for each of B4 to B7
+-- all tests, with a record for each of B4 to B7
 samplesWith : Session → Session → Session → Session → List Bool
-samplesWith r4 r5 r6 r7 = b1 ++ b2 ++ b3 ++ b4 r4 ++ b5 r5 ++ b6 r6 ++ b7 r7 ++ b8 ++ b9 ++ b10
+samplesWith r4 r5 r6 r7 = b1 ++ b2 ++ b3 ++ b4 r4 ++ b5 r5 ++ b6 r6 ++ b7 r7 ++ b8 ++ b8InField2 ++ b9 ++ b9InField2 ++ b10
 
--- the record that START gives to words and the empty separator
+-- the record that START gives to field 1, words and the empty separator
 started : List ℕ → Session
-started ws = start (opening ws []) .session
+started ws = start 1 (opening ws []) .session
 
--- the tests of B1 to B10, where B4 to B7 run on the records that START gives to their words
+-- all tests, where those of B4 to B7 run on the records that START gives to their words
 pub samples : List Bool
 samples = samplesWith (started words4) (started words5) (started words6) (started words7)
 
 -- The tests pass on the records with computed digests.
 computed : all (λ sample. sample) (samplesWith record4 record5 record6 record7) ≡ true
-unfolding samplesWith b1 b2 b3 b4 b5 b6 b7 b8 b9 b10 sameList fullPermutations byCalls raised
+unfolding samplesWith b1 b2 b3 b4 b5 b6 b7 b8 b8InField2 b9 b9InField2 b10 sameList fullPermutations byCalls raised
     record4 record5 record6 record7 words4 words5 words6 words7 alternate soundWords soundPlaces
     all any _and_ _or_ if_then_else_ same tabulate sum digits number numberAfter
-    isAbsorb lengthOf phaseOf wordOf join merge phases mergedWords tooLong startNumber startRows wordRows firstNumber wordBytes stringOf tagString wordAt tagElements
-    constants inverses addConstants raiseAll raiseFirst raise matrix multiply rounds permutation babyBear
+    isAbsorb lengthOf phaseOf wordOf join merge phases mergedWords tooLong wordRows openingRows startRows startNumber isField firstNumber wordBytes stringOf tagString wordAt tagElements
+    fieldOf parameters constants inverses babyBearConstants babyBearInverses koalaBearInverses
+    addConstants raiseAll raiseFirst raise matrix multiply rounds permutation
     tagState readyToAbsorb absorbElement readyToSqueeze squeezedElement squeezeElement
     wiped openRecord spongeOf moved nextPlace absorbOne squeezeOne squeezedOne absorbAll squeezeAll
     blockCount phasePermutations permutationsAt inLastBlock positionsAfter positionsAt soundPlace sound
     giving inPattern recordRows callRows absorbRows finishRows wipes answerOf absorb squeeze finish answered left leftBy
 computed = refl
 
--- Every test of every sample passes, and there are 22: two of B1, three of B2, two each of B3 to B7, four of B8, two of B9 and one of B10.
-pub samples-hold : (length samples ≡ 22) × (all (λ sample. sample) samples ≡ true)
-unfolding samples samplesWith b1 b2 b3 b4 b5 b6 b7 b8 b9 b10 started words4 words5 words6 words7
+-- Every test of every sample passes, and there are 29: two of B1, three of B2, two each of B3 to B7, four of B8 and four in field 2, two of B9 and
+-- three in field 2, and one of B10.
+pub samples-hold : (length samples ≡ 29) × (all (λ sample. sample) samples ≡ true)
+unfolding samples samplesWith b1 b2 b3 b4 b5 b6 b7 b8 b8InField2 b9 b9InField2 b10 started words4 words5 words6 words7
 samples-hold = (refl, (λ i. all (λ sample. sample) (samplesWith (started4 i) (started5 i) (started6 i) (started7 i))) ∙ computed)
