@@ -2,28 +2,32 @@
 -- field number. What the generator does with one is in `Primitives`.
 use mathlib.Core.Path.{_≡_, refl, sym, ap, _∙_}
 use mathlib.Core.Bool.{true, false, not}
-use mathlib.Core.List.{List}
+use mathlib.Core.List.{List, [], _∷_}
 use mathlib.Core.Logic.{_≢_}
-use Prim.Native.Nat.{ℕ, _+_, _-_, _*_, _%_, _^_, _<_}
-use native.Mathlib.Nat.{mul-comm}
-use borrow.Author.Tests.{eq-eqb, ne-eqb}
-use lib.ListN.{length, getD}
+use Prim.Native.Nat.{ℕ, _+_, _-_, _*_, _%_, _^_, _≤_, _<_}
+use native.Mathlib.Nat.{mul-comm, mod-eq-of-lt}
+use native.Mathlib.Omega.{arith}
+use borrow.Author.Tests.{eq-eqb, ne-eqb, ltb-true, lt-ltb, le-ltb}
+use lib.ListN.{length, getD, set, replicate}
 use Rattle.basics.specs.Logic.{if_then_else_, _or_, all}
-use Rattle.basics.specs.Lists.{Below}
+use Rattle.basics.specs.Lists.{Below, tabulate, sum}
 use Rattle.basics.specs.Numbers.{accepted, recordNotSound, elementNotReduced, fieldUnknown}
 use Rattle.basics.proofs.Cases.{if-true, if-false, or-neither, and-stop}
+use Rattle.basics.proofs.Fill.{tabulate-at}
 use Rattle.field.specs.Field.{modulus, power, partialRounds, isField, fieldOf, isElement}
 use Rattle.field.specs.declared.Field.{Field}
 use Rattle.field.specs.declared.Field.the-variants.{BabyBear, KoalaBear}
 use Rattle.field.proofs.Congruence as congruence
 use Rattle.field.proofs.Moduli as moduli
-use Rattle.poseidon_tables.specs.Tables.{inverses}
+use Rattle.poseidon_tables.specs.Tables.{constants, inverses, babyBearConstants, koalaBearConstants, babyBearInverses, koalaBearInverses}
 use Rattle.poseidon_tables.proofs.Entries.{inverses-rule}
-use Rattle.poseidon.specs.Permutation.{Parameters, round, permutation, parameters, permuted}
+use Rattle.poseidon.specs.Permutation.{Parameters, addConstants, raiseAll, raiseFirst, raise, matrix, multiply, round, rounds, permutation, parameters, permuted}
 use Rattle.poseidon.proofs.Bounds.{multiplied}
 use Rattle.poseidon.proofs.Remainders.{round-congruent}
 use Rattle.pattern.specs.Opening.{Opening, openingNumber}
-use Rattle.session.specs.Record.{wiped, opened, openRecord}
+use Rattle.sponge.specs.Sponge.{readyToAbsorb, absorbElement, readyToSqueeze, squeezedElement}
+use Rattle.sponge.specs.declared.Sponge.{Sponge}
+use Rattle.session.specs.Record.{wiped, opened, openRecord, spongeOf, moved, absorbOne, squeezedOne}
 use Rattle.session.specs.Soundness.{sound}
 use Rattle.session.specs.Calls.{giving, startRecord, start}
 use Rattle.session.specs.declared.Session.{Session}
@@ -54,6 +58,35 @@ figures-of-field-1 = (refl, moduli.p-by-power-of-two, refl, refl)
 -- "2130706433 = 2^31 − 2^24 + 1"; "Field 2 uses the third power, 4 full, 23 partial and 4 full rounds"
 pub figures-of-field-2 : (modulus KoalaBear ≡ 2130706433) × (modulus KoalaBear ≡ 2 ^ 31 - 2 ^ 24 + 1) × (power KoalaBear ≡ 3) × (partialRounds KoalaBear ≡ 23)
 figures-of-field-2 = (refl, moduli.p-by-powers-of-two, refl, refl)
+
+-- "An element is a whole number from 0 to 2013265920." (document 00), and in field 2 from 0 to 2130706432: the numbers below p.
+pub elements-are-below-p : (f : Field) (x : ℕ) → (isElement f x ≡ true → x < modulus f) × (x < modulus f → isElement f x ≡ true)
+elements-are-below-p f x = (ltb-true x (modulus f), lt-ltb x (modulus f))
+
+-- The parameters of each field's permutation are its own figures and tables.
+pub parameters-of-each-field : (f : Field)
+    → (parameters f .modulus ≡ modulus f) × (parameters f .power ≡ power f) × (parameters f .partialRounds ≡ partialRounds f)
+    × (parameters f .constants ≡ constants f) × (parameters f .inverses ≡ inverses f)
+unfolding parameters
+parameters-of-each-field f = (refl, refl, refl, refl, refl)
+
+-- "One permutation is 29 rounds"; in field 2 "4 full, 23 partial and 4 full rounds" are 31.
+pub rounds-of-each-permutation : (s : List ℕ)
+    → (permutation (parameters BabyBear) s ≡ rounds (parameters BabyBear) 29 s) × (permutation (parameters KoalaBear) s ≡ rounds (parameters KoalaBear) 31 s)
+unfolding permutation parameters
+rounds-of-each-permutation s = (refl, refl)
+
+-- The first four rounds and those behind the partial ones raise all elements; the partial ones, 21 or 23, element 0 alone.
+pub full-and-partial-rounds : (f : Field) (r : ℕ) (s : List ℕ)
+    → (r < 4 → raise (parameters f) r s ≡ raiseAll (parameters f) s)
+    × (4 ≤ r → r < 4 + partialRounds f → raise (parameters f) r s ≡ raiseFirst (parameters f) s)
+    × (4 + partialRounds f ≤ r → raise (parameters f) r s ≡ raiseAll (parameters f) s)
+unfolding raise parameters
+full-and-partial-rounds f r s = (
+  λ l. if-true _ _ _ (lt-ltb r 4 l),
+  λ h l. if-false _ _ _ (le-ltb r 4 h) ∙ if-true _ _ _ (lt-ltb r _ l),
+  λ h. if-false _ _ _ (le-ltb r 4 (omega arith)) ∙ if-false _ _ _ (le-ltb r _ h),
+)
 
 -- ---- "Laws of sum, product, inverse and round are shown for a modulus as a parameter"
 
@@ -113,18 +146,68 @@ pub calls-keep-the-field : (field : ℕ) (o : Opening) → start field o .number
     r .status ≡ opened → r .field ≡ field
 calls-keep-the-field field o e cs still = same-left-by (start field o .session) cs (eq-eqb _ _ still) .field ∙ start-field field o e
 
+-- a record with its field number changed to 2
+abbrev pub inField2 : Session → Session
+inField2 r =
+    record {
+      status = r .status;
+      field = 2;
+      state = r .state;
+      words = r .words;
+      count = r .count;
+      phase = r .phase;
+      done = r .done;
+      «absorb_position» = r .«absorb_position»;
+      «squeeze_position» = r .«squeeze_position»;
+      permutations = r .permutations;
+    }
+
 -- "Rate, capacity and tags don't change.": the records that START gives in the two fields differ in the field number alone.
 pub same-tag-in-both-fields : (o : Opening) → openingNumber o ≡ accepted
-    → (start 1 o .session .state ≡ start 2 o .session .state)
-    × (start 1 o .session .words ≡ start 2 o .session .words) × (start 1 o .session .count ≡ start 2 o .session .count)
+    → start 2 o .session ≡ inField2 (start 1 o .session)
 unfolding startRecord openRecord
 same-tag-in-both-fields o e =
     let one = start-record 1 o (accepted-start 1 o (fields-by-number .0) e) in
-    let two = start-record 2 o (accepted-start 2 o (fields-by-number .1) e) in (
-      ap (λ (r : Session). r .state) one ∙ sym (ap (λ (r : Session). r .state) two),
-      ap (λ (r : Session). r .words) one ∙ sym (ap (λ (r : Session). r .words) two),
-      ap (λ (r : Session). r .count) one ∙ sym (ap (λ (r : Session). r .count) two),
+    start-record 2 o (accepted-start 2 o (fields-by-number .1) e) ∙ sym (ap inField2 one)
+
+-- "Wiped means every field 0.": the field number too.
+pub wiped-is-0 : (wiped .status ≡ 0) × (wiped .field ≡ 0) × (wiped .state ≡ replicate 24 0) × (wiped .words ≡ replicate 64 0) × (wiped .count ≡ 0)
+    × (wiped .phase ≡ 0) × (wiped .done ≡ 0) × (wiped .«absorb_position» ≡ 0) × (wiped .«squeeze_position» ≡ 0) × (wiped .permutations ≡ 0)
+unfolding wiped
+wiped-is-0 = (refl, refl, refl, refl, refl, refl, refl, refl, refl, refl)
+
+-- "p and element, in soundness, number 10, arithmetic and the generator alike, mean those of the field that the record or the call names": an
+-- element is added modulo the p of the record's field, and the state permuted, where the position is 8, by the permutation of that field.
+pub absorbed-in-its-field : (r : Session) (x : ℕ)
+    → let f = fieldOf (r .field) in
+    let permuted = permutation (parameters f) (r .state) in
+    (r .«absorb_position» < 8
+    → absorbOne r x .state ≡ set (r .state) (r .«absorb_position») ((getD (r .state) (r .«absorb_position») 0 + x) % modulus f))
+    × (r .«absorb_position» ≡ 8 → absorbOne r x .state ≡ set permuted 0 ((getD permuted 0 0 + x) % modulus f))
+unfolding absorbOne moved absorbElement readyToAbsorb spongeOf parameters
+absorbed-in-its-field r x =
+    let f = fieldOf (r .field) in
+    let added : Sponge → List ℕ =
+    λ t. set (t .state) (t .«absorb_position» % 8) ((getD (t .state) (t .«absorb_position» % 8) 0 + x) % modulus f) in (
+      λ l. ap added (if-false _ _ _ (ne-eqb (r .«absorb_position») 8 (λ e. absurd (omega (arith, l, e)))))
+      ∙ ap (λ (k : ℕ). set (r .state) k ((getD (r .state) k 0 + x) % modulus f)) (mod-eq-of-lt l),
+      λ e. ap added (if-true _ _ _ (eq-eqb (r .«absorb_position») 8 e)),
     )
+
+pub squeezed-in-its-field : (r : Session)
+    → (r .«squeeze_position» < 8 → squeezedOne r ≡ getD (r .state) (r .«squeeze_position») 0)
+    × (r .«squeeze_position» ≡ 8 → squeezedOne r ≡ getD (permutation (parameters (fieldOf (r .field))) (r .state)) 0 0)
+unfolding squeezedOne squeezedElement readyToSqueeze spongeOf
+squeezed-in-its-field r =
+    let out : Sponge → ℕ = λ t. getD (t .state) (t .«squeeze_position» % 8) 0 in (
+      λ l. ap out (if-false _ _ _ (ne-eqb (r .«squeeze_position») 8 (λ e. absurd (omega (arith, l, e)))))
+      ∙ ap (λ (k : ℕ). getD (r .state) k 0) (mod-eq-of-lt l),
+      λ e. ap out (if-true _ _ _ (eq-eqb (r .«squeeze_position») 8 e)),
+    )
+
+-- "all state elements are below p": of a sound record, below the p of its field
+pub sound-states-are-elements : (r : Session) → sound r ≡ true → Below (modulus (fieldOf (r .field))) (r .state)
+sound-states-are-elements r e = parts r e .reduced
 
 -- "A record with another field number isn't sound."
 pub sound-records-name-a-field : (r : Session) → sound r ≡ true → isField (r .field) ≡ true
