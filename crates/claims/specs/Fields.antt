@@ -88,6 +88,29 @@ full-and-partial-rounds f r s = (
   λ h. if-false _ _ _ (le-ltb r 4 (omega arith)) ∙ if-false _ _ _ (le-ltb r _ h),
 )
 
+-- A round adds the constants from place 24 times its number on, modulo p, and raises to the seventh or the third power.
+pub sums-of-each-round : (f : Field) (r : ℕ) (s : List ℕ) (i : ℕ) → i < 24
+    → getD (addConstants (parameters f) r s) i 0 ≡ (getD s i 0 + getD (constants f) (24 * r + i) 0) % modulus f
+unfolding addConstants parameters
+sums-of-each-round f r s i h = tabulate-at 24 _ i h
+
+pub powers-of-each-round : (f : Field) (s : List ℕ) (i : ℕ) → i < 24
+    → (getD (raiseAll (parameters f) s) i 0 ≡ getD s i 0 ^ power f % modulus f) × (raiseFirst (parameters f) s ≡ set s 0 (getD s 0 0 ^ power f % modulus f))
+unfolding raiseAll raiseFirst parameters
+powers-of-each-round f s i h = (tabulate-at 24 _ i h, refl)
+
+-- What each permutation makes of the state 0, 1, .., 23, by the second implementation (tests/oracle).
+pub permutations-of-one-state : let s = tabulate 24 (λ k. k) in
+    (permutation (parameters BabyBear) s
+    ≡ 1388997836 ∷ 948162243 ∷ 1299935936 ∷ 1025156667 ∷ 515334320 ∷ 1361602483 ∷ 546021127 ∷ 900157588 ∷ 1193585924 ∷ 1723824986 ∷ 1518293279 ∷ 475657192 ∷
+    4224694 ∷ 1309519042 ∷ 867247226 ∷ 230798774 ∷ 1889843499 ∷ 86006077 ∷ 1548273803 ∷ 983866312 ∷ 738482988 ∷ 1675543977 ∷ 27100451 ∷ 609882057 ∷ [])
+    × (permutation (parameters KoalaBear) s
+    ≡ 510806392 ∷ 1355501408 ∷ 1719995572 ∷ 2092411216 ∷ 1988116991 ∷ 488094167 ∷ 1203990344 ∷ 893373600 ∷ 1465575190 ∷ 1079286647 ∷ 1569729795 ∷ 1908110097 ∷
+    566821531 ∷ 1378116955 ∷ 867914127 ∷ 1681584149 ∷ 2036892222 ∷ 1911071438 ∷ 892216489 ∷ 814670350 ∷ 1841195610 ∷ 593412065 ∷ 1128049343 ∷ 2112072181 ∷ [])
+unfolding permutation rounds addConstants raise raiseAll raiseFirst multiply matrix parameters constants inverses tabulate sum if_then_else_
+    babyBearConstants koalaBearConstants babyBearInverses koalaBearInverses
+permutations-of-one-state = (refl, refl)
+
 -- ---- "Laws of sum, product, inverse and round are shown for a modulus as a parameter"
 
 -- A sum's remainder is that of the remainders' sum,
