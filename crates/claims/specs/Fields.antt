@@ -5,7 +5,7 @@ use mathlib.Core.Bool.{true, false, not}
 use mathlib.Core.List.{List, [], _∷_}
 use mathlib.Core.Logic.{_≢_}
 use Prim.Native.Nat.{ℕ, _+_, _-_, _*_, _%_, _^_, _≤_, _<_}
-use native.Mathlib.Nat.{mul-comm, mod-eq-of-lt}
+use native.Mathlib.Nat.{mul-comm, mod-lt, mod-eq-of-lt}
 use native.Mathlib.Omega.{arith}
 use borrow.Author.Tests.{eq-eqb, ne-eqb, ltb-true, lt-ltb, le-ltb}
 use lib.ListN.{length, getD, set, replicate}
@@ -134,7 +134,18 @@ pub rounds-give-elements : (F : Parameters) → 0 < F .modulus → (r : ℕ) (s 
     → (length (round F r s) ≡ 24) × Below (F .modulus) (round F r s)
 rounds-give-elements F positive r s = let after = multiplied F positive _ in (after .long, after .reduced)
 
--- "and each field cites them": the inverses of each field's table undo what they are the inverses of,
+-- "and each field cites them": its sums and products go by remainders, and are elements of it;
+pub arithmetic-of-each-field : (f : Field) (a b : ℕ)
+    → ((a % modulus f + b % modulus f) % modulus f ≡ (a + b) % modulus f) × ((a % modulus f) * (b % modulus f) % modulus f ≡ a * b % modulus f)
+    × (isElement f ((a + b) % modulus f) ≡ true) × (isElement f (a * b % modulus f) ≡ true)
+arithmetic-of-each-field f a b = (
+  sums-by-remainders (modulus f) a b,
+  products-by-remainders (modulus f) a b,
+  lt-ltb _ _ (mod-lt (a + b) (moduli.positive f)),
+  lt-ltb _ _ (mod-lt (a * b) (moduli.positive f)),
+)
+
+-- the inverses of each field's table undo what they are the inverses of,
 pub inverses-of-each-field-undo : (f : Field) (k x : ℕ) → k < 47 → x * (k + 24) % modulus f * getD (inverses f) k 0 % modulus f ≡ x % modulus f
 inverses-of-each-field-undo f k x h =
     let product = ap (λ (n : ℕ). n % modulus f) (mul-comm (k + 24) (getD (inverses f) k 0)) ∙ inverses-rule f k h ∙ moduli.one-is-one f in
@@ -213,7 +224,7 @@ absorbed-in-its-field r x =
     let added : Sponge → List ℕ =
     λ t. set (t .state) (t .«absorb_position» % 8) ((getD (t .state) (t .«absorb_position» % 8) 0 + x) % modulus f) in (
       λ l. ap added (if-false _ _ _ (ne-eqb (r .«absorb_position») 8 (λ e. absurd (omega (arith, l, e)))))
-      ∙ ap (λ (k : ℕ). set (r .state) k ((getD (r .state) k 0 + x) % modulus f)) (mod-eq-of-lt l),
+          ∙ ap (λ (k : ℕ). set (r .state) k ((getD (r .state) k 0 + x) % modulus f)) (mod-eq-of-lt l),
       λ e. ap added (if-true _ _ _ (eq-eqb (r .«absorb_position») 8 e)),
     )
 
@@ -224,7 +235,7 @@ unfolding squeezedOne squeezedElement readyToSqueeze spongeOf
 squeezed-in-its-field r =
     let out : Sponge → ℕ = λ t. getD (t .state) (t .«squeeze_position» % 8) 0 in (
       λ l. ap out (if-false _ _ _ (ne-eqb (r .«squeeze_position») 8 (λ e. absurd (omega (arith, l, e)))))
-      ∙ ap (λ (k : ℕ). getD (r .state) k 0) (mod-eq-of-lt l),
+          ∙ ap (λ (k : ℕ). getD (r .state) k 0) (mod-eq-of-lt l),
       λ e. ap out (if-true _ _ _ (eq-eqb (r .«squeeze_position») 8 e)),
     )
 
