@@ -1,4 +1,4 @@
--- The field, the permutation and its tables, and the hash: what the papers say of them beyond what their definitions say.
+-- The permutation of each field and its tables, the generator, and the hash: what the papers say of them beyond what their definitions say.
 use mathlib.Core.Path.{_≡_, refl}
 use mathlib.Core.Bool.{false}
 use mathlib.Core.List.{List, [], _∷_, _++_}

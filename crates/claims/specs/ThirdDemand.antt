@@ -6,7 +6,8 @@ use lib.ListN.{length}
 use Rattle.runs.specs.Runs.{Run, tagOf, patternOf, absorbedOf, squeezedOf, blocksOf, permutationsOf}
 use Rattle.runs.proofs.Compared.{demand-3}
 
--- "Two sessions are compared only inside one field" (document 02). "Let START open two sessions, with separators of equal length in bytes .. Then for every two such lists the two tag strings are equal
+-- "Two sessions are compared only inside one field" (document 02).
+-- "Let START open two sessions, with separators of equal length in bytes .. Then for every two such lists the two tag strings are equal
 -- exactly when merged patterns and separators are both equal. Where they are, the two lists of blocks are equal exactly when the same
 -- elements were absorbed in the same order; and where the lists of blocks are equal too, the two sessions squeeze the same elements in the
 -- same order with the same number of permutations, whichever calls their lists hold."

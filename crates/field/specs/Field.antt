@@ -27,7 +27,7 @@ partialRounds KoalaBear = 23
 unfoldable pub isField : ℕ → Bool
 isField number = eqb number 1 or eqb number 2
 
--- the field that a number names. A number that names none is given BabyBear here, and used nowhere: `isField` is asked first.
+-- the field that a number names. For a number that names none it is BabyBear, which is used nowhere: `isField` is asked first.
 unfoldable pub fieldOf : ℕ → Field
 fieldOf number = if eqb number 2 then KoalaBear else BabyBear
 

@@ -94,7 +94,7 @@ impl Session {
     // How many elements it has in all.
     pub const WIDTH: usize = Session::RATE + Session::CAPACITY;
 
-    // START: opens a session in the field of a number, for a pattern and a separator.
+    // START: opens a session in the field that a number names, for a pattern and a separator.
     pub fn start(field: u32, words: &[u32], separator: &[u8]) -> Answer
         ensures { λ r. ⌜ r ≡ start field (opening (now (words .entry)) (now (separator .entry))) ⌝ }
     {

@@ -58,7 +58,7 @@ pub extern "C" fn tuilarder_finish(record: &mut Session) -> u32
     answer.number
 }
 
-// One permutation in place, in the field of a number. Answers 0; or 18 where the number names no field, or 10 where an element is p or more, with the
+// One permutation in place, in the field that a number names. Answers 0; or 18 where it names none, or 10 where an element is p or more, with the
 // state as it was.
 #[no_mangle]
 pub extern "C" fn tuilarder_permute(field: u32, state: &mut [u32; 24]) -> u32
@@ -71,8 +71,8 @@ pub extern "C" fn tuilarder_permute(field: u32, state: &mut [u32; 24]) -> u32
     permutation.number
 }
 
-// The round constants of the field of a number, from the list's start on, zeros behind them, and how many they are. Refused, with 18, the list holds
-// zeros, and the count is 0.
+// The round constants of the field that a number names, from the list's start on, zeros behind them, and how many they are. Refused, with 18, the
+// list holds zeros, and the count is 0.
 #[no_mangle]
 pub extern "C" fn tuilarder_generate(
     field: u32,
