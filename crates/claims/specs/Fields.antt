@@ -2,7 +2,7 @@
 -- field number. What the generator does with one is in `Primitives`.
 use mathlib.Core.Path.{_≡_, refl, sym, ap, _∙_}
 use mathlib.Core.Bool.{true, false, not}
-use mathlib.Core.List.{List, [], _∷_}
+use mathlib.Core.List.{List}
 use mathlib.Core.Logic.{_≢_}
 use Prim.Native.Nat.{ℕ, _+_, _-_, _*_, _%_, _^_, _≤_, _<_}
 use native.Mathlib.Nat.{mul-comm, mod-lt, mod-eq-of-lt}
@@ -10,7 +10,7 @@ use native.Mathlib.Omega.{arith}
 use borrow.Author.Tests.{eq-eqb, ne-eqb, ltb-true, lt-ltb, le-ltb}
 use lib.ListN.{length, getD, set, replicate}
 use Rattle.basics.specs.Logic.{if_then_else_, _or_, all}
-use Rattle.basics.specs.Lists.{Below, tabulate, sum}
+use Rattle.basics.specs.Lists.{Below}
 use Rattle.basics.specs.Numbers.{accepted, recordNotSound, elementNotReduced, fieldUnknown}
 use Rattle.basics.proofs.Cases.{if-true, if-false, or-neither, and-stop}
 use Rattle.basics.proofs.Fill.{tabulate-at}
@@ -19,9 +19,9 @@ use Rattle.field.specs.declared.Field.{Field}
 use Rattle.field.specs.declared.Field.the-variants.{BabyBear, KoalaBear}
 use Rattle.field.proofs.Congruence as congruence
 use Rattle.field.proofs.Moduli as moduli
-use Rattle.poseidon_tables.specs.Tables.{constants, inverses, babyBearConstants, koalaBearConstants, babyBearInverses, koalaBearInverses}
+use Rattle.poseidon_tables.specs.Tables.{constants, inverses}
 use Rattle.poseidon_tables.proofs.Entries.{inverses-rule}
-use Rattle.poseidon.specs.Permutation.{Parameters, addConstants, raiseAll, raiseFirst, raise, matrix, multiply, round, rounds, permutation, parameters, permuted}
+use Rattle.poseidon.specs.Permutation.{Parameters, addConstants, raiseAll, raiseFirst, raise, round, rounds, permutation, parameters, permuted}
 use Rattle.poseidon.proofs.Bounds.{multiplied}
 use Rattle.poseidon.proofs.Remainders.{round-congruent}
 use Rattle.pattern.specs.Opening.{Opening, openingNumber}
@@ -98,18 +98,6 @@ pub powers-of-each-round : (f : Field) (s : List ℕ) (i : ℕ) → i < 24
     → (getD (raiseAll (parameters f) s) i 0 ≡ getD s i 0 ^ power f % modulus f) × (raiseFirst (parameters f) s ≡ set s 0 (getD s 0 0 ^ power f % modulus f))
 unfolding raiseAll raiseFirst parameters
 powers-of-each-round f s i h = (tabulate-at 24 _ i h, refl)
-
--- What each permutation makes of the state 0, 1, .., 23, by the second implementation (tests/oracle).
-pub permutations-of-one-state : let s = tabulate 24 (λ k. k) in
-    (permutation (parameters BabyBear) s
-    ≡ 1388997836 ∷ 948162243 ∷ 1299935936 ∷ 1025156667 ∷ 515334320 ∷ 1361602483 ∷ 546021127 ∷ 900157588 ∷ 1193585924 ∷ 1723824986 ∷ 1518293279 ∷ 475657192 ∷
-    4224694 ∷ 1309519042 ∷ 867247226 ∷ 230798774 ∷ 1889843499 ∷ 86006077 ∷ 1548273803 ∷ 983866312 ∷ 738482988 ∷ 1675543977 ∷ 27100451 ∷ 609882057 ∷ [])
-    × (permutation (parameters KoalaBear) s
-    ≡ 510806392 ∷ 1355501408 ∷ 1719995572 ∷ 2092411216 ∷ 1988116991 ∷ 488094167 ∷ 1203990344 ∷ 893373600 ∷ 1465575190 ∷ 1079286647 ∷ 1569729795 ∷ 1908110097 ∷
-    566821531 ∷ 1378116955 ∷ 867914127 ∷ 1681584149 ∷ 2036892222 ∷ 1911071438 ∷ 892216489 ∷ 814670350 ∷ 1841195610 ∷ 593412065 ∷ 1128049343 ∷ 2112072181 ∷ [])
-unfolding permutation rounds addConstants raise raiseAll raiseFirst multiply matrix parameters constants inverses tabulate sum if_then_else_
-    babyBearConstants koalaBearConstants babyBearInverses koalaBearInverses
-permutations-of-one-state = (refl, refl)
 
 -- ---- "Laws of sum, product, inverse and round are shown for a modulus as a parameter"
 

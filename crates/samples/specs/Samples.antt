@@ -20,7 +20,7 @@ use Rattle.pattern.specs.Opening.{opening, tooLong, wordRows, openingRows}
 use Rattle.tag.specs.TagString.{wordBytes, stringOf, tagString, wordAt}
 use Rattle.tag.specs.Elements.{tagElements}
 use Rattle.counters.specs.Permutations.{blockCount, phasePermutations, permutationsAt, fullPermutations}
-use Rattle.poseidon_tables.specs.Tables.{constants, inverses, babyBearConstants, babyBearInverses, koalaBearInverses}
+use Rattle.poseidon_tables.specs.Tables.{constants, inverses, babyBearConstants, koalaBearConstants, babyBearInverses, koalaBearInverses}
 use Rattle.poseidon.specs.Permutation.{addConstants, raiseAll, raiseFirst, raise, matrix, multiply, rounds, permutation, parameters}
 use Rattle.sponge.specs.Sponge.{readyToAbsorb, absorbElement, readyToSqueeze, squeezedElement, squeezeElement}
 use Rattle.session.specs.Record.{tagState, wiped, openRecord, spongeOf, moved}
@@ -165,3 +165,15 @@ computed = refl
 pub samples-hold : (length samples ≡ 29) × (all (λ sample. sample) samples ≡ true)
 unfolding samples samplesWith b1 b2 b3 b4 b5 b6 b7 b8 b8InField2 b9 b9InField2 b10 started words4 words5 words6 words7
 samples-hold = (refl, (λ i. all (λ sample. sample) (samplesWith (started4 i) (started5 i) (started6 i) (started7 i))) ∙ computed)
+
+-- What each permutation makes of the state 0, 1, .., 23, by the second implementation (tests/oracle).
+pub permutations-of-one-state : let s = tabulate 24 (λ k. k) in
+    (permutation (parameters BabyBear) s
+    ≡ 1388997836 ∷ 948162243 ∷ 1299935936 ∷ 1025156667 ∷ 515334320 ∷ 1361602483 ∷ 546021127 ∷ 900157588 ∷ 1193585924 ∷ 1723824986 ∷ 1518293279 ∷ 475657192 ∷
+    4224694 ∷ 1309519042 ∷ 867247226 ∷ 230798774 ∷ 1889843499 ∷ 86006077 ∷ 1548273803 ∷ 983866312 ∷ 738482988 ∷ 1675543977 ∷ 27100451 ∷ 609882057 ∷ [])
+    × (permutation (parameters KoalaBear) s
+    ≡ 510806392 ∷ 1355501408 ∷ 1719995572 ∷ 2092411216 ∷ 1988116991 ∷ 488094167 ∷ 1203990344 ∷ 893373600 ∷ 1465575190 ∷ 1079286647 ∷ 1569729795 ∷ 1908110097 ∷
+    566821531 ∷ 1378116955 ∷ 867914127 ∷ 1681584149 ∷ 2036892222 ∷ 1911071438 ∷ 892216489 ∷ 814670350 ∷ 1841195610 ∷ 593412065 ∷ 1128049343 ∷ 2112072181 ∷ [])
+unfolding permutation rounds addConstants raise raiseAll raiseFirst multiply matrix parameters constants inverses tabulate sum if_then_else_
+    babyBearConstants koalaBearConstants babyBearInverses koalaBearInverses
+permutations-of-one-state = (refl, refl)
