@@ -25,6 +25,7 @@ use Rattle.counters.proofs.Bounds.{positions-bound}
 use Rattle.runs.specs.Calls.{Call, left, leftBy, absorbed, squeezed}
 use Rattle.runs.specs.Lengths.{absorbLength}
 use Rattle.runs.specs.Runs.{Run, absorbedOf, permutationsOf}
+use Rattle.runs.proofs.Outcomes.{absorb-takes}
 use Rattle.runs.proofs.SoundCalls.{sound-left}
 use Rattle.runs.proofs.Opened.{start-open, start-sound, sound-run}
 use Rattle.runs.proofs.Counted.{count-run, count-whole}
@@ -136,6 +137,10 @@ pub squeeze-cut-freely : (r : Session) (n m : ℕ) → squeeze r (n + m) .number
     × (squeezedAll r (n + m) ≡ squeezedAll r n ++ squeezedAll (squeeze r n .session) m)
 squeeze-cut-freely r n m e = (squeeze-part r n m e, squeeze-cut r n m e, squeezed-cut r n m e)
 
--- What is squeezed from a sound record are elements of its field: numbers below that field's p.
+-- What an accepted ABSORB takes in are elements of the record's field,
+pub absorbed-are-elements : (r : Session) (xs : List ℕ) → absorb r xs .number ≡ accepted → all (isElement (fieldOf (r .field))) xs ≡ true
+absorbed-are-elements r xs e = absorb-takes r xs e .1
+
+-- and what is squeezed from a sound record are elements of its field: numbers below that field's p.
 pub squeezed-are-elements : (r : Session) (n : ℕ) → sound r ≡ true → all (isElement (fieldOf (r .field))) (squeezedAll r n) ≡ true
 squeezed-are-elements r n e = squeezed-reduced n r (parts r e .reduced)
