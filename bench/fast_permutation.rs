@@ -1,4 +1,4 @@
-// The permutation, as fast as we could make it on one thread of an x86-64: with SSE2, which they all have, and with AVX2.
+// The permutation of BabyBear, as fast as we could make it on one thread of an x86-64: with SSE2, which they all have, and with AVX2.
 //
 // Full rounds: each element has a 64-bit lane. Sums of products are folded only when the next product might not fit.
 // Reductions leave a known factor and addend in each element, and the tables take them out.

@@ -19,8 +19,9 @@
  *
  * - A pointer is aligned for its type and valid: a list's for as many items as the length after it says, every other one for its object.
  *   With length 0 a list's pointer may have any value, NULL among them: nothing is read or written through it. No other one may be NULL.
- * - What a function writes (the record, the state, constants, out, written, words and count of tuilarder_read_tag, place, value) overlaps
- *   nothing else that the call was lent. Nobody else reads or writes that, and nobody writes what the function reads, until the call returns.
+ * - What a function writes (the record, the state, constants and count of tuilarder_generate, out, written, words and count of
+ *   tuilarder_read_tag, place, value) overlaps nothing else that the call was lent. Nobody else reads or writes that, and nobody writes what
+ *   the function reads, until the call returns.
  *
  * What a function only writes need not be set before. The library has no state of its own, so distinct records may be used by distinct
  * threads at once. The time that a call takes depends on what it is lent, and copies of a record may stay behind on the stack: nothing is

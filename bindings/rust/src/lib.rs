@@ -97,8 +97,8 @@ pub fn permute(field: Field, state: &mut [u32; WIDTH]) -> Result<(), Refusal> {
     refusal::result(unsafe { ffi::tuilarder_permute(field.number(), state) })
 }
 
-/// The round constants of a field's permutation, made anew by Poseidon's generator, to the start of the buffer with zeros behind them, and gives the
-/// part that they are: 696 of BabyBear, 744 of KoalaBear. Nothing else here needs them.
+/// Writes the round constants of a field's permutation, made anew by Poseidon's generator, to the start of the buffer with zeros behind them, and
+/// gives the part that they are: 696 of BabyBear, 744 of KoalaBear. Nothing else here needs them.
 pub fn round_constants(field: Field, buffer: &mut [u32; MAX_ROUND_CONSTANTS]) -> &[u32] {
     let mut count = 0;
     // SAFETY: the buffer is lent for the call, and the count is this function's own.
