@@ -171,7 +171,8 @@ def orders(path):
 
 
 def checked():
-    """Whether the comments of the exported functions say that they check the numbers which they give, in the same order in C and Rust."""
+    """Whether the comments of the exported functions say that they check the numbers which they give, each in the order that documents 01 and 02 have:
+    18, then the others as they rise."""
     wanted = {name: {row.number for row in table() if row.number and call in row.calls} for call, name in exports().items() if name}
     for path in (HEADER, DECLARED):
         said = orders(path)
@@ -179,9 +180,9 @@ def checked():
         for function in said.keys() & wanted.keys():
             if set(said[function]) != wanted[function]:
                 yield f"{path}: {function} is said to check {sorted(said[function])}, and gives {sorted(wanted[function])}"
-    for function, order in orders(DECLARED).items():
-        if order != orders(HEADER).get(function):
-            yield f"{DECLARED}: {function} is said to check {order}, and in {HEADER} {orders(HEADER).get(function)}"
+        for function, order in said.items():
+            if order != sorted(order, key=lambda number: (number != 18, number)):
+                yield f"{path}: {function} is said to check {order}, in this order"
 
 
 # ---- numbers in documents
@@ -239,9 +240,10 @@ MISTAKES = [
     (RUST, "18 FieldUnknown", "19 FieldUnknown", "19 FieldUnknown"),
     (HEADER, "TUILARDER_FIELD_UNKNOWN = 18", "TUILARDER_FIELD_UNKNOWN = 17", "17 TUILARDER_FIELD_UNKNOWN"),
     (HEADER, "Checks 18, then 10.", "Checks 10.", "tuilarder_permute is said to check [10]"),
-    (DECLARED, "Checks 18, then 10.", "Checks 10, then 18.", "tuilarder_permute is said to check [10, 18], and in"),
+    (DECLARED, "Checks 18, then 10.", "Checks 10, then 18.", "tuilarder_permute is said to check [10, 18], in this order"),
     (DECLARED, "Checks 6 (of the length given), then 13.", "Checks 13.", "tuilarder_read_tag is said to check [13]"),
-    (HEADER, "Checks 15, then 16.", "Checks 16, then 15.", "tuilarder_check_owners is said to check [15, 16], and in"),
+    (HEADER, "Checks 15, then 16.", "Checks 16, then 15.", "tuilarder_check_owners is said to check [16, 15], in this order"),
+    (HEADER, "Checks 18, then 1 to 6 in number order,", "Checks 1 to 6 in number order, then 18,", "[1, 2, 3, 4, 5, 6, 18], in this order"),
     ("bindings/rust/src/protocol.rs", "[`Refusal::SeparatorTooLong`] (6)", "[`Refusal::SeparatorTooLong`] (5)", "SeparatorTooLong (5)"),
     (CLAIMS, '"80000003, length 0"', '"80000003"', '13: "no tag string of that separator length", "80000003"'),
     (CLAIMS, '| 14: "not a card line", "(card)" |', '| "not a card line" |', '14: "not a card line", "(card)"'),
