@@ -7,7 +7,8 @@
 
 `test` runs every example and compares what it prints with the documents, looks for the code that they show in the examples, and draws
 docs/session.svg again. `oracle` does every example once more over the second implementation, in Python, written from the papers by other hands
-(tests/oracle), and compares the documents with what that gives. `picture` draws the picture from its states.
+(tests/oracle), and compares the documents with what that gives; so it does with the figures of the fields in the guide, the header and the Rust
+crate's documentation. `picture` draws the picture from its states.
 """
 import glob
 import os
@@ -323,7 +324,38 @@ def states(out):
     session.finish()
 
 
+# ---- the figures of the fields
+
+def of_both(text):
+    """A text with each field's prime p, power, partial rounds and number of constants c."""
+    ordinals = {3: "third", 7: "seventh"}
+    figures = {f"{name}{field}": figure for field in (1, 2) for name, figure in (
+        ("p", oracle.PRIME[field]), ("power", ordinals[oracle.POWER[field]]), ("partial", oracle.PARTIAL[field]), ("c", oracle.generate(field)[2]))}
+    return text.format(full=oracle.FULL // 2, largest=oracle.PRIME[1] - 1, **figures)
+
+
+# of each source what it says of the fields
+FIGURES = {
+    "docs/GUIDE.md": ("| | BabyBear | KoalaBear |", "| number in C, Rattle and records | 1 | 2 |", "| p | {p1} = 15 × 2^27 + 1 | {p2} = 2^31 − 2^24 + 1 |",
+                      "| power in a round | {power1} | {power2} |", "| round constants | {c1} | {c2} |", "from 0 to {largest} for BabyBear",
+                      "| rounds of a permutation: full, partial, full | {full}, {partial1}, {full} | {full}, {partial2}, {full} |"),
+    "bindings/c/tuilarder.h": ("KoalaBear's. BabyBear has {c1}.", "{c1} of BabyBear, {c2} of KoalaBear"),
+    "bindings/rust/src/lib.rs": ("BabyBear (p = {p1}) or KoalaBear (p = {p2})", "{c1} of BabyBear, {c2} of KoalaBear"),
+    "bindings/rust/src/field.rs": ("Number 1, with p = {p1}. BabyBear = 1,", "Number 2, with p = {p2}. KoalaBear = 2,"),
+}
+
+
+def compare_figures():
+    assert (oracle.PRIME[1], oracle.PRIME[2]) == (15 * 2 ** 27 + 1, 2 ** 31 - 2 ** 24 + 1)
+    for path, texts in FIGURES.items():
+        # without what begins a line of a comment
+        said = " ".join(re.sub(r"^ *(?:\* |///? |//! )", "", read(path), flags=re.MULTILINE).split())
+        for text in texts:
+            assert of_both(text) in said, f"{path} does not say: {of_both(text)}"
+
+
 def compare():
+    compare_figures()
     for example, output in shown().items():
         out = []
         globals()[example](out)

@@ -2,7 +2,8 @@
 """Whether the header and Rust's declarations name the parameters of each function as the library's source does, in its order.
 
 A list of the source is a pointer and a length here: the list's name; then `length`, or with several lists `NAME_length`. Two lengths that are
-exchanged have one type, so no compiler sees it. Also whether the version in the name of `tuilarder_layout_VERSION` is the one that it answers.
+exchanged have one type, so no compiler sees it. Also whether the version in the name of `tuilarder_layout_VERSION` is the one that it answers, and
+the guide's.
 """
 import re
 import sys
@@ -10,6 +11,7 @@ from pathlib import Path
 
 ROOT = Path(__file__).resolve().parents[3]
 SOURCE, HEADER, RUST = "crates/tuilarder/src/lib.rt", "bindings/c/tuilarder.h", "bindings/rust/src/ffi.rs"
+GUIDE = "docs/GUIDE.md"
 
 
 def expected(parameters):
@@ -49,6 +51,9 @@ def unequal_versions():
     named, answered = re.findall(r"fn tuilarder_layout_(\d+)\(", text), re.findall(r"const VERSION: u64 = (\d+);", text)
     if len(named) != 1 or named != answered:
         yield f"{SOURCE}: the version is {named} in a function's name, and {answered} in what it answers"
+    shown = sorted(set(re.findall(r"tuilarder_layout_(\d+)", (ROOT / GUIDE).read_text())))
+    if shown != answered:
+        yield f"{GUIDE}: the version is {shown}, and in {SOURCE} {answered}"
 
 
 if __name__ == "__main__":
