@@ -477,8 +477,10 @@ def out_of_pattern(calls):
         large = calls.prime()
         calls.absorb([large] * 7)
         calls.absorb([large])
-        calls.put(dict(good, permutations=9))
-        calls.absorb([large])
+        for changed in (dict(permutations=9), dict(field=0), dict(field=3), dict(field=ABSORB)):
+            calls.put(dict(good, **changed))
+            calls.absorb([large])
+            calls.absorb([large] * 7)
     # a call that reaches over the phase between
     calls.start([ABSORB + 2, 1, ABSORB + 2, 1])
     calls.absorb(elements(4, calls.prime()))

@@ -17,9 +17,9 @@ use stored::{bytes_of, Line};
 use tuilarder::ffi::Record;
 
 const PROGRAM: &str = "session_vectors";
-const LINES: usize = 8609;
-const CALLS: usize = 7581;
-const RECORDS: usize = 1028;
+const LINES: usize = 8679;
+const CALLS: usize = 7630;
+const RECORDS: usize = 1049;
 
 /// A record as its three lists: the numbers with the permutations as two words, the state, and the pattern words.
 type Lists = [Vec<u32>; 3];
