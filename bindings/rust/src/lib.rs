@@ -12,8 +12,8 @@
 //! other.
 //! With one separator, two protocols share it where their merged patterns are equal: calls of 3 and 3 elements merge to one of 6. With
 //! separators of unequal length, other patterns can share it too: a tag string is the merged pattern's words in bytes with the separator
-//! behind them, and says nowhere where the separator begins. It does not say the field either, and of sessions of two fields nothing is proved: so
-//! their separators have to differ too.
+//! behind them, and says nowhere where the separator begins. It does not say the field either, and what sessions of two fields squeeze is compared by
+//! no theorem: so their separators have to differ too.
 //!
 //! Where a house hands out separators to its product lines, [`Owners`] is the table of which line has which.
 //!
