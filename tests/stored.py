@@ -5,7 +5,7 @@
   tests/stored.py commands
 
 `test` makes the files named, or all; each from files that it made itself. It fails where one differs, where a program's stored input or output is
-made by no command, and where docs/CLAIMS.md counts their cases wrongly. When it makes all, it also compares with the second implementation what
+made by no command, and where docs/CLAIMS.md counts their cases, or the faults of tests/mutants.py, wrongly. When it makes all, it also compares with the second implementation what
 documents show of the examples, and what the tests in C and Rust expect. `commands` prints the command that makes each file.
 """
 import os
@@ -13,6 +13,7 @@ import subprocess
 import sys
 import tempfile
 
+from mutants import FAULTS, NONE
 from tree import ROOT, files, read, report
 
 # of each stored file: the command that prints it, and the stored file that it reads
@@ -64,7 +65,7 @@ def unknown():
 
 
 def counted():
-    """What docs/CLAIMS.md says of the cases."""
+    """What docs/CLAIMS.md says of the cases, and of the faults."""
     def lines(program, begin=""):
         return sum(line.startswith(begin) for line in read(f"crates/{program}/stdout").splitlines())
     cards, states, records = lines("cards"), lines("permutation_vectors"), lines("session_vectors", "t ")
@@ -74,7 +75,8 @@ def counted():
                  "`tag_vectors`, on {} patterns, {} strings and {} digests,".format(*(lines("tag_vectors", kind) for kind in "wre")),
                  f"`session_vectors`, on {calls:,} calls, of which {lines('session_vectors', 's ')} are START "
                  f"({lines('session_vectors', 's 0')} accepted), and {records:,} records",
-                 f"`owner_vectors`, on {lines('owner_vectors')} tables with a separator each ({lines('owner_vectors', 'c 0 ')} accepted)"):
+                 f"`owner_vectors`, on {lines('owner_vectors')} tables with a separator each ({lines('owner_vectors', 'c 0 ')} accepted)",
+                 f"by hand: {len(FAULTS)} faults,", f"all but {len(NONE)} are noticed"):
         if text not in read("docs/CLAIMS.md"):
             yield f"docs/CLAIMS.md does not say: {text}"
 
