@@ -5,8 +5,9 @@
   tests/stored.py commands
 
 `test` makes the files named, or all; each from files that it made itself. It fails where one differs, where a program's stored input or output is
-made by no command, and where docs/CLAIMS.md counts their cases, or the faults of tests/mutants.py, wrongly. When it makes all, it also compares with the second implementation what
-documents show of the examples, and what the tests in C and Rust expect. `commands` prints the command that makes each file.
+made by no command, and where docs/CLAIMS.md counts their cases, or the faults of tests/mutants.py, wrongly. When it makes all, it also compares
+with the second implementation what documents show of the examples, and what the tests in C and Rust expect. `commands` prints the command that makes
+each file.
 """
 import os
 import subprocess
