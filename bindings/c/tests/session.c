@@ -40,7 +40,11 @@ static void fill_random(void *at, size_t length)
 
 /* ---- fields and records */
 
-static const uint32_t fields[] = {BABY_BEAR, KOALA_BEAR}, unknown_fields[] = {0, 3, 0x80000000u, 0xffffffffu};
+static const uint32_t fields[] = {BABY_BEAR, KOALA_BEAR};
+
+/* In some a part of the bits is the number of a field. */
+#define UNKNOWN_FIELDS 7
+static const uint32_t unknown_fields[UNKNOWN_FIELDS] = {0, 3, 257, 65538, 0x80000000u, 0x80000001u, 0xffffffffu};
 
 static uint32_t prime(uint32_t field)
 {
@@ -255,7 +259,7 @@ static void start_in_fields(uint32_t number, const struct lent *words, const str
         CHECK(tuilarder_start(session, fields[i], words->part, count, separator->part, separator->length) == number);
         CHECK(number == TUILARDER_ACCEPTED ? session->status == 1 && session->field == fields[i] : wiped_record(&record));
     }
-    for (size_t i = 0; i < 4; i++) {
+    for (size_t i = 0; i < UNKNOWN_FIELDS; i++) {
         fill_random(record.part, record.length);
         CHECK(tuilarder_start(session, unknown_fields[i], words->part, count, separator->part, separator->length)
               == TUILARDER_FIELD_UNKNOWN);
@@ -334,7 +338,7 @@ static void test_record_of_another_field(uint32_t field)
     const uint32_t one = 1;
     struct lent record = open_record(field), buffer = lend_copy(&one, sizeof one);
     struct tuilarder_session *session = record.part;
-    for (size_t i = 0; i < 4; i++) {
+    for (size_t i = 0; i < UNKNOWN_FIELDS; i++) {
         session->field = unknown_fields[i];
         check_all_refuse(&record, &buffer, TUILARDER_RECORD_NOT_SOUND);
     }
@@ -640,7 +644,7 @@ static void spoil(struct tuilarder_session *record)
     case 6: record->done += other; break;
     case 7: record->absorb_position += other; break;
     case 8: record->squeeze_position += other; break;
-    case 9: record->field = unknown_fields[below(4)]; break;
+    case 9: record->field = unknown_fields[below(UNKNOWN_FIELDS)]; break;
     default: record->permutations += next_random() % 2 ? other : (uint64_t)other << 32; break;
     }
 }
@@ -697,7 +701,7 @@ int main(void)
         test_start(&start_examples[i]);
     for (size_t i = 0; i < 2; i++)
         test_field(fields[i]);
-    for (size_t i = 0; i < 4; i++) {
+    for (size_t i = 0; i < UNKNOWN_FIELDS; i++) {
         test_permute_unknown(unknown_fields[i]);
         test_generate_unknown(unknown_fields[i]);
     }
