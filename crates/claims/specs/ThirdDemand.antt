@@ -1,4 +1,4 @@
--- The third demand, as one theorem of every two finished sessions. A `Run` is a session that START opened, with its whole list of calls,
+-- The third demand, as one theorem of every two finished sessions of one field. A `Run` is a session that START opened, with its whole list of calls,
 -- refused ones included, that ends in an accepted FINISH (`runs/specs/Runs.antt`).
 use mathlib.Core.Path.{_≡_}
 use mathlib.Core.Logic.{_↔_}
