@@ -8,7 +8,7 @@ The second implementation has a limit, but no other modulus in a field and no nu
 sentences of document 01, and each with the field's own modulus is compared with what it finds itself. A line is one of
 
   generate FIELD number NUMBER found COUNT not zero PLACES from 0: EIGHT PLACES from 692: EIGHT PLACES from 736: EIGHT PLACES
-  field FIELD differ PLACES
+  field FIELD found COUNT differ PLACES
   field FIELD modulus MODULUS limit LIMIT wanted PLACES found COUNT from PLACE: EIGHT PLACES
 
 where a sample begins with the first register of its field.
@@ -85,6 +85,6 @@ if __name__ == "__main__":
     for field in NUMBERS:
         print(generated(field))
     for field in (1, 2):
-        print(f"field {field} differ 0")
+        print(f"field {field} found {oracle.generate(field)[2]} differ 0")
     for row in SAMPLES:
         print(sample(*row))
