@@ -9,7 +9,7 @@ use lib.ListN.{take}
 use Rattle.basics.specs.Numbers.{accepted}
 use Rattle.basics.proofs.Cases.{if-true, if-false}
 use Rattle.pattern.specs.Opening.{Opening, openingNumber, checked}
-use Rattle.pattern.specs.declared.Merged.{Merged}
+use Rattle.pattern.specs.declared.WordList.{WordList}
 use Rattle.pattern.proofs.Checked.{number-checked, started, count-checked, words-checked}
 use Rattle.tag.specs.TagString.{tagString}
 use Rattle.counters.specs.Permutations.{permutationsAt, fullPermutations}
@@ -26,7 +26,7 @@ module _ (o : Opening) where
 
 -- ---- from the answer r of the start check
 
-module _ (o : Opening) (r : Merged) (e : r ≡ checked o) where
+module _ (o : Opening) (r : WordList) (e : r ≡ checked o) where
   pub refuses : r .number ≢ accepted → cardAnswer o ≡ noText (r .number)
   refuses n =
       let same = number-checked o r e in

@@ -10,18 +10,16 @@ use lib.ListN.{length, getD, take, set, replicate, length-append, length-set, Li
 use lib.Seq.{take-append-seam, set-append-left}
 use Rattle.basics.specs.Logic.{same, any}
 use Rattle.basics.specs.Numbers.{accepted}
-use Rattle.basics.proofs.Cases.{cases}
 use Rattle.basics.proofs.Zeros.{push-number}
 use Rattle.words.specs.Words.{isAbsorb, lengthOf}
-use Rattle.pattern.specs.Pattern.{phases, mergedWords}
-use Rattle.pattern.specs.Opening.{tooLong, withWords}
-use Rattle.pattern.specs.Steps.{Holds, Stepped}
-use Rattle.pattern.specs.Pass.{merged}
-use Rattle.pattern.specs.declared.Merged.{Merged}
-use Rattle.pattern.proofs.MergeStep.{merged-refused, merged-accepted, merged-words-length, lastWord, step-first, step-other-kind, step-too-long, step-same-kind}
+use Rattle.pattern.specs.Pattern.{phases, mergedWords, tooLong}
+use Rattle.pattern.specs.Opening.{withWords}
+use Rattle.pattern.specs.Steps.{Holds}
+use Rattle.pattern.specs.declared.WordList.{WordList}
+use Rattle.pattern.proofs.MergeStep.{merged-words-length, lastWord, step-first, step-other-kind, step-same-kind}
 
 -- an answer with another word at a place, and another count
-abbrev changed : Merged → ℕ → ℕ → ℕ → Merged
+abbrev changed : WordList → ℕ → ℕ → ℕ → WordList
 changed m i w count = record { number = m .number; words = set (m .words) i w; count = count }
 
 module _ (n : ℕ) (ws : List ℕ) where
@@ -56,78 +54,62 @@ module _ (n : ℕ) (ws : List ℕ) where
       ∙ sym (ap (λ (k : ℕ). set ws i w ++ replicate (64 - k) 0) same-length) in
       λ j. record { number = n; words = words j; count = sym same-length j }
 
--- ---- the merged words, or number 5
-
-pub if-accepted : (ws : List ℕ) → merged ws .number ≡ 0 → any tooLong (phases ws) ≡ false
-unfolding withWords
-if-accepted ws e =
-    cases (any tooLong (phases ws)) (λ t. absurd (omega (arith, e, ap (λ (m : Merged). m .number) (merged-refused ws t)))) λ f. f
-
 -- ---- a list that holds merged words
 
 module _ (ws list : List ℕ) (count : ℕ) (h : Holds ws list count) where
-  fine : any tooLong (phases ws) ≡ false
-  fine = if-accepted ws (ap (λ (m : Merged). m .number) (h .holds))
-
   answer : record { number = accepted; words = list; count = count } ≡ withWords accepted (mergedWords ws)
-  answer = sym (h .holds) ∙ merged-accepted ws fine
+  answer = sym (h .holds)
 
   counted : count ≡ length (mergedWords ws)
-  counted = ap (λ (m : Merged). m .count) answer ∙ count-at accepted (mergedWords ws)
+  counted = ap (λ (m : WordList). m .count) answer ∙ count-at accepted (mergedWords ws)
 
   pub holds-few : count ≤ length ws
   holds-few = rw counted (merged-words-length ws)
 
+  -- the last word of the list
+  pub last-held : count ≢ 0 → getD list (count - 1) 0 ≡ lastWord ws
+  last-held some =
+      let l : length (mergedWords ws) ≢ 0 = rw counted at some in
+      ap (λ (m : WordList). getD (m .words) (m .count - 1) 0) answer
+      ∙ ap (λ (k : ℕ). getD (withWords accepted (mergedWords ws) .words) (k - 1) 0) (count-at accepted (mergedWords ws))
+      ∙ word-at accepted (mergedWords ws) (length (mergedWords ws) - 1) (omega (arith, l))
+
 -- one step of the pass: a list that holds the merged words of ws, and the word w behind them
-module _ (ws list : List ℕ) (count w : ℕ) (bound : w < 4294967296) (h : Holds ws list count) where
+module _ (ws list : List ℕ) (count w : ℕ) (bound : w < 4294967296) (fine : any tooLong (phases ws) ≡ false) (h : Holds ws list count) where
   abbrev more : List ℕ
   more = ws ++ (w ∷ [])
 
   abbrev last : ℕ
   last = getD list (count - 1) 0
 
-  pushed : count < 64 → merged more ≡ withWords accepted (mergedWords ws ++ (w ∷ [])) → Stepped more (set list count w) (count + 1)
+  pushed : count < 64 → mergedWords more ≡ mergedWords ws ++ (w ∷ []) → Holds more (set list count w) (count + 1)
   pushed room e =
       let a = answer ws list count h in
       let c = counted ws list count h in
       let same = (λ i. changed (a i) (c i) w (c i + 1)) ∙ push accepted (mergedWords ws) w (rw c at room) in
-      record { merges = λ _. record { holds = e ∙ sym same }; refuses = λ z. absurd (omega arith) }
+      record { holds = ap (withWords accepted) e ∙ sym same }
 
-  pub first-word : count < 64 → count ≡ 0 → Stepped more (set list count w) (count + 1)
-  first-word room z = pushed room (step-first ws w bound (fine ws list count h) (sym (counted ws list count h) ∙ z))
+  pub first-word : count < 64 → count ≡ 0 → Holds more (set list count w) (count + 1)
+  first-word room z = pushed room (step-first ws w bound (sym (counted ws list count h) ∙ z))
 
   module _ (some : count ≢ 0) where
     words : 0 < length (mergedWords ws)
     words = let l : length (mergedWords ws) ≢ 0 = rw (counted ws list count h) at some in omega (arith, l)
 
     last-word : last ≡ lastWord ws
-    last-word =
-        ap (λ (m : Merged). getD (m .words) (m .count - 1) 0) (answer ws list count h)
-        ∙ ap (λ (k : ℕ). getD (withWords accepted (mergedWords ws) .words) (k - 1) 0) (count-at accepted (mergedWords ws))
-        ∙ word-at accepted (mergedWords ws) (length (mergedWords ws) - 1) (omega (arith, words))
+    last-word = last-held ws list count h some
 
     kinds : (k : Bool) → same (isAbsorb last) (isAbsorb w) ≡ k → same (isAbsorb (lastWord ws)) (isAbsorb w) ≡ k
     kinds k s = sym (ap (λ (x : ℕ). same (isAbsorb x) (isAbsorb w)) last-word) ∙ s
 
-    pub other-kind : count < 64 → same (isAbsorb last) (isAbsorb w) ≡ false → Stepped more (set list count w) (count + 1)
-    other-kind room s = pushed room (step-other-kind ws w bound (fine ws list count h) words (kinds false s))
+    pub other-kind : count < 64 → same (isAbsorb last) (isAbsorb w) ≡ false → Holds more (set list count w) (count + 1)
+    other-kind room s = pushed room (step-other-kind ws w bound fine words (kinds false s))
 
-    pub too-long : same (isAbsorb last) (isAbsorb w) ≡ true → 2147483647 < lengthOf last + lengthOf w → Stepped more list 0
-    too-long s l =
-        record {
-          merges = λ z. absurd (z refl);
-          refuses = λ _. step-too-long ws w bound (fine ws list count h) words (kinds true s) (rw last-word at l);
-        }
-
-    pub same-kind : same (isAbsorb last) (isAbsorb w) ≡ true → lengthOf last + lengthOf w ≤ 2147483647
-        → Stepped more (set list (count - 1) (last + lengthOf w)) count
-    same-kind s l =
+    pub same-kind : same (isAbsorb last) (isAbsorb w) ≡ true → Holds more (set list (count - 1) (last + lengthOf w)) count
+    same-kind s =
         let a = answer ws list count h in
         let c = counted ws list count h in
         let longer =
         (λ i. changed (a i) (c i - 1) (last-word i + lengthOf w) (c i))
         ∙ replace accepted (mergedWords ws) (length (mergedWords ws) - 1) (lastWord ws + lengthOf w) (omega (arith, words)) in
-        record {
-          merges = λ _. record { holds = step-same-kind ws w bound (fine ws list count h) words (kinds true s) (rw last-word at l) ∙ sym longer };
-          refuses = λ z. absurd (some z);
-        }
+        record { holds = ap (withWords accepted) (step-same-kind ws w bound fine words (kinds true s)) ∙ sym longer }

@@ -6,13 +6,13 @@ use lib.ListN.{length, take}
 use Rattle.basics.specs.Numbers.{accepted}
 use Rattle.pattern.specs.Pattern.{maxWords, mergedWords}
 use Rattle.pattern.specs.Opening.{Opening, openingNumber, withWords, checked}
-use Rattle.pattern.specs.declared.Merged.{Merged}
+use Rattle.pattern.specs.declared.WordList.{WordList}
 use Rattle.pattern.proofs.Answers.{count-at, count-within, words-used}
 use Rattle.pattern.proofs.StartCheck.{checked-number, checked-accepted, few-words}
 
-module _ (o : Opening) (r : Merged) (e : r ≡ checked o) where
+module _ (o : Opening) (r : WordList) (e : r ≡ checked o) where
   pub number-checked : r .number ≡ openingNumber o
-  number-checked = ap (λ (m : Merged). m .number) e ∙ checked-number o
+  number-checked = ap (λ (m : WordList). m .number) e ∙ checked-number o
 
   module _ (n : r .number ≡ accepted) where
     pub started : openingNumber o ≡ accepted
@@ -22,10 +22,10 @@ module _ (o : Opening) (r : Merged) (e : r ≡ checked o) where
     answer-checked = e ∙ checked-accepted o started
 
     pub count-checked : r .count ≡ length (mergedWords (o .words))
-    count-checked = ap (λ (m : Merged). m .count) answer-checked ∙ count-at accepted (mergedWords (o .words))
+    count-checked = ap (λ (m : WordList). m .count) answer-checked ∙ count-at accepted (mergedWords (o .words))
 
     pub words-checked : take (r .count) (r .words) ≡ mergedWords (o .words)
-    words-checked = ap (λ (m : Merged). take (m .count) (m .words)) answer-checked ∙ words-used accepted (mergedWords (o .words))
+    words-checked = ap (λ (m : WordList). take (m .count) (m .words)) answer-checked ∙ words-used accepted (mergedWords (o .words))
 
     pub count-fits : r .count ≤ maxWords
     count-fits = rw count-checked (few-words o started)

@@ -1,4 +1,5 @@
 pub mod Given
+pub mod MergedLengths
 pub mod MergeStep
 pub mod PassStep
 pub mod FromPass

@@ -1,23 +1,19 @@
 -- Merging from the first word on: the merged pattern with one word more.
 -- Assumes nothing.
 use mathlib.Core.Path.{_≡_, refl, sym, ap, _∙_}
-use mathlib.Core.Bool.{Bool, true, false, true≢false}
-use mathlib.Core.List.{List, [], _∷_, _++_, map, map-append, append-nil, append-assoc}
+use mathlib.Core.Bool.{Bool, true, false}
+use mathlib.Core.List.{List, [], _∷_, _++_, map, map-append, append-assoc}
 use Prim.Native.Nat.{ℕ, suc, _+_, _-_, _≤_, _<_}
 use native.Mathlib.Nat.{add-assoc, not-suc-le-zero}
 use native.Mathlib.Omega.{arith}
-use borrow.Author.Tests.{ltb-true, ltb-false, lt-ltb, le-ltb}
+use borrow.Author.Tests.{ltb-false}
 use lib.ListN.{length, getD, set, length-append, length-map}
-use lib.Seq.{take-all, append-snoc, getD-at, set-at}
-use Rattle.basics.specs.Logic.{if_then_else_, _or_, same, any}
-use Rattle.basics.specs.Numbers.{accepted, mergedLengthTooLong}
-use Rattle.basics.proofs.Cases.{by, if-true, if-false, or-false, or-end, or-either, any-append}
+use lib.Seq.{take-all, getD-at, set-at}
+use Rattle.basics.specs.Logic.{if_then_else_, same, any}
+use Rattle.basics.proofs.Cases.{by, if-true, if-false, or-false, any-append}
 use Rattle.words.specs.Words.{isAbsorb, lengthOf, Phase, phaseOf, wordOf}
-use Rattle.pattern.specs.Pattern.{join, merge, phases, mergedWords}
-use Rattle.pattern.specs.Opening.{tooLong, withWords}
-use Rattle.pattern.specs.Pass.{mergeNumber, merged}
-use Rattle.pattern.proofs.Given.{answer-accepted, answer-refused}
-use Rattle.words.proofs.WordKinds.{word-kind, word-length, word-longer, word-of-phase, length-below}
+use Rattle.pattern.specs.Pattern.{join, merge, phases, mergedWords, tooLong}
+use Rattle.words.proofs.WordKinds.{word-kind, word-longer, word-of-phase}
 
 -- two calls of one kind, added
 abbrev both : Phase → Phase → Phase
@@ -86,20 +82,6 @@ last-of (a ∷ b ∷ ps) h =
     let l = last-of (b ∷ ps) (omega arith) in
     record { front = a ∷ l .front; last = l .last; split = ap (λ (r : List Phase). a ∷ r) (l .split) }
 
--- what is too long stays so with one call more
-stays-pair : (b a : Phase) → tooLong b ≡ true → any tooLong (pair b a) ≡ true
-unfolding pair any tooLong _or_
-stays-pair b a e =
-    by (λ (l : List Phase). any tooLong l ≡ true) _ _ _
-    (λ _. rw (lt-ltb 2147483647 (b .elements + a .elements) (omega (arith, ltb-true 2147483647 (b .elements) e))))
-    λ _. rw e
-
-stays : (ps : List Phase) (a : Phase) → any tooLong ps ≡ true → any tooLong (addLast ps a) ≡ true
-unfolding addLast any
-stays [] a e = absurd (true≢false (sym e))
-stays (b ∷ []) a e = stays-pair b a (or-end (tooLong b) e)
-stays (b ∷ c ∷ ps) a e = or-either (tooLong b) _ _ e (stays (c ∷ ps) a)
-
 -- merging makes no list longer
 join-length : (a : Phase) (ps : List Phase) → length (join a ps) ≤ suc (length ps)
 unfolding join
@@ -115,25 +97,7 @@ pub merged-words-length : (ws : List ℕ) → length (mergedWords ws) ≤ length
 unfolding mergedWords phases
 merged-words-length ws = rw (length-map (merge (map phaseOf ws)) wordOf) (rw (length-map ws phaseOf) at (merge-length (map phaseOf ws)))
 
-pub stays-too-long : (ws vs : List ℕ) → any tooLong (phases ws) ≡ true → any tooLong (phases (ws ++ vs)) ≡ true
-stays-too-long ws [] e = rw (append-nil ws) e
-stays-too-long ws (v ∷ vs) e =
-    let more = ap (any tooLong) (phases-snoc ws v) ∙ stays (phases ws) (phaseOf v) e in
-    sym (ap (λ (l : List ℕ). any tooLong (phases l)) (append-snoc ws v vs)) ∙ stays-too-long (ws ++ (v ∷ [])) vs more
-
--- ---- the answers, one word more
-
-pub merged-refused : (ws : List ℕ) → any tooLong (phases ws) ≡ true → merged ws ≡ withWords mergedLengthTooLong []
-unfolding merged mergeNumber
-merged-refused ws e = answer-refused _ _ _ (if-true _ _ _ e) refl
-
-pub merged-accepted : (ws : List ℕ) → any tooLong (phases ws) ≡ false → merged ws ≡ withWords accepted (mergedWords ws)
-unfolding merged mergeNumber
-merged-accepted ws e = answer-accepted _ _ (if-false _ _ _ e)
-
-short : (a : Phase) → a .elements < 2147483648 → any tooLong (a ∷ []) ≡ false
-unfolding any tooLong _or_
-short a h = rw (le-ltb 2147483647 (a .elements) (omega arith))
+-- ---- the merged words, one word more
 
 -- the last merged word
 abbrev pub lastWord : List ℕ → ℕ
@@ -144,20 +108,16 @@ module _ (ws : List ℕ) (w : ℕ) where
   more = ws ++ (w ∷ [])
 
   -- the word stands behind the merged words
-  appended : w < 4294967296 → any tooLong (phases ws) ≡ false → phases more ≡ phases ws ++ (phaseOf w ∷ [])
-      → merged more ≡ withWords accepted (mergedWords ws ++ (w ∷ []))
-  unfolding mergedWords phaseOf _or_
-  appended bound fine e =
-      merged-accepted more (ap (any tooLong) e ∙ any-append tooLong (phases ws) (phaseOf w ∷ []) ∙ rw fine (short (phaseOf w) (length-below w)))
-      ∙ ap (withWords accepted) (ap (map wordOf) e ∙ map-append wordOf (phases ws) (phaseOf w ∷ []) ∙ rw (word-of-phase w bound))
+  appended : w < 4294967296 → phases more ≡ phases ws ++ (phaseOf w ∷ []) → mergedWords more ≡ mergedWords ws ++ (w ∷ [])
+  unfolding mergedWords
+  appended bound e = ap (map wordOf) e ∙ map-append wordOf (phases ws) (phaseOf w ∷ []) ∙ rw (word-of-phase w bound)
 
   -- ABSORB or SQUEEZE behind no words
-  pub step-first : w < 4294967296 → any tooLong (phases ws) ≡ false → length (mergedWords ws) ≡ 0
-      → merged more ≡ withWords accepted (mergedWords ws ++ (w ∷ []))
+  pub step-first : w < 4294967296 → length (mergedWords ws) ≡ 0 → mergedWords more ≡ mergedWords ws ++ (w ∷ [])
   unfolding mergedWords addLast
-  step-first bound fine e =
+  step-first bound e =
       let none : phases ws ≡ [] = sym (take-all 0 (phases ws) (omega (arith, e, length-map (phases ws) wordOf))) in
-      appended bound fine
+      appended bound
       (phases-snoc ws w
       ∙ ap (λ (ps : List Phase). addLast ps (phaseOf w)) none
       ∙ sym (ap (λ (ps : List Phase). ps ++ (phaseOf w ∷ [])) none))
@@ -173,12 +133,11 @@ module _ (ws : List ℕ) (w : ℕ) where
     abbrev front : List Phase
     front = last .front
 
-    apart : (any tooLong front ≡ false) × (any tooLong (b ∷ []) ≡ false)
-    apart = or-false _ _ (sym (any-append tooLong front (b ∷ [])) ∙ sym (ap (any tooLong) (last .split)) ∙ fine)
-
     fits : b .elements < 2147483648
     unfolding any tooLong
-    fits = omega (arith, ltb-false 2147483647 (b .elements) (or-false _ _ (apart .1) .0))
+    fits =
+        let apart = or-false _ _ (sym (any-append tooLong front (b ∷ [])) ∙ sym (ap (any tooLong) (last .split)) ∙ fine) in
+        omega (arith, ltb-false 2147483647 (b .elements) (or-false _ _ (apart .1) .0))
 
     words-split : mergedWords ws ≡ map wordOf front ++ (wordOf b ∷ [])
     unfolding mergedWords
@@ -196,10 +155,10 @@ module _ (ws : List ℕ) (w : ℕ) where
     phases-more : phases more ≡ front ++ pair b (phaseOf w)
     phases-more = phases-snoc ws w ∙ ap (λ (ps : List Phase). addLast ps (phaseOf w)) (last .split) ∙ add-last-snoc front b (phaseOf w)
 
-    pub step-other-kind : same (isAbsorb (lastWord ws)) (isAbsorb w) ≡ false → merged more ≡ withWords accepted (mergedWords ws ++ (w ∷ []))
+    pub step-other-kind : same (isAbsorb (lastWord ws)) (isAbsorb w) ≡ false → mergedWords more ≡ mergedWords ws ++ (w ∷ [])
     unfolding pair phaseOf
     step-other-kind e =
-        appended bound fine
+        appended bound
         (phases-more
         ∙ ap (λ (ps : List Phase). front ++ ps) (if-false _ _ _ (kinds false e))
         ∙ sym (append-assoc front (b ∷ []) (phaseOf w ∷ []))
@@ -209,32 +168,15 @@ module _ (ws : List ℕ) (w : ℕ) where
     unfolding pair phaseOf
     lengthened e = phases-more ∙ ap (λ (ps : List Phase). front ++ ps) (if-true _ _ _ (kinds true e))
 
-    length-last : lengthOf (lastWord ws) ≡ b .elements
-    length-last = ap lengthOf last-word ∙ word-length b fits
-
-    pub step-too-long : same (isAbsorb (lastWord ws)) (isAbsorb w) ≡ true → 2147483647 < lengthOf (lastWord ws) + lengthOf w
-        → merged more ≡ withWords mergedLengthTooLong []
-    unfolding any tooLong phaseOf _or_
-    step-too-long e h =
-        merged-refused more
-        (ap (any tooLong) (lengthened e)
-        ∙ any-append tooLong front (both b (phaseOf w) ∷ [])
-        ∙ rw (apart .0, lt-ltb 2147483647 (b .elements + lengthOf w) (omega (arith, length-last))))
-
-    pub step-same-kind : same (isAbsorb (lastWord ws)) (isAbsorb w) ≡ true → lengthOf (lastWord ws) + lengthOf w ≤ 2147483647
-        → merged more ≡ withWords accepted (set (mergedWords ws) (length (mergedWords ws) - 1) (lastWord ws + lengthOf w))
-    unfolding mergedWords phaseOf _or_
-    step-same-kind e h =
+    pub step-same-kind : same (isAbsorb (lastWord ws)) (isAbsorb w) ≡ true
+        → mergedWords more ≡ set (mergedWords ws) (length (mergedWords ws) - 1) (lastWord ws + lengthOf w)
+    unfolding mergedWords phaseOf
+    step-same-kind e =
         let before = map wordOf front in
         let v : wordOf (both b (phaseOf w)) ≡ lastWord ws + lengthOf w =
         sym (word-longer b (lengthOf w)) ∙ sym (ap (λ (x : ℕ). x + lengthOf w) last-word) in
-        merged-accepted more
-        (ap (any tooLong) (lengthened e)
-        ∙ any-append tooLong front (both b (phaseOf w) ∷ [])
-        ∙ rw (apart .0) (short (both b (phaseOf w)) (omega (arith, length-last))))
-        ∙ ap (withWords accepted)
-        (ap (map wordOf) (lengthened e)
+        ap (map wordOf) (lengthened e)
         ∙ map-append wordOf front (both b (phaseOf w) ∷ [])
         ∙ ap (λ (x : ℕ). before ++ (x ∷ [])) v
         ∙ sym (set-at before (wordOf b) [] (lastWord ws + lengthOf w) _ place)
-        ∙ sym (ap (λ (l : List ℕ). set l (length (mergedWords ws) - 1) (lastWord ws + lengthOf w)) words-split))
+        ∙ sym (ap (λ (l : List ℕ). set l (length (mergedWords ws) - 1) (lastWord ws + lengthOf w)) words-split)

@@ -14,12 +14,13 @@ use Rattle.basics.specs.Numbers.{accepted}
 use Rattle.basics.proofs.Below.{below-nil, below-cons, below-head, below-tail}
 use Rattle.basics.proofs.Cases.{by, if-false, and-left, and-right, and-both, or-false, same-self, same-other, same-true, same-false}
 use Rattle.words.specs.Words.{isAbsorb, lengthOf, Phase, phaseOf, wordOf}
-use Rattle.pattern.specs.Pattern.{join, merge, phases, mergedWords, alternate, soundWords}
-use Rattle.pattern.specs.Opening.{Opening, maxSeparator, tooLong, openingNumber}
+use Rattle.pattern.specs.Pattern.{maxWords, join, merge, phases, mergedWords, tooLong, alternate, soundWords}
+use Rattle.pattern.specs.Opening.{Opening, maxSeparator, openingNumber}
 use Rattle.words.proofs.WordKinds.{word-kind, word-length, word-of-phase, phase-of-word, word-below, length-below}
 use Rattle.pattern.proofs.MergeStep.{merged-words-length}
-use Rattle.pattern.proofs.Soundness.{long, right-count, sound}
-use Rattle.pattern.proofs.StartCheck.{PassedWords, few-declared, passed-rows, passes, some-words}
+use Rattle.pattern.proofs.Soundness.{long, right-count, Sound, sound}
+use Rattle.pattern.proofs.MergedLengths.{phases-fit}
+use Rattle.pattern.proofs.StartCheck.{row2, row19, PassedWords, few-declared, merged-fit, passed-rows, passes, some-words}
 
 -- ---- merging gives calls that alternate
 
@@ -140,7 +141,7 @@ module _ (w : ℕ) (ws : List ℕ) (r : PassedWords (w ∷ ws)) where
       let even = even-words in
       let few = merged-words-length (w ∷ ws) in
       let most = few-declared (w ∷ ws) (r .e1) in
-      let words = words-alternate true ps alternating (r .e5) in
+      let words = words-alternate true ps alternating (merged-fit (w ∷ ws) r) in
       right-count (map wordOf ps) (omega (arith, some-phases)) (omega arith) (omega arith) ∙ and-both _ _ (words .0) (words .1)
 
 words-sound : (ws : List ℕ) → PassedWords ws → soundWords (mergedWords ws) ≡ true
@@ -200,19 +201,14 @@ merged-again v vs some fine =
     merge-alternate (isAbsorb v) (mergedWords (v ∷ vs)) (words-alternate (isAbsorb v) (phases (v ∷ vs)) alternating fine .0)
     ∙ phases-of-words (phases (v ∷ vs)) fine .0
 
--- ---- sound words are an accepted pattern
+-- ---- which words are accepted
 
-none-empty : (ws : List ℕ) → all long ws ≡ true → any (λ w. eqb (lengthOf w) 0) ws ≡ false
+pub none-empty : (ws : List ℕ) → all long ws ≡ true → any (λ w. eqb (lengthOf w) 0) ws ≡ false
 unfolding all any _or_
 none-empty [] e = refl
 none-empty (w ∷ ws) e =
     let l = leb-true 1 (lengthOf w) (and-left _ _ e) in
     rw (ne-eqb (lengthOf w) 0 (λ z. omega arith), none-empty ws (and-right _ _ e))
-
-none-too-long : (ws : List ℕ) → any tooLong (map phaseOf ws) ≡ false
-unfolding any tooLong phaseOf _or_
-none-too-long [] = refl
-none-too-long (w ∷ ws) = rw (le-ltb 2147483647 (lengthOf w) (omega (arith, length-below w)), none-too-long ws)
 
 -- the last of words that alternate
 last-alternate : (first : Bool) (ws : List ℕ) → alternate first ws ≡ true → (shift first + length ws) % 2 ≡ 0 → 0 < length ws
@@ -232,22 +228,56 @@ unfolding alternate
 first-kind first [] e p = absurd (omega arith)
 first-kind first (w ∷ ws) e p = sym (same-true first (isAbsorb w) (and-left _ _ e))
 
-pub sound-accepted : (o : Opening) → soundWords (o .words) ≡ true → length (o .separator) ≤ maxSeparator → openingNumber o ≡ accepted
-unfolding shift
-sound-accepted o e h =
-    let ws = o .words in
-    let s = sound ws e in
-    let few = s .few in
-    let even = s .even in
-    passes o
-    (record {
-      of-words =
-          record {
-            e1 = some-words ws (λ z. omega arith) (s .many);
-            e2 = none-empty ws (s .longs);
-            e3 = ap not (first-kind true ws (s .turns) (omega arith));
-            e4 = last-alternate true ws (s .turns) (omega arith) (omega arith);
-            e5 = ap (any tooLong) (phases-of-sound ws e) ∙ none-too-long ws;
-          };
-      short = h;
-    })
+-- the kind of the first call stays
+firstKind : List Phase → Bool
+firstKind [] = true
+firstKind (a ∷ ps) = a .absorbs
+
+join-first : (a : Phase) (ps : List Phase) → firstKind (join a ps) ≡ a .absorbs
+unfolding join firstKind
+join-first a [] = refl
+join-first a (b ∷ bs) = by (λ (l : List Phase). firstKind l ≡ a .absorbs) _ _ _ (λ _. refl) λ _. refl
+
+first-word : (w : ℕ) (ws : List ℕ) → firstKind (map phaseOf (w ∷ ws)) ≡ isAbsorb w
+unfolding firstKind phaseOf
+first-word w ws = refl
+
+-- what the merged words tell of the first word and the last
+module _ (w : ℕ) (ws : List ℕ) (fine : any tooLong (phases (w ∷ ws)) ≡ false) (e : soundWords (mergedWords (w ∷ ws)) ≡ true) where
+  words-told : (vs : List ℕ) → map phaseOf vs ≡ phases (w ∷ ws) → Sound vs → (isAbsorb w ≡ true) × (isAbsorb (getD (w ∷ ws) (length (w ∷ ws) - 1) 0) ≡ false)
+  unfolding phases merge phaseOf shift
+  words-told [] read s = absurd (let few = s .few in omega arith)
+  words-told (v ∷ vs) read s =
+      let even = s .even in (
+        sym (join-first (phaseOf w) (merge (map phaseOf ws)))
+            ∙ sym (ap firstKind read)
+            ∙ first-word v vs
+            ∙ first-kind true (v ∷ vs) (s .turns) (omega arith),
+        sym (last-word w ws false)
+            ∙ sym (merge-last (map phaseOf (w ∷ ws)) false)
+            ∙ sym (ap (λ (ps : List Phase). lastKind ps false) read)
+            ∙ last-word v vs false
+            ∙ last-alternate true (v ∷ vs) (s .turns) (omega arith) (omega arith),
+      )
+
+  pub ends-told : (isAbsorb w ≡ true) × (isAbsorb (getD (w ∷ ws) (length (w ∷ ws) - 1) 0) ≡ false)
+  unfolding mergedWords
+  ends-told = words-told (mergedWords (w ∷ ws)) (phases-of-words (phases (w ∷ ws)) fine .0) (sound _ e)
+
+-- words that are few enough and within the limits, and whose merged words are sound, are an accepted pattern
+words-accepted : (ws : List ℕ) → length ws ≤ maxWords → row2 ws ≡ false → row19 ws ≡ false → soundWords (mergedWords ws) ≡ true → PassedWords ws
+unfolding mergedWords phases merge
+words-accepted [] few some within e = absurd (let two = sound [] e .few in omega arith)
+words-accepted (w ∷ ws) few some within e =
+    let told = ends-told w ws (phases-fit (w ∷ ws) few within) e in
+    record {
+      e1 = some-words (w ∷ ws) (λ z. omega arith) few;
+      e2 = some;
+      e19 = within;
+      e3 = ap not (told .0);
+      e4 = told .1;
+    }
+
+pub accepts : (o : Opening) → length (o .words) ≤ maxWords → row2 (o .words) ≡ false → row19 (o .words) ≡ false
+    → soundWords (mergedWords (o .words)) ≡ true → length (o .separator) ≤ maxSeparator → openingNumber o ≡ accepted
+accepts o few some within e short = passes o (record { of-words = words-accepted (o .words) few some within e; short = short })

@@ -4,33 +4,34 @@ use mathlib.Core.Path.{_≡_, refl, sym, ap, ap₂, _∙_}
 use mathlib.Core.Bool.{Bool, true, false, not}
 use mathlib.Core.List.{List, [], _∷_, _++_, map, append-nil}
 use mathlib.Core.Logic.{_≢_}
-use Prim.Native.Nat.{ℕ, suc, _+_, _≤_, _<_, min}
+use Prim.Native.Nat.{ℕ, suc, _+_, _-_, _*_, _≤_, _<_, min}
 use native.Mathlib.Numerals.{add-one}
 use native.Mathlib.Omega.{arith}
 use borrow.Author.Tests.{ltb-false, lt-ltb, le-ltb, leb-true, leb-false, le-leb, lt-leb, eqb-true, eqb-false, eq-eqb, ne-eqb}
-use lib.Dec.{leb, ltb, eqb, lit≤}
+use lib.Dec.{leb, ltb, eqb}
 use lib.ListN.{length, getD, take, replicate, length-append}
 use lib.Seq.{length-take-le, take-all, take-suc, append-snoc}
 use Rattle.basics.specs.Logic.{if_then_else_, _and_, _or_, any}
-use Rattle.basics.specs.Numbers.{accepted, wordCountOutOfRange, wordLengthZero, firstWordSqueeze, mergedLengthTooLong}
+use Rattle.basics.specs.Numbers.{accepted, wordCountOutOfRange, wordLengthZero, callTooLong, firstWordSqueeze}
 use Rattle.basics.specs.Refusals.{_gets_⨾_, firstNumber}
-use Rattle.basics.proofs.Cases.{by, cases, and-stop, if-true, if-false, or-right, any-append}
+use Rattle.basics.proofs.Cases.{cases, if-true, if-false, or-false, any-append}
 use Rattle.words.specs.Words.{isAbsorb, lengthOf, Phase, phaseOf, wordOf}
-use Rattle.pattern.specs.Pattern.{merge, phases, mergedWords}
-use Rattle.pattern.specs.Opening.{tooLong, wordRows, given, withWords, answerWith}
+use Rattle.pattern.specs.Pattern.{merge, phases, mergedWords, tooLong}
+use Rattle.pattern.specs.Opening.{wordRows, given, withWords, answerWith}
 use Rattle.pattern.specs.Steps.{Holds, holding}
-use Rattle.pattern.specs.Pass.{merged, mergeNumber, without, passNumber, passed, passBegin, earned, lower, passStep, passFrom, heldAfter}
-use Rattle.pattern.specs.declared.Merged.{Merged}
+use Rattle.pattern.specs.Pass.{without, passNumber, passed, earned, rank, earlier, passStep, passFrom, heldAfter}
+use Rattle.pattern.specs.declared.WordList.{WordList}
 use Rattle.pattern.proofs.Given.{answer-accepted, answer-refused}
-use Rattle.pattern.proofs.Answers.{words-used, holds-few}
-use Rattle.pattern.proofs.MergeStep.{addLast, phases-snoc, stays-too-long}
+use Rattle.pattern.proofs.Answers.{words-used, holds-few, last-held}
+use Rattle.pattern.proofs.MergedLengths.{phases-fit, merged-words-within}
+use Rattle.pattern.proofs.MergeStep.{addLast, phases-snoc}
 use Rattle.pattern.proofs.MergedWords.{merged-again}
 
 -- the first of four conditions that holds gives its number
 unfoldable pub numbers : Bool → Bool → Bool → Bool → ℕ
 numbers a b c d =
     firstNumber
-    (a gets wordCountOutOfRange ⨾ b gets wordLengthZero ⨾ c gets firstWordSqueeze ⨾ d gets mergedLengthTooLong ⨾ [])
+    (a gets wordCountOutOfRange ⨾ b gets wordLengthZero ⨾ c gets callTooLong ⨾ d gets firstWordSqueeze ⨾ [])
 
 -- the conditions of the pass, on words of which there is one at least
 abbrev over : List ℕ → Bool
@@ -39,57 +40,62 @@ over ws = ltb 64 (length ws)
 abbrev isEmpty : ℕ → Bool
 isEmpty w = eqb (lengthOf w) 0
 
-abbrev empties : List ℕ → Bool
-empties ws = any isEmpty ws
+abbrev isLong : ℕ → Bool
+isLong w = ltb 16777216 (lengthOf w)
 
 abbrev squeezes : List ℕ → Bool
 squeezes [] = false
 squeezes (w ∷ ws) = not (isAbsorb w)
 
-abbrev tooLongs : List ℕ → Bool
-tooLongs ws = any tooLong (phases ws)
+-- the number that words earn, of which there is one at least, and before the first 0
+abbrev numberOf : List ℕ → ℕ
+numberOf ws = numbers (over ws) (any isEmpty ws) (any isLong ws) (squeezes ws)
 
-pub pass-number : (w : ℕ) (ws : List ℕ) → passNumber (w ∷ ws) ≡ numbers (over (w ∷ ws)) (empties (w ∷ ws)) (squeezes (w ∷ ws)) (tooLongs (w ∷ ws))
+pub pass-number : (w : ℕ) (ws : List ℕ) → passNumber (w ∷ ws) ≡ numberOf (w ∷ ws)
 unfolding passNumber without wordRows numbers if_then_else_ _or_
 pass-number w ws = rw (ne-eqb (suc (length ws)) 0 (λ e. omega arith))
 
-none-held : accepted ≡ numbers (over []) (empties []) false (tooLongs [])
-unfolding numbers firstNumber phases merge any if_then_else_
+none-held : accepted ≡ numberOf []
+unfolding numbers firstNumber any if_then_else_
 none-held = refl
 
 -- the number that is held, before the first word too
-held-number : (ws : List ℕ) → heldAfter ws .number ≡ numbers (over ws) (empties ws) (squeezes ws) (tooLongs ws)
+held-number : (ws : List ℕ) → heldAfter ws .number ≡ numberOf ws
 unfolding heldAfter passed answerWith withWords
 held-number [] = none-held
 held-number (w ∷ ws) = pass-number w ws
 
--- ---- the lower of two numbers
+-- ---- one word more
 
-lower-none : (h : ℕ) → lower h 0 ≡ h
-unfolding lower if_then_else_
-lower-none h = cases (eqb h 0) (λ e. if-true _ _ _ e ∙ sym (eqb-true h 0 e)) (λ e. if-false _ _ _ e)
+-- the first of all conditions is the earlier of the first of some and the first of the others
+both-conditions : (a b c d e f g h : Bool) → earlier (numbers a b c d) (numbers e f g h) ≡ numbers (a or e) (b or f) (c or g) (d or h)
+unfolding numbers firstNumber earlier rank if_then_else_ _or_
+both-conditions true b c d true f g h = refl
+both-conditions true b c d false true g h = refl
+both-conditions true b c d false false true h = refl
+both-conditions true b c d false false false true = refl
+both-conditions true b c d false false false false = refl
+both-conditions false true c d true f g h = refl
+both-conditions false true c d false true g h = refl
+both-conditions false true c d false false true h = refl
+both-conditions false true c d false false false true = refl
+both-conditions false true c d false false false false = refl
+both-conditions false false true d true f g h = refl
+both-conditions false false true d false true g h = refl
+both-conditions false false true d false false true h = refl
+both-conditions false false true d false false false true = refl
+both-conditions false false true d false false false false = refl
+both-conditions false false false true true f g h = refl
+both-conditions false false false true false true g h = refl
+both-conditions false false false true false false true h = refl
+both-conditions false false false true false false false true = refl
+both-conditions false false false true false false false false = refl
+both-conditions false false false false e f g h = refl
 
-lower-one : (h : ℕ) → lower h 1 ≡ 1
-unfolding lower if_then_else_
-lower-one h =
-    cases
-    (eqb h 0)
-    (λ e. if-true _ _ _ e)
-    (λ e.
-    if-false _ _ _ e
-    ∙ by (λ (n : ℕ). n ≡ 1) (ltb 1 h) 1 h (λ _. refl) (λ l. let some = eqb-false h 0 e in let few = ltb-false 1 h l in omega arith))
-
-lower-two : (h : ℕ) → h ≢ 1 → lower h 2 ≡ 2
-unfolding lower if_then_else_
-lower-two h n =
-    cases
-    (eqb h 0)
-    (λ e. if-true _ _ _ e)
-    (λ e.
-    if-false _ _ _ e
-    ∙ by (λ (k : ℕ). k ≡ 2) (ltb 2 h) 2 h (λ _. refl) (λ l. let some = eqb-false h 0 e in let few = ltb-false 2 h l in omega arith))
-
--- ---- what a word earns by itself
+-- the number that a word earns by itself
+pub earned-number : (n w : ℕ) → earned n w ≡ numbers (leb 64 n) (isEmpty w) (isLong w) (eqb n 0 and not (isAbsorb w))
+unfolding earned numbers
+earned-number n w = refl
 
 module _ (n w : ℕ) where
   pub earned-1 : 64 ≤ n → earned n w ≡ wordCountOutOfRange
@@ -102,235 +108,172 @@ module _ (n w : ℕ) where
     earned-2 z = if-false _ _ _ (lt-leb 64 n h) ∙ if-true _ _ _ z
 
     module _ (some : isEmpty w ≡ false) where
-      pub earned-0 : (eqb n 0 and not (isAbsorb w)) ≡ false → earned n w ≡ accepted
+      pub earned-19 : isLong w ≡ true → earned n w ≡ callTooLong
       unfolding earned firstNumber
-      earned-0 e = if-false _ _ _ (lt-leb 64 n h) ∙ if-false _ _ _ some ∙ if-false _ _ _ e
+      earned-19 l = if-false _ _ _ (lt-leb 64 n h) ∙ if-false _ _ _ some ∙ if-true _ _ _ l
 
-      pub earned-3 : (eqb n 0 and not (isAbsorb w)) ≡ true → earned n w ≡ firstWordSqueeze
-      unfolding earned firstNumber
-      earned-3 e = if-false _ _ _ (lt-leb 64 n h) ∙ if-false _ _ _ some ∙ if-true _ _ _ e
+      module _ (short : isLong w ≡ false) where
+        pub earned-3 : (eqb n 0 and not (isAbsorb w)) ≡ true → earned n w ≡ firstWordSqueeze
+        unfolding earned firstNumber
+        earned-3 e = if-false _ _ _ (lt-leb 64 n h) ∙ if-false _ _ _ some ∙ if-false _ _ _ short ∙ if-true _ _ _ e
 
-pub earned-few : (n w : ℕ) → earned n w ≡ accepted → n < 64
-earned-few n w e = cases (leb 64 n) (λ l. absurd (let one = earned-1 n w (leb-true _ _ l) in omega arith)) (leb-false 64 n)
-
--- ---- the four conditions
-
--- the first three stay, and what was held stays held
-keeps : (b c d e : Bool) → (d ≡ true → e ≡ true) → numbers false b c d ≢ 0 → numbers false b c e ≡ numbers false b c d
-unfolding numbers firstNumber if_then_else_
-keeps true c d e f n = refl
-keeps false true d e f n = refl
-keeps false false true e f n = rw (f refl)
-keeps false false false e f n = absurd (n refl)
-
--- nothing was held: only the last can be earned
-none-before : (b c d : Bool) → numbers false b c d ≡ 0 → (b ≡ false) × (c ≡ false) × (d ≡ false)
-unfolding numbers firstNumber if_then_else_
-none-before true c d e = absurd (omega arith)
-none-before false true d e = absurd (omega arith)
-none-before false false true e = absurd (omega arith)
-none-before false false false e = (refl, refl, refl)
-
-not-first : (b c d : Bool) → numbers false b c d ≢ 1
-unfolding numbers firstNumber if_then_else_
-not-first true c d e = omega arith
-not-first false true d e = omega arith
-not-first false false true e = omega arith
-not-first false false false e = omega arith
-
--- ---- one word more
+        pub earned-0 : (eqb n 0 and not (isAbsorb w)) ≡ false → earned n w ≡ accepted
+        unfolding earned firstNumber
+        earned-0 e = if-false _ _ _ (lt-leb 64 n h) ∙ if-false _ _ _ some ∙ if-false _ _ _ short ∙ if-false _ _ _ e
 
 or-none : (a : Bool) → a or false ≡ a
 unfolding _or_
 or-none true = refl
 or-none false = refl
 
-some-number : (ws : List ℕ) (w : ℕ) → let more = ws ++ (w ∷ []) in
-    passNumber more ≡ numbers (over more) (empties more) (squeezes more) (tooLongs more)
+any-more : (f : ℕ → Bool) (ws : List ℕ) (w : ℕ) → any f (ws ++ (w ∷ [])) ≡ any f ws or f w
+unfolding any
+any-more f ws w = any-append f ws (w ∷ []) ∙ ap (λ (b : Bool). any f ws or b) (or-none (f w))
+
+or-true : (a : Bool) → a or true ≡ true
+unfolding _or_
+or-true true = refl
+or-true false = refl
+
+over-more : (ws : List ℕ) (w : ℕ) → over (ws ++ (w ∷ [])) ≡ over ws or leb 64 (length ws)
+unfolding _or_
+over-more ws w =
+    let longer = length-append ws (w ∷ []) in
+    cases
+    (leb 64 (length ws))
+    (λ e.
+    lt-ltb 64 (length (ws ++ (w ∷ []))) (omega (arith, leb-true 64 (length ws) e))
+    ∙ sym (ap (λ (b : Bool). over ws or b) e ∙ or-true (over ws)))
+    (λ e.
+    let few = leb-false 64 (length ws) e in
+    le-ltb 64 (length (ws ++ (w ∷ []))) (omega arith) ∙ sym (ap₂ (λ (a b : Bool). a or b) (le-ltb 64 (length ws) (omega arith)) e))
+
+squeezes-more : (ws : List ℕ) (w : ℕ) → squeezes (ws ++ (w ∷ [])) ≡ squeezes ws or (eqb (length ws) 0 and not (isAbsorb w))
+unfolding _or_ _and_
+squeezes-more [] w = refl
+squeezes-more (v ∷ vs) w =
+    sym (ap (λ (b : Bool). not (isAbsorb v) or (b and not (isAbsorb w))) (ne-eqb (length (v ∷ vs)) 0 (λ e. omega arith)) ∙ or-none (not (isAbsorb v)))
+
+some-number : (ws : List ℕ) (w : ℕ) → passNumber (ws ++ (w ∷ [])) ≡ numberOf (ws ++ (w ∷ []))
 some-number [] w = pass-number w []
 some-number (v ∷ vs) w = pass-number v (vs ++ (w ∷ []))
 
-module _ (ws : List ℕ) (w : ℕ) where
-  abbrev more : List ℕ
-  more = ws ++ (w ∷ [])
+-- the number that words earn with one more is the earlier of what is held and what the word earns
+pub number-more : (ws : List ℕ) (w : ℕ) → passNumber (ws ++ (w ∷ [])) ≡ earlier (heldAfter ws .number) (earned (length ws) w)
+number-more ws w =
+    some-number ws w
+    ∙ (λ i. numbers (over-more ws w i) (any-more isEmpty ws w i) (any-more isLong ws w i) (squeezes-more ws w i))
+    ∙ sym (both-conditions (over ws) (any isEmpty ws) (any isLong ws) (squeezes ws) _ _ _ _)
+    ∙ ap₂ earlier (sym (held-number ws)) (sym (earned-number (length ws) w))
 
-  abbrev n : ℕ
-  n = length ws
+-- no number: none of the conditions holds
+none-holds : (a b c d : Bool) → numbers a b c d ≡ accepted → (a ≡ false) × (b ≡ false) × (c ≡ false)
+unfolding numbers firstNumber if_then_else_
+none-holds true b c d e = absurd (omega arith)
+none-holds false true c d e = absurd (omega arith)
+none-holds false false true d e = absurd (omega arith)
+none-holds false false false d e = (refl, refl, refl)
 
-  longer : length more ≡ suc n
-  longer = length-append ws (w ∷ []) ∙ add-one n
+pub earlier-zero : (a b : ℕ) → earlier a b ≡ accepted → (a ≡ accepted) × (b ≡ accepted)
+unfolding earlier
+earlier-zero a b e =
+    cases
+    (eqb a accepted)
+    (λ x. (eqb-true a accepted x, sym (if-true _ _ _ x) ∙ e))
+    (λ x.
+    let some = eqb-false a accepted x in
+    absurd
+    (cases
+    (eqb b accepted)
+    (λ y. some (sym (if-false _ _ _ x ∙ if-true _ _ _ y) ∙ e))
+    (λ y.
+    let other = eqb-false b accepted y in
+    let both = sym (if-false _ _ _ x ∙ if-false _ _ _ y) ∙ e in
+    cases (ltb (rank b) (rank a)) (λ l. other (sym (if-true _ _ _ l) ∙ both)) (λ l. some (sym (if-false _ _ _ l) ∙ both)))))
 
-  more-number : passNumber more ≡ numbers (over more) (empties more) (squeezes more) (tooLongs more)
-  more-number = some-number ws w
+-- a word that earns none is within the limit, behind fewer than 64
+pub earned-none : (n w : ℕ) → earned n w ≡ accepted → (n < 64) × (lengthOf w ≤ 16777216)
+earned-none n w e =
+    let (few, _, short) = none-holds _ _ _ _ (sym (earned-number n w) ∙ e) in
+    (leb-false 64 n few, ltb-false 16777216 (lengthOf w) short)
 
-  more-over : n < 64 → over more ≡ false
-  more-over h = le-ltb 64 (length more) (omega (arith, longer))
+-- ---- the words that are held
 
-  more-empties : empties more ≡ empties ws or isEmpty w
-  unfolding any
-  more-empties = any-append isEmpty ws (w ∷ []) ∙ ap (λ (b : Bool). empties ws or b) (or-none (isEmpty w))
+-- what holds of words while no number is held
+pub record Free (ws : List ℕ) : Type 0 where
+  pub few : length ws ≤ 64
+  pub some : any isEmpty ws ≡ false
+  pub short : any isLong ws ≡ false
 
-  -- the 65th word, or a later one
-  module _ (h : 64 ≤ n) where
-    number-1 : passNumber more ≡ wordCountOutOfRange
-    unfolding numbers firstNumber
-    number-1 = more-number ∙ if-true _ _ _ (lt-ltb 64 (length more) (omega (arith, longer)))
+module _ (ws : List ℕ) (e : heldAfter ws .number ≡ accepted) where
+  pub free : Free ws
+  free =
+      let (few, some, short) = none-holds _ _ _ _ (sym (held-number ws) ∙ e) in
+      record { few = ltb-false 64 (length ws) few; some = some; short = short }
 
-  module _ (h : n < 64) where
-    -- what is held is not number 1
-    held-is : heldAfter ws .number ≡ numbers false (empties ws) (squeezes ws) (tooLongs ws)
-    held-is = held-number ws ∙ ap (λ (b : Bool). numbers b (empties ws) (squeezes ws) (tooLongs ws)) (le-ltb 64 n (omega arith))
+  pub held-fits : any tooLong (phases ws) ≡ false
+  held-fits = phases-fit ws (free .few) (free .short)
 
-    number-is : passNumber more ≡ numbers false (empties ws or isEmpty w) (squeezes more) (tooLongs more)
-    number-is =
-        more-number
-        ∙ ap (λ (b : Bool). numbers b (empties more) (squeezes more) (tooLongs more)) (more-over h)
-        ∙ ap (λ (b : Bool). numbers false b (squeezes more) (tooLongs more)) more-empties
-
-    -- a word of length 0
-    module _ (z : isEmpty w ≡ true) where
-      number-2 : passNumber more ≡ wordLengthZero
-      unfolding numbers firstNumber if_then_else_
-      number-2 = number-is ∙ if-true _ _ _ (or-right _ _ z)
-
-    -- another word
-    module _ (some : isEmpty w ≡ false) where
-      number-some : passNumber more ≡ numbers false (empties ws) (squeezes more) (tooLongs more)
-      number-some =
-          number-is
-          ∙ ap (λ (b : Bool). numbers false b (squeezes more) (tooLongs more)) (ap (λ (b : Bool). empties ws or b) some ∙ or-none (empties ws))
+pub held-merged : (ws : List ℕ) → heldAfter ws .number ≡ accepted → heldAfter ws ≡ withWords accepted (mergedWords ws)
+unfolding heldAfter passed answerWith withWords mergedWords phases merge
+held-merged [] e = refl
+held-merged (w ∷ ws) e = answer-accepted (passNumber (w ∷ ws)) (mergedWords (w ∷ ws)) e
 
 -- merging behind merged words
-merged-behind : (v : ℕ) (vs : List ℕ) (w : ℕ) → empties (v ∷ vs) ≡ false → tooLongs (v ∷ vs) ≡ false
-    → merged (mergedWords (v ∷ vs) ++ (w ∷ [])) ≡ merged (v ∷ vs ++ (w ∷ []))
-unfolding merged mergeNumber mergedWords
-merged-behind v vs w some fine =
+merged-behind : (ws : List ℕ) (w : ℕ) → Free ws → mergedWords (mergedWords ws ++ (w ∷ [])) ≡ mergedWords (ws ++ (w ∷ []))
+unfolding mergedWords phases merge
+merged-behind [] w f = refl
+merged-behind (v ∷ vs) w f =
     let ws = v ∷ vs in
-    let same : phases (mergedWords ws ++ (w ∷ [])) ≡ phases (ws ++ (w ∷ [])) =
-    phases-snoc (mergedWords ws) w ∙ ap (λ (ps : List Phase). addLast ps (phaseOf w)) (merged-again v vs some fine) ∙ sym (phases-snoc ws w) in
-    ap (λ (ps : List Phase). answerWith (if any tooLong ps then mergedLengthTooLong else accepted) (map wordOf ps)) same
-
--- while no number is held, the number is that of merging
-merge-only : (more : List ℕ) → passNumber more ≡ mergeNumber more → passed more ≡ merged more
-unfolding passed merged
-merge-only more e = ap (λ (n : ℕ). answerWith n (mergedWords more)) e
-
-third : (d : Bool) → numbers false false true d ≡ firstWordSqueeze
-unfolding numbers firstNumber if_then_else_
-third d = refl
-
-last-number : (d : Bool) → numbers false false false d ≡ (if d then mergedLengthTooLong else accepted)
-unfolding numbers firstNumber if_then_else_
-last-number true = refl
-last-number false = refl
+    ap (map wordOf)
+    (phases-snoc (mergedWords ws) w
+    ∙ ap (λ (ps : List Phase). addLast ps (phaseOf w)) (merged-again v vs (f .some) (phases-fit ws (f .few) (f .short)))
+    ∙ sym (phases-snoc ws w))
 
 -- ---- the step
 
 -- a number that is held or earned
-pub step-number : (n : ℕ) (held : Merged) (w k : ℕ) → lower (held .number) (earned n w) ≡ k → k ≢ accepted → passStep n held w ≡ withWords k []
+pub step-number : (n : ℕ) (held : WordList) (w k : ℕ) → earlier (held .number) (earned n w) ≡ k → k ≢ accepted → passStep n held w ≡ withWords k []
 unfolding passStep
-step-number n held w k e some = rw e (if-false _ _ _ (ne-eqb k accepted some))
+step-number n held w k e some = answer-refused _ k _ e (ne-eqb k accepted some)
 
 -- none
-step-merges : (n : ℕ) (held : Merged) (w : ℕ) → lower (held .number) (earned n w) ≡ accepted
-    → passStep n held w ≡ merged (take (held .count) (held .words) ++ (w ∷ []))
-unfolding passStep if_then_else_
-step-merges n held w e = rw e
+step-merges : (n : ℕ) (held : WordList) (w : ℕ) → earlier (held .number) (earned n w) ≡ accepted
+    → passStep n held w ≡ withWords accepted (mergedWords (take (held .count) (held .words) ++ (w ∷ [])))
+unfolding passStep
+step-merges n held w e = answer-accepted _ _ e
 
-refused-with : (more : List ℕ) (k : ℕ) → passNumber more ≡ k → k ≢ accepted → passed more ≡ withWords k []
-unfolding passed
-refused-with more k e some = answer-refused _ k _ e (ne-eqb k accepted some)
+module _ (more : List ℕ) where
+  passed-number : (k : ℕ) → passNumber more ≡ k → k ≢ accepted → passed more ≡ withWords k []
+  unfolding passed
+  passed-number k e some = answer-refused _ k _ e (ne-eqb k accepted some)
 
--- the 65th word, and words of length 0
-step-over : (ws : List ℕ) (w : ℕ) → 64 ≤ length ws → passStep (length ws) (heldAfter ws) w ≡ passed (ws ++ (w ∷ []))
-step-over ws w h =
-    let one : (1 ≡ accepted → ⊥) = λ e. omega arith in
-    step-number (length ws) (heldAfter ws) w 1 (ap (lower (heldAfter ws .number)) (earned-1 (length ws) w h) ∙ lower-one _) one
-    ∙ sym (refused-with (ws ++ (w ∷ [])) 1 (number-1 ws w h) one)
-
-step-empty : (ws : List ℕ) (w : ℕ) → length ws < 64 → isEmpty w ≡ true → passStep (length ws) (heldAfter ws) w ≡ passed (ws ++ (w ∷ []))
-step-empty ws w h z =
-    let two : (2 ≡ accepted → ⊥) = λ e. omega arith in
-    let other : heldAfter ws .number ≢ 1 = λ e. not-first (empties ws) (squeezes ws) (tooLongs ws) (sym (held-is ws w h) ∙ e) in
-    step-number (length ws) (heldAfter ws) w 2 (ap (lower (heldAfter ws .number)) (earned-2 (length ws) w h z) ∙ lower-two _ other) two
-    ∙ sym (refused-with (ws ++ (w ∷ [])) 2 (number-2 ws w h z) two)
-
--- the first word
-first-number : (w : ℕ) → isEmpty w ≡ false → passNumber (w ∷ []) ≡ numbers false false (not (isAbsorb w)) (tooLongs (w ∷ []))
-unfolding any
-first-number w some = number-some [] w (lit≤ tt) some
-
-first-merged : (w : ℕ) → isEmpty w ≡ false → isAbsorb w ≡ true → passNumber (w ∷ []) ≡ mergeNumber (w ∷ [])
-unfolding mergeNumber
-first-merged w some absorbs = first-number w some ∙ rw absorbs (last-number (tooLongs (w ∷ [])))
-
-step-first-word : (w : ℕ) → isEmpty w ≡ false → passStep 0 passBegin w ≡ passed (w ∷ [])
-unfolding withWords lower if_then_else_ _and_
-step-first-word w some =
-    cases
-    (isAbsorb w)
-    (λ absorbs.
-    step-merges 0 passBegin w (earned-0 0 w (lit≤ tt) some (ap not absorbs)) ∙ sym (merge-only (w ∷ []) (first-merged w some absorbs)))
-    λ squeezing.
-    let three : (3 ≡ accepted → ⊥) = λ e. omega arith in
-    step-number 0 passBegin w 3 (earned-3 0 w (lit≤ tt) some (ap not squeezing)) three
-    ∙ sym (refused-with (w ∷ []) 3 (first-number w some ∙ rw squeezing (third (tooLongs (w ∷ [])))) three)
-
--- a later word
-module _ (v : ℕ) (vs : List ℕ) (w : ℕ) (h : length (v ∷ vs) < 64) (some : isEmpty w ≡ false) where
-  abbrev ws : List ℕ
-  ws = v ∷ vs
-
-  kept : lower (passed ws .number) (earned (length ws) w) ≡ passed ws .number
-  kept =
-      ap (lower (passed ws .number)) (earned-0 (length ws) w h some (and-stop _ _ (ne-eqb (length ws) 0 (λ e. omega arith))))
-      ∙ lower-none (passed ws .number)
-
-  number-held : passed ws .number ≡ numbers false (empties ws) (squeezes ws) (tooLongs ws)
-  unfolding heldAfter
-  number-held = held-is ws w h
-
-  held-stays : passed ws .number ≢ accepted → passStep (length ws) (passed ws) w ≡ passed (ws ++ (w ∷ []))
-  held-stays n =
-      let same = keeps (empties ws) (squeezes ws) (tooLongs ws) (tooLongs (ws ++ (w ∷ []))) (stays-too-long ws (w ∷ []))
-      (λ e. n (number-held ∙ e)) in
-      step-number (length ws) (passed ws) w (passed ws .number) kept n
-      ∙ sym (refused-with (ws ++ (w ∷ [])) (passed ws .number) (number-some ws w h some ∙ same ∙ sym number-held) n)
-
-  number-merged : passed ws .number ≡ accepted → passNumber (ws ++ (w ∷ [])) ≡ mergeNumber (ws ++ (w ∷ []))
-  unfolding mergeNumber
-  number-merged e =
-      let (empty, squeeze, _) = none-before (empties ws) (squeezes ws) (tooLongs ws) (sym number-held ∙ e) in
-      number-some ws w h some ∙ rw (empty, squeeze) (last-number (tooLongs (ws ++ (w ∷ []))))
-
-  word-merged : passed ws .number ≡ accepted → passStep (length ws) (passed ws) w ≡ passed (ws ++ (w ∷ []))
-  unfolding passed answerWith withWords
-  word-merged e =
-      let (empty, _, long) = none-before (empties ws) (squeezes ws) (tooLongs ws) (sym number-held ∙ e) in
-      let held = answer-accepted (passNumber ws) (mergedWords ws) e in
-      let words = ap (λ (m : Merged). take (m .count) (m .words)) held ∙ words-used accepted (mergedWords ws) in
-      step-merges (length ws) (passed ws) w (kept ∙ e)
-      ∙ ap (λ (l : List ℕ). merged (l ++ (w ∷ []))) words
-      ∙ merged-behind v vs w empty long
-      ∙ sym (merge-only (ws ++ (w ∷ [])) (number-merged e))
-
-  step-later : passStep (length ws) (passed ws) w ≡ passed (ws ++ (w ∷ []))
-  step-later = cases (eqb (passed ws .number) accepted) (λ e. word-merged (eqb-true _ _ e)) (λ e. held-stays (eqb-false _ _ e))
-
-step-some : (ws : List ℕ) (w : ℕ) → length ws < 64 → isEmpty w ≡ false → passStep (length ws) (heldAfter ws) w ≡ passed (ws ++ (w ∷ []))
-unfolding heldAfter
-step-some [] w h some = step-first-word w some
-step-some (v ∷ vs) w h some = step-later v vs w h some
+  passed-words : passNumber more ≡ accepted → passed more ≡ withWords accepted (mergedWords more)
+  unfolding passed
+  passed-words e = answer-accepted _ _ e
 
 -- the equation at every prefix: one word more takes what is held to what is held then
 pub step-holds : (ws : List ℕ) (w : ℕ) → passStep (length ws) (heldAfter ws) w ≡ passed (ws ++ (w ∷ []))
 step-holds ws w =
+    let k = earlier (heldAfter ws .number) (earned (length ws) w) in
     cases
-    (leb 64 (length ws))
-    (λ e. step-over ws w (leb-true _ _ e))
+    (eqb k accepted)
     (λ e.
-    let h = leb-false 64 (length ws) e in
-    cases (isEmpty w) (step-empty ws w h) (step-some ws w h))
+    let none = eqb-true k accepted e in
+    let held = earlier-zero _ _ none .0 in
+    let words = ap (λ (m : WordList). take (m .count) (m .words)) (held-merged ws held) ∙ words-used accepted (mergedWords ws) in
+    step-merges (length ws) (heldAfter ws) w none
+    ∙ ap (λ (l : List ℕ). withWords accepted (mergedWords (l ++ (w ∷ [])))) words
+    ∙ ap (withWords accepted) (merged-behind ws w (free ws held))
+    ∙ sym (passed-words (ws ++ (w ∷ [])) (number-more ws w ∙ none)))
+    (λ e.
+    let some = eqb-false k accepted e in
+    step-number (length ws) (heldAfter ws) w k refl some ∙ sym (passed-number (ws ++ (w ∷ [])) k (number-more ws w) some))
+
+-- and where it leads to no number, to the merged words
+pub merges-more : (ws : List ℕ) (w : ℕ) → earlier (heldAfter ws .number) (earned (length ws) w) ≡ accepted
+    → passed (ws ++ (w ∷ [])) ≡ withWords accepted (mergedWords (ws ++ (w ∷ [])))
+merges-more ws w e = passed-words (ws ++ (w ∷ [])) (number-more ws w ∙ e)
 
 -- ---- what a number, a list and a count hold together
 
@@ -347,80 +290,22 @@ module _ (number count : ℕ) (list : List ℕ) where
   unfolding holding withWords
   holding-refused n z = λ i. record { number = number; words = if-false _ list (replicate 64 0) (ne-eqb _ _ n) i; count = z i }
 
--- ---- where no number is held and none is earned
-
-pub lower-zero : (a b : ℕ) → lower a b ≡ accepted → (a ≡ accepted) × (b ≡ accepted)
-unfolding lower
-lower-zero a b e =
-    cases
-    (eqb a accepted)
-    (λ x. (eqb-true a accepted x, sym (if-true _ _ _ x) ∙ e))
-    (λ x.
-    let some = eqb-false a accepted x in
-    absurd
-    (cases
-    (eqb b accepted)
-    (λ y. some (sym (if-false _ _ _ x ∙ if-true _ _ _ y) ∙ e))
-    (λ y.
-    let other = eqb-false b accepted y in
-    let both = sym (if-false _ _ _ x ∙ if-false _ _ _ y) ∙ e in
-    cases (ltb b a) (λ l. other (sym (if-true _ _ _ l) ∙ both)) (λ l. some (sym (if-false _ _ _ l) ∙ both)))))
-
-none-too-long : (a b c d : Bool) → numbers a b c d ≡ accepted → d ≡ false
-unfolding numbers firstNumber if_then_else_
-none-too-long true b c d e = absurd (omega arith)
-none-too-long false true c d e = absurd (omega arith)
-none-too-long false false true d e = absurd (omega arith)
-none-too-long false false false true e = absurd (omega arith)
-none-too-long false false false false e = refl
-
-begins-merged : passBegin ≡ merged []
-unfolding merged mergeNumber mergedWords phases merge answerWith given withWords any if_then_else_
-begins-merged = refl
-
--- what is held are the merged words
-pub held-merged : (ws : List ℕ) → heldAfter ws .number ≡ accepted → heldAfter ws ≡ merged ws
-unfolding heldAfter passed answerWith withWords mergeNumber
-held-merged [] e = begins-merged
-held-merged (v ∷ vs) e =
-    let fine = none-too-long _ _ _ _ (sym (pass-number v vs) ∙ e) in
-    merge-only (v ∷ vs) (e ∙ sym (if-false _ _ _ fine))
-
-module _ (w : ℕ) where
-  merges-some : (ws : List ℕ) → length ws < 64 → isEmpty w ≡ false → heldAfter ws .number ≡ accepted → earned (length ws) w ≡ accepted
-      → passNumber (ws ++ (w ∷ [])) ≡ mergeNumber (ws ++ (w ∷ []))
-  unfolding heldAfter _and_
-  merges-some [] h some held none =
-      cases
-      (isAbsorb w)
-      (first-merged w some)
-      (λ squeezing. absurd (let three = earned-3 0 w h some (ap not squeezing) in omega arith))
-  merges-some (v ∷ vs) h some held none = number-merged v vs w h some held
-
--- and then those with the word
-pub merges-more : (ws : List ℕ) (w : ℕ) → lower (heldAfter ws .number) (earned (length ws) w) ≡ accepted → passed (ws ++ (w ∷ [])) ≡ merged (ws ++ (w ∷ []))
-merges-more ws w e =
-    let (held, none) = lower-zero _ _ e in
-    merge-only (ws ++ (w ∷ []))
-    (cases
-    (leb 64 (length ws))
-    (λ l. absurd (let one = earned-1 (length ws) w (leb-true _ _ l) in omega arith))
-    (λ l.
-    let h = leb-false 64 (length ws) l in
-    cases
-    (isEmpty w)
-    (λ z. absurd (let two = earned-2 (length ws) w h z in omega arith))
-    (λ some. merges-some w ws h some held none)))
-
 -- a list that holds merged words is what the pass has at hand while no number is held
-pub holding-holds : (ws list : List ℕ) (number count : ℕ) → holding number list count ≡ heldAfter ws → number ≡ accepted → Holds ws list count
-holding-holds ws list number count h e =
-    let words = holding-words number count list e in
-    let none = sym (ap (λ (m : Merged). m .number) h) ∙ holding-number number count list ∙ e in
-    record { holds = sym (held-merged ws none) ∙ sym h ∙ words }
+module _ (ws list : List ℕ) (number count : ℕ) (h : holding number list count ≡ heldAfter ws) (e : number ≡ accepted) where
+  pub none-held-yet : heldAfter ws .number ≡ accepted
+  none-held-yet = sym (ap (λ (m : WordList). m .number) h) ∙ holding-number number count list ∙ e
 
-pub holding-few : (ws list : List ℕ) (number count : ℕ) → holding number list count ≡ heldAfter ws → number ≡ accepted → count ≤ length ws
-holding-few ws list number count h e = holds-few ws list count (holding-holds ws list number count h e)
+  pub holding-holds : Holds ws list count
+  holding-holds = record { holds = sym (held-merged ws none-held-yet) ∙ sym h ∙ holding-words number count list e }
+
+  pub holding-few : count ≤ length ws
+  holding-few = holds-few ws list count holding-holds
+
+  -- its last word has the elements of as many calls at most
+  pub holding-within : count ≢ 0 → lengthOf (getD list (count - 1) 0) ≤ length ws * 16777216
+  holding-within some =
+      let f = free ws none-held-yet in
+      rw (last-held ws list count holding-holds some) (merged-words-within ws (f .few) (f .short) (length (mergedWords ws) - 1))
 
 -- ---- the pass, word by word
 
@@ -449,7 +334,7 @@ pub held-over : (ws : List ℕ) → 64 < length ws → heldAfter ws ≡ withWord
 unfolding heldAfter numbers firstNumber
 held-over [] h = absurd (omega arith)
 held-over (v ∷ vs) h =
-    refused-with (v ∷ vs) wordCountOutOfRange (pass-number v vs ∙ if-true _ _ _ (lt-ltb 64 (length (v ∷ vs)) h)) (λ e. omega arith)
+    passed-number (v ∷ vs) wordCountOutOfRange (pass-number v vs ∙ if-true _ _ _ (lt-ltb 64 (length (v ∷ vs)) h)) (λ e. omega arith)
 
 -- so the first 65 words tell
 pub held-65 : (ws : List ℕ) → heldAfter (take (min (length ws) 65) ws) ≡ heldAfter ws
@@ -470,6 +355,6 @@ unfolding passFrom
 pass-from ws [] = ap heldAfter (sym (append-nil ws))
 pass-from ws (v ∷ vs) =
     let longer = length-append ws (v ∷ []) ∙ add-one (length ws) in
-    ap₂ (λ (n : ℕ) (m : Merged). passFrom n m vs) (sym longer) (step-holds ws v ∙ sym (held-some ws v))
+    ap₂ (λ (n : ℕ) (m : WordList). passFrom n m vs) (sym longer) (step-holds ws v ∙ sym (held-some ws v))
     ∙ pass-from (ws ++ (v ∷ [])) vs
     ∙ ap heldAfter (append-snoc ws v vs)

@@ -14,9 +14,10 @@ use Rattle.basics.specs.Numbers.{accepted}
 use Rattle.basics.proofs.Cases.{or-false}
 use Rattle.basics.proofs.FirstRow.{none-applies, accepted-none}
 use Rattle.words.specs.Words.{isAbsorb, lengthOf}
-use Rattle.pattern.specs.Pattern.{maxWords, phases, mergedWords}
-use Rattle.pattern.specs.Opening.{Opening, maxSeparator, tooLong, wordRows, openingRows, openingNumber, withWords, answerWith, checked}
+use Rattle.pattern.specs.Pattern.{maxWords, phases, mergedWords, tooLong}
+use Rattle.pattern.specs.Opening.{Opening, maxCall, maxSeparator, wordRows, openingRows, openingNumber, withWords, answerWith, checked}
 use Rattle.pattern.proofs.Given.{answer-accepted, answer-refused}
+use Rattle.pattern.proofs.MergedLengths.{phases-fit}
 use Rattle.pattern.proofs.MergeStep.{merged-words-length}
 
 module _ (ws : List ℕ) where
@@ -27,14 +28,14 @@ module _ (ws : List ℕ) where
   abbrev pub row2 : Bool
   row2 = any (λ w. eqb (lengthOf w) 0) ws
 
+  abbrev pub row19 : Bool
+  row19 = any (λ w. ltb maxCall (lengthOf w)) ws
+
   abbrev pub row3 : Bool
   row3 = not (isAbsorb (getD ws 0 0))
 
   abbrev pub row4 : Bool
   row4 = isAbsorb (getD ws (length ws - 1) 0)
-
-  abbrev pub row5 : Bool
-  row5 = any tooLong (phases ws)
 
   pub no-words : length ws ≡ 0 → row1 ≡ true
   unfolding _or_
@@ -52,12 +53,15 @@ module _ (ws : List ℕ) where
   pub record PassedWords : Type 0 where
     pub e1 : row1 ≡ false
     pub e2 : row2 ≡ false
+    pub e19 : row19 ≡ false
     pub e3 : row3 ≡ false
     pub e4 : row4 ≡ false
-    pub e5 : row5 ≡ false
 
   pub few-declared : row1 ≡ false → length ws ≤ maxWords
   few-declared e = ltb-false maxWords (length ws) (or-false _ _ e .1)
+
+  pub merged-fit : PassedWords → any tooLong (phases ws) ≡ false
+  merged-fit p = phases-fit ws (few-declared (p .e1)) (p .e19)
 
 module _ (o : Opening) where
   -- what an accepted opening passed
@@ -75,7 +79,7 @@ module _ (o : Opening) where
       let a5 = or-false _ _ (a4 .1) in
       let a6 = or-false _ _ (a5 .1) in
       record {
-        of-words = record { e1 = a1 .0; e2 = a2 .0; e3 = a3 .0; e4 = a4 .0; e5 = a5 .0 };
+        of-words = record { e1 = a1 .0; e2 = a2 .0; e19 = a3 .0; e3 = a4 .0; e4 = a5 .0 };
         short = ltb-false maxSeparator (length (o .separator)) (a6 .0);
       }
 
@@ -83,7 +87,7 @@ module _ (o : Opening) where
   unfolding openingNumber openingRows wordRows any _or_
   passes t =
       let w = t .of-words in
-      none-applies (openingRows o) (rw (w .e1, w .e2, w .e3, w .e4, w .e5, le-ltb maxSeparator (length (o .separator)) (t .short)))
+      none-applies (openingRows o) (rw (w .e1, w .e2, w .e19, w .e3, w .e4, le-ltb maxSeparator (length (o .separator)) (t .short)))
 
   pub checked-refused : (n : ℕ) → eqb n 0 ≡ false → openingNumber o ≡ n → checked o ≡ withWords n []
   unfolding checked
@@ -96,6 +100,9 @@ module _ (o : Opening) where
   pub checked-number : checked o .number ≡ openingNumber o
   unfolding checked answerWith withWords
   checked-number = refl
+
+  pub fit : openingNumber o ≡ accepted → any tooLong (phases (o .words)) ≡ false
+  fit e = merged-fit (o .words) (passed-rows e .of-words)
 
   pub few-words : openingNumber o ≡ accepted → length (mergedWords (o .words)) ≤ maxWords
   few-words e = omega (arith, few-declared (o .words) (passed-rows e .of-words .e1), merged-words-length (o .words))

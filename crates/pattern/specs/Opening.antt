@@ -1,5 +1,5 @@
 -- What a tag string is made from, and the start check of document 01, "Calls turned away": "START checks 1 to 6 in number order, whichever word is
--- at fault".
+-- at fault"; and of document 02, P4, which adds 19 "after 2 and before 3" and takes 5 away.
 use mathlib.Core.Bool.{Bool, not}
 use mathlib.Core.List.{List, [], _++_}
 use Prim.Native.Nat.{ℕ, _-_}
@@ -7,11 +7,11 @@ use lib.Dec.{ltb, eqb}
 use lib.ListN.{length, getD}
 use Rattle.basics.specs.Logic.{if_then_else_, _or_, any}
 use Rattle.basics.specs.Lists.{zeroPadded}
-use Rattle.basics.specs.Numbers.{accepted, wordCountOutOfRange, wordLengthZero, firstWordSqueeze, lastWordAbsorb, mergedLengthTooLong, separatorTooLong}
+use Rattle.basics.specs.Numbers.{accepted, wordCountOutOfRange, wordLengthZero, callTooLong, firstWordSqueeze, lastWordAbsorb, separatorTooLong}
 use Rattle.basics.specs.Refusals.{Row, _gets_⨾_, firstNumber}
-use Rattle.words.specs.Words.{maxLength, isAbsorb, lengthOf, Phase}
-use Rattle.pattern.specs.Pattern.{maxWords, phases, mergedWords}
-use Rattle.pattern.specs.declared.Merged.{Merged}
+use Rattle.words.specs.Words.{isAbsorb, lengthOf}
+use Rattle.pattern.specs.Pattern.{maxWords, mergedWords}
+use Rattle.pattern.specs.declared.WordList.{WordList}
 
 -- what a tag string is made from, and START gets beside a field number: the words that declare a pattern, and the separator (SAFE's domain
 -- separator), a string of bytes
@@ -27,18 +27,18 @@ opening ws separator = record { words = ws; separator = separator }
 abbrev pub maxSeparator : ℕ
 maxSeparator = 256
 
--- "merged length above 2147483647"
-unfoldable pub tooLong : Phase → Bool
-tooLong a = ltb maxLength (a .elements)
+-- the longest call that a pattern may declare: "limits one declared call to 16,777,216 elements"
+abbrev pub maxCall : ℕ
+maxCall = 16777216
 
 -- the rows about words alone, in the order in which they count
 unfoldable pub wordRows : List ℕ → List Row
 wordRows ws =
     eqb (length ws) 0 or ltb maxWords (length ws) gets wordCountOutOfRange ⨾
     any (λ w. eqb (lengthOf w) 0) ws gets wordLengthZero ⨾
+    any (λ w. ltb maxCall (lengthOf w)) ws gets callTooLong ⨾
     not (isAbsorb (getD ws 0 0)) gets firstWordSqueeze ⨾
     isAbsorb (getD ws (length ws - 1) 0) gets lastWordAbsorb ⨾
-    any tooLong (phases ws) gets mergedLengthTooLong ⨾
     []
 
 -- all rows, in the order in which they count: behind those about words the one about the separator
@@ -54,13 +54,13 @@ unfoldable pub given : ℕ → List ℕ → List ℕ
 given number xs = if eqb number accepted then xs else []
 
 -- a number with words: 64 places, unused ones 0, and how many are used
-unfoldable pub withWords : ℕ → List ℕ → Merged
+unfoldable pub withWords : ℕ → List ℕ → WordList
 withWords number ws = record { number = number; words = zeroPadded maxWords ws; count = length ws }
 
 -- an answer that holds words: its number, and the words if that is 0
-unfoldable pub answerWith : ℕ → List ℕ → Merged
+unfoldable pub answerWith : ℕ → List ℕ → WordList
 answerWith number ws = withWords number (given number ws)
 
 -- the start check's answer: its number and the merged words
-unfoldable pub checked : Opening → Merged
+unfoldable pub checked : Opening → WordList
 checked o = answerWith (openingNumber o) (mergedWords (o .words))

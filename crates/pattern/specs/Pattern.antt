@@ -2,10 +2,10 @@
 use mathlib.Core.Bool.{Bool, true, not}
 use mathlib.Core.List.{List, [], _∷_, map}
 use Prim.Native.Nat.{ℕ, _+_, _%_}
-use lib.Dec.{leb, eqb}
+use lib.Dec.{leb, ltb, eqb}
 use lib.ListN.{length, take, drop}
 use Rattle.basics.specs.Logic.{if_then_else_, _and_, same, all}
-use Rattle.words.specs.Words.{isAbsorb, lengthOf, Phase, phaseOf, wordOf}
+use Rattle.words.specs.Words.{maxLength, isAbsorb, lengthOf, Phase, phaseOf, wordOf}
 
 -- the longest pattern, in words
 abbrev pub maxWords : ℕ
@@ -30,6 +30,10 @@ phases ws = merge (map phaseOf ws)
 -- the merged words
 unfoldable pub mergedWords : List ℕ → List ℕ
 mergedWords ws = map wordOf (phases ws)
+
+-- "merged length above 2147483647", which no word can hold
+unfoldable pub tooLong : Phase → Bool
+tooLong a = ltb maxLength (a .elements)
 
 -- kinds alternate: the first is ABSORB where `first` is true, else SQUEEZE
 unfoldable pub alternate : Bool → List ℕ → Bool

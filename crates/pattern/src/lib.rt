@@ -9,21 +9,24 @@ ghost use Rattle.pattern.specs.Pass.{ending};
 // The longest pattern, in words.
 pub const MAX_WORDS: usize = 64;
 
+// The longest call that a pattern may declare, in elements.
+pub const MAX_CALL: u32 = 16777216;
+
 // The longest separator, in bytes.
 pub const MAX_SEPARATOR: usize = 256;
 
-// Number 0 and merged words, with unused ones 0; or another number and no words.
-pub struct Merged {
+// Number 0 and words, merged or cut, with unused places 0; or another number and no words.
+pub struct WordList {
     pub number: u32,
     pub words: [u32; 64],
     pub count: usize,
 }
 
 // A number and no words.
-pub fn refused(number: u32) -> Merged
+pub fn refused(number: u32) -> WordList
     ensures { λ r. ⌜ r ≡ withWords number [] ⌝ }
 {
-    Merged {
+    WordList {
         number,
         words: [0; 64],
         count: 0,
@@ -43,8 +46,8 @@ fn ending_of(last: u32, separator_length: usize) -> u32
     basics::ACCEPTED
 }
 
-// The start check: one pass over the words, and what is left for its end; the lower number wins.
-pub fn check(words: &[u32], separator: &[u8]) -> Merged
+// The start check: one pass over the words, and what is left for its end; the number that is checked first wins.
+pub fn check(words: &[u32], separator: &[u8]) -> WordList
     ensures { λ r. ⌜ r ≡ checked (opening (now (words .entry)) (now (separator .entry))) ⌝ }
 {
     if words.len() == 0 {
@@ -53,11 +56,11 @@ pub fn check(words: &[u32], separator: &[u8]) -> Merged
     let mut list = [0u32; 64];
     let count = pass::looked_at(words.len());
     let passed = pass::pass(&words[..count], &mut list);
-    let number = pass::lower_of(passed.number, ending_of(passed.last, separator.len()));
+    let number = pass::earlier_of(passed.number, ending_of(passed.last, separator.len()));
     if number != basics::ACCEPTED {
         return refused(number);
     }
-    Merged {
+    WordList {
         number: basics::ACCEPTED,
         words: list,
         count: passed.count,

@@ -1,13 +1,17 @@
 // The pass over the declared words: each is checked and merged, and looked at once.
+use crate::MAX_CALL;
 use crate::MAX_WORDS;
 ghost use mathlib.Core.Path.{_≡_};
 ghost use mathlib.Core.List.{List, [], _∷_, _++_};
 ghost use mathlib.Core.Logic.{_≢_};
-ghost use Prim.Native.Nat.{ℕ, _+_, _-_, _≤_, _<_, min};
+ghost use mathlib.Core.Bool.{false};
+ghost use Prim.Native.Nat.{ℕ, _+_, _-_, _*_, _≤_, _<_, min};
 ghost use lib.ListN.{length, getD, replicate};
 ghost use Rattle.words.specs.Words.{lengthOf};
-ghost use Rattle.pattern.specs.Steps.{Holds, Stepped, holding};
-ghost use Rattle.pattern.specs.Pass.{heldAfter, earned, lower, passStep};
+ghost use Rattle.basics.specs.Logic.{any};
+ghost use Rattle.pattern.specs.Pattern.{phases, tooLong};
+ghost use Rattle.pattern.specs.Steps.{Holds, holding};
+ghost use Rattle.pattern.specs.Pass.{heldAfter, earned, rank, earlier, passStep};
 
 // What the pass holds beside the list of merged words: a number, or 0 and how many words the list has.
 struct Held {
@@ -30,11 +34,11 @@ fn lengthened(word: u32, elements: u32) -> u32
     word + elements
 }
 
-// A word merged behind the words of a list. Answers how many words there are then, and 0 where a length is too long.
+// A word merged behind the words of a list. Answers how many words there are then.
 fn add_word(list: &mut [u32; 64], count: usize, word: u32) -> usize
-    requires { ⌜ count < 64 ⌝ }
-    ensures { λ r. ⌜ ((ws : List ℕ) → Holds ws (now (list .entry)) count → Stepped (ws ++ (word ∷ [])) (now (list .exit)) r) ×
-        (r ≡ 0 → now (list .exit) ≡ now (list .entry)) ⌝ }
+    requires { ⌜ (count < 64) × (count ≢ 0 → lengthOf (getD (now list) (count - 1) 0) + lengthOf word ≤ 2147483647) ⌝ }
+    ensures { λ r. ⌜ ((ws : List ℕ) → any tooLong (phases ws) ≡ false → Holds ws (now (list .entry)) count
+        → Holds (ws ++ (word ∷ [])) (now (list .exit)) r) ⌝ }
 {
     if count == 0 {
         list[count] = word;
@@ -45,12 +49,7 @@ fn add_word(list: &mut [u32; 64], count: usize, word: u32) -> usize
         list[count] = word;
         return count + 1;
     }
-    let elements = words::length_of(word);
-    let sum = words::length_of(last) + elements;
-    if sum > words::MAX_LENGTH {
-        return 0;
-    }
-    list[count - 1] = lengthened(last, elements);
+    list[count - 1] = lengthened(last, words::length_of(word));
     count
 }
 
@@ -64,6 +63,9 @@ fn earned_by(n: usize, word: u32) -> u32
     if words::length_of(word) == 0 {
         return basics::WORD_LENGTH_ZERO;
     }
+    if words::length_of(word) > MAX_CALL {
+        return basics::CALL_TOO_LONG;
+    }
     if n > 0 {
         return basics::ACCEPTED;
     }
@@ -73,9 +75,19 @@ fn earned_by(n: usize, word: u32) -> u32
     basics::FIRST_WORD_SQUEEZE
 }
 
-// The lower of two numbers, where 0 is none.
-pub(crate) fn lower_of(a: u32, b: u32) -> u32
-    ensures { λ r. ⌜ r ≡ lower a b ⌝ }
+// Where a number stands in the order of checking: 19 lies between 2 and 3, so the others are doubled.
+fn rank_of(number: u32) -> u64
+    ensures { λ r. ⌜ r ≡ rank number ⌝ }
+{
+    if number == basics::CALL_TOO_LONG {
+        return 5;
+    }
+    2 * (number as u64)
+}
+
+// The one of two numbers that is checked first, where 0 is none.
+pub(crate) fn earlier_of(a: u32, b: u32) -> u32
+    ensures { λ r. ⌜ r ≡ earlier a b ⌝ }
 {
     if a == basics::ACCEPTED {
         return b;
@@ -83,33 +95,28 @@ pub(crate) fn lower_of(a: u32, b: u32) -> u32
     if b == basics::ACCEPTED {
         return a;
     }
-    if b < a {
+    if rank_of(b) < rank_of(a) {
         return b;
     }
     a
 }
 
-// One word more behind n words: a number that is held stays, unless the word earns a lower one; while there is none, the word is merged.
+// One word more behind n words: a number that is held stays, unless the word earns an earlier one; while there is none, the word is merged. A
+// merged length is a sum of at most n lengths within the limit, so that it fits a word.
 fn pass_word(list: &mut [u32; 64], held: Held, n: usize, word: u32) -> Held
-    requires { ⌜ (held .number ≡ 0 → held .count ≤ n) ⌝ }
+    requires { ⌜ (held .number ≡ 0 → (held .count ≤ n) ×
+        (held .count ≢ 0 → lengthOf (getD (now list) (held .count - 1) 0) ≤ n * 16777216)) ⌝ }
     ensures { λ r. ⌜ ((ws : List ℕ) → length ws ≡ n → holding (held .number) (now (list .entry)) (held .count) ≡ heldAfter ws
         → holding (r .number) (now (list .exit)) (r .count) ≡ passStep n (heldAfter ws) word) ×
         (r .number ≢ 0 → now (list .exit) ≡ now (list .entry)) ⌝ }
 {
-    let number = lower_of(held.number, earned_by(n, word));
+    let number = earlier_of(held.number, earned_by(n, word));
     if number != basics::ACCEPTED {
         return Held { number, count: 0 };
     }
-    let count = add_word(list, held.count, word);
-    if count == 0 {
-        return Held {
-            number: basics::MERGED_LENGTH_TOO_LONG,
-            count: 0,
-        };
-    }
     Held {
         number: basics::ACCEPTED,
-        count,
+        count: add_word(list, held.count, word),
     }
 }
 

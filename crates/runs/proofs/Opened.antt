@@ -41,7 +41,7 @@ module _ (f : Field) where
   zero-reduced : ltb 0 (modulus f) ≡ true
   zero-reduced = lt-ltb 0 (modulus f) (omega (arith, above-30-bits f))
 
-  tag-state-reduced : (digest : List ℕ) → all (isElement f) (tagState (tagElements digest)) ≡ true
+  pub tag-state-reduced : (digest : List ℕ) → all (isElement f) (tagState (tagElements digest)) ≡ true
   unfolding tagState tagElements tabulate all _and_
   tag-state-reduced digest = simp (low-bits-reduced, zero-reduced)
 
@@ -55,7 +55,7 @@ module _ (field : ℕ) (state ws : List ℕ) (known : isField field ≡ true) (r
   abbrev unused : List ℕ
   unused = replicate (64 - length ws) 0
 
-  open-sound : Sound (openRecord field state ws)
+  pub open-sound : Sound (openRecord field state ws)
   unfolding openRecord positionsAt permutationsAt sum
   open-sound =
       let long : length ws ≤ length (ws ++ unused) = omega (arith, length-append ws unused) in

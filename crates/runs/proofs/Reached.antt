@@ -1,4 +1,4 @@
--- Every place of an accepted pattern is reached by some list of calls on the record that START gives.
+-- Every place of a sound pattern is reached by some list of calls on an open record at its begin, as START gives it.
 -- Assumes nothing.
 use mathlib.Core.Path.{_≡_, refl, sym, ap, _∙_, subst}
 use mathlib.Core.Bool.{Bool, true, false}
@@ -14,8 +14,9 @@ use Rattle.basics.specs.Numbers.{accepted}
 use Rattle.basics.proofs.Cases.{cases, and-both}
 use Rattle.basics.proofs.Zeros.{zeros-behind}
 use Rattle.words.specs.Words.{isAbsorb, lengthOf}
-use Rattle.pattern.specs.Pattern.{mergedWords}
-use Rattle.field.specs.Field.{isElement}
+use Rattle.pattern.specs.Pattern.{mergedWords, soundWords}
+use Rattle.pattern.proofs.MergedWords.{merged-sound}
+use Rattle.field.specs.Field.{isField, fieldOf, isElement}
 use Rattle.field.proofs.Moduli.{positive}
 use Rattle.sponge.specs.Sponge.{absorbElement, squeezeElement}
 use Rattle.sponge.specs.declared.Sponge.{Sponge}
@@ -30,9 +31,9 @@ use Rattle.runs.specs.Calls.{Call, ABSORB, SQUEEZE, answered, left, left
 use Rattle.runs.proofs.Places.{next-place}
 use Rattle.session.proofs.Numbers.{Takes}
 use Rattle.runs.proofs.Outcomes.{absorb-accepted, squeeze-accepted}
-use Rattle.runs.proofs.Opened.{start-open, start-record, sound-run}
+use Rattle.runs.proofs.SoundCalls.{sound-left-by}
+use Rattle.runs.proofs.Opened.{tag-state-reduced, open-sound, start-known, start-accepted, start-record}
 use Rattle.runs.proofs.SamePattern.{same-left-by}
-use Rattle.runs.proofs.Counted.{start-words, start-count}
 use Rattle.runs.proofs.Forks.{left-by-append}
 
 -- an open record that is at a place of its pattern: in a phase, with so many elements of it done
@@ -66,95 +67,114 @@ module _ (r : Session) (o : eqb (r .status) opened ≡ true) (s : Sound r) (h : 
       ))
       λ e. (SQUEEZE 1, squeezeElement (parametersIn r) (spongeOf r), ap (λ (a : Answer). a .session) (squeeze-accepted r 1 (takes-one false e)))
 
+-- a record that START gives, or one like it: of a field, a state of elements, and sound words
+module _
+    (field : ℕ)
+    (state ws : List ℕ)
+    (known : isField field ≡ true)
+    (reduced : all (isElement (fieldOf field)) state ≡ true)
+    (pattern : soundWords ws ≡ true)
+  where
+    abbrev opened-record : Session
+    opened-record = openRecord field state ws
+
+    -- some calls lead to the place
+    abbrev Reached : ℕ → ℕ → Type 0
+    Reached phase done = (cs : List Call) × OpenAt (leftBy opened-record cs) phase done
+
+    -- the length of a phase
+    abbrev long : ℕ → ℕ
+    long phase = lengthOf (getD ws phase 0)
+
+    module _ (cs : List Call) (still : leftBy opened-record cs .status ≡ opened) (h : leftBy opened-record cs .phase < length ws) where
+      abbrev there : Session
+      there = leftBy opened-record cs
+
+      sounds : Sound there
+      sounds = parts there (sound-left-by opened-record cs (λ _. whole opened-record (open-sound field state ws known reduced pattern)) (eq-eqb _ _ still))
+
+      early : there .phase < there .count
+      unfolding openRecord
+      early = rw (same-left-by opened-record cs (eq-eqb _ _ still) .count) h
+
+      length-there : lengthOf (phaseWord there) ≡ long (there .phase)
+      unfolding openRecord
+      length-there =
+          ap (λ (vs : List ℕ). lengthOf (getD vs (there .phase) 0)) (same-left-by opened-record cs (eq-eqb _ _ still) .words)
+          ∙ ap lengthOf (zeros-behind ws (64 - length ws) (there .phase))
+
+      element-there : there .done < long (there .phase)
+      element-there = rw length-there at (element-left there sounds early)
+
+      -- one call more leads to the next place
+      next : Reached (nextPlaceOf there .phase) (nextPlaceOf there .done)
+      unfolding leftBy moved
+      next =
+          let more = one-more there (eq-eqb _ _ still) sounds early in (
+            cs ++ (more .0 ∷ []),
+            subst (λ (r : Session). OpenAt r (nextPlaceOf there .phase) (nextPlaceOf there .done)) (sym (left-by-append opened-record cs (more .0 ∷ []) ∙ more .2))
+                (record { opens = still; phase = refl; done = refl }),
+          )
+
+    module _ (i d : ℕ) (h : i < length ws) (reached : Reached i d) where
+      abbrev last : Session
+      last = leftBy opened-record (reached .0)
+
+      within : last .phase < length ws
+      within = rw (reached .1 .phase) h
+
+      element-here : d < long i
+      element-here = rw (reached .1 .phase, reached .1 .done) at (element-there (reached .0) (reached .1 .opens) within)
+
+      same-length : lengthOf (phaseWord last) ≡ long i
+      same-length = length-there (reached .0) (reached .1 .opens) within ∙ ap long (reached .1 .phase)
+
+      -- from a place to the next one, in this phase or at the begin of the next
+      forward : (suc d ≡ long i → Reached (suc i) 0) × (suc d ≢ long i → Reached i (suc d))
+      forward =
+          next-place last (λ (at : Place). Reached (at .phase) (at .done) → (suc d ≡ long i → Reached (suc i) 0) × (suc d ≢ long i → Reached i (suc d)))
+          (λ q t. (λ _. subst (λ (k : ℕ). Reached (suc k) 0) (reached .1 .phase) t, λ n. absurd (n (ap suc (sym (reached .1 .done)) ∙ q ∙ same-length))))
+          (λ q t. (
+            λ n. absurd (q (ap suc (reached .1 .done) ∙ n ∙ sym same-length)),
+            λ _. subst (λ (k : ℕ). Reached k (suc d)) (reached .1 .phase) (subst (λ (b : ℕ). Reached (last .phase) (suc b)) (reached .1 .done) t),
+          ))
+          (next (reached .0) (reached .1 .opens) within)
+
+    -- from the begin of a phase to each of its places
+    in-phase : (i d : ℕ) → i < length ws → Reached i 0 → d < long i → Reached i d
+    in-phase i zero h t l = t
+    in-phase i (suc d) h t l = forward i d h (in-phase i d h t (omega arith)) .1 (λ q. omega arith)
+
+    -- the begin of each phase, and the end of the last
+    phase-begun : (i : ℕ) → i ≤ length ws → Reached i 0
+    unfolding leftBy openRecord
+    phase-begun zero h = ([], record { opens = refl; phase = refl; done = refl })
+    phase-begun (suc i) h =
+        let begun = phase-begun i (omega arith) in
+        let some = element-here i 0 (omega arith) begun in
+        forward i (long i - 1) (omega arith) (in-phase i (long i - 1) (omega arith) begun (omega arith)) .0 (omega arith)
+
+    pub open-place-reached : (phase done : ℕ) → phase < length ws → done < lengthOf (getD ws phase 0)
+        → (cs : List Call) × OpenAt (leftBy (openRecord field state ws) cs) phase done
+    open-place-reached phase done h l = in-phase phase done h (phase-begun phase (omega arith)) l
+
+    pub open-end-reached : (cs : List Call) × OpenAt (leftBy (openRecord field state ws) cs) (length ws) 0
+    open-end-reached = phase-begun (length ws) (omega arith)
+
+-- the record that START gives
 module _ (field : ℕ) (o : Opening) (e : start field o .number ≡ accepted) where
-  abbrev opened-record : Session
-  opened-record = start field o .session
-
-  -- some calls lead to the place
-  abbrev Reached : ℕ → ℕ → Type 0
-  Reached phase done = (cs : List Call) × OpenAt (leftBy opened-record cs) phase done
-
-  -- the length of a phase
-  abbrev long : ℕ → ℕ
-  long phase = lengthOf (getD (mergedWords (o .words)) phase 0)
-
-  module _ (cs : List Call) (still : leftBy opened-record cs .status ≡ opened) (h : leftBy opened-record cs .phase < length (mergedWords (o .words))) where
-    abbrev there : Session
-    there = leftBy opened-record cs
-
-    sounds : Sound there
-    sounds = parts there (sound-run field o e cs (eq-eqb _ _ still))
-
-    early : there .phase < there .count
-    early = rw (same-left-by opened-record cs (eq-eqb _ _ still) .count ∙ start-count field o e) h
-
-    length-there : lengthOf (phaseWord there) ≡ long (there .phase)
-    length-there =
-        ap (λ (vs : List ℕ). lengthOf (getD vs (there .phase) 0)) (same-left-by opened-record cs (eq-eqb _ _ still) .words ∙ start-words field o e)
-        ∙ ap lengthOf (zeros-behind (mergedWords (o .words)) (64 - length (mergedWords (o .words))) (there .phase))
-
-    element-there : there .done < long (there .phase)
-    element-there = rw length-there at (element-left there sounds early)
-
-    -- one call more leads to the next place
-    next : Reached (nextPlaceOf there .phase) (nextPlaceOf there .done)
-    unfolding leftBy moved
-    next =
-        let more = one-more there (eq-eqb _ _ still) sounds early in (
-          cs ++ (more .0 ∷ []),
-          subst (λ (r : Session). OpenAt r (nextPlaceOf there .phase) (nextPlaceOf there .done)) (sym (left-by-append opened-record cs (more .0 ∷ []) ∙ more .2))
-              (record { opens = still; phase = refl; done = refl }),
-        )
-
-  module _ (i d : ℕ) (h : i < length (mergedWords (o .words))) (reached : Reached i d) where
-    abbrev last : Session
-    last = leftBy opened-record (reached .0)
-
-    within : last .phase < length (mergedWords (o .words))
-    within = rw (reached .1 .phase) h
-
-    element-here : d < long i
-    element-here = rw (reached .1 .phase, reached .1 .done) at (element-there (reached .0) (reached .1 .opens) within)
-
-    same-length : lengthOf (phaseWord last) ≡ long i
-    same-length = length-there (reached .0) (reached .1 .opens) within ∙ ap long (reached .1 .phase)
-
-    -- from a place to the next one, in this phase or at the begin of the next
-    forward : (suc d ≡ long i → Reached (suc i) 0) × (suc d ≢ long i → Reached i (suc d))
-    forward =
-        next-place last (λ (at : Place). Reached (at .phase) (at .done) → (suc d ≡ long i → Reached (suc i) 0) × (suc d ≢ long i → Reached i (suc d)))
-        (λ q t. (λ _. subst (λ (k : ℕ). Reached (suc k) 0) (reached .1 .phase) t, λ n. absurd (n (ap suc (sym (reached .1 .done)) ∙ q ∙ same-length))))
-        (λ q t. (
-          λ n. absurd (q (ap suc (reached .1 .done) ∙ n ∙ sym same-length)),
-          λ _. subst (λ (k : ℕ). Reached k (suc d)) (reached .1 .phase) (subst (λ (b : ℕ). Reached (last .phase) (suc b)) (reached .1 .done) t),
-        ))
-        (next (reached .0) (reached .1 .opens) within)
-
-  -- from the begin of a phase to each of its places
-  in-phase : (i d : ℕ) → i < length (mergedWords (o .words)) → Reached i 0 → d < long i → Reached i d
-  in-phase i zero h t l = t
-  in-phase i (suc d) h t l = forward i d h (in-phase i d h t (omega arith)) .1 (λ q. omega arith)
-
-  -- the begin of each phase, and the end of the last
-  phase-begun : (i : ℕ) → i ≤ length (mergedWords (o .words)) → Reached i 0
-  unfolding leftBy startRecord openRecord
-  phase-begun zero h =
-      let r = start-record field o e in (
-        [],
-        record {
-          opens = start-open field o e;
-          phase = ap (λ (t : Session). t .phase) r;
-          done = ap (λ (t : Session). t .done) r;
-        },
-      )
-  phase-begun (suc i) h =
-      let begun = phase-begun i (omega arith) in
-      let some = element-here i 0 (omega arith) begun in
-      forward i (long i - 1) (omega arith) (in-phase i (long i - 1) (omega arith) begun (omega arith)) .0 (omega arith)
+  abbrev Led : Session → ℕ → ℕ → Type 0
+  Led r phase done = (cs : List Call) × OpenAt (leftBy r cs) phase done
 
   pub place-reached : (phase done : ℕ) → phase < length (mergedWords (o .words)) → done < lengthOf (getD (mergedWords (o .words)) phase 0)
       → (cs : List Call) × OpenAt (leftBy (start field o .session) cs) phase done
-  place-reached phase done h l = in-phase phase done h (phase-begun phase (omega arith)) l
+  unfolding startRecord
+  place-reached phase done h l =
+      subst (λ (r : Session). Led r phase done) (sym (start-record field o e))
+      (open-place-reached field _ (mergedWords (o .words)) (start-known field o e) (tag-state-reduced (fieldOf field) _) (merged-sound o (start-accepted field o e)) phase done h l)
 
   pub end-reached : (cs : List Call) × OpenAt (leftBy (start field o .session) cs) (length (mergedWords (o .words))) 0
-  end-reached = phase-begun (length (mergedWords (o .words))) (omega arith)
+  unfolding startRecord
+  end-reached =
+      subst (λ (r : Session). Led r (length (mergedWords (o .words))) 0) (sym (start-record field o e))
+      (open-end-reached field _ (mergedWords (o .words)) (start-known field o e) (tag-state-reduced (fieldOf field) _) (merged-sound o (start-accepted field o e)))

@@ -8,7 +8,7 @@ use lib.Dec.{lit≤}
 use lib.ListN.{length, take, replicate}
 use Rattle.basics.specs.Numbers.{accepted}
 use Rattle.pattern.specs.Opening.{Opening, checked}
-use Rattle.pattern.specs.declared.Merged.{Merged}
+use Rattle.pattern.specs.declared.WordList.{WordList}
 use Rattle.pattern.proofs.Checked.{started, words-checked}
 use Rattle.tag.specs.TagString.{maxString, stringOf, tagString, bufferNumber, stringWritten, stringBuffer}
 use Rattle.tag.specs.declared.Written.{Written}
@@ -17,7 +17,7 @@ use Rattle.tag.proofs.Writing.{room-for-any, inside, front}
 -- the check's answer r, the writer's answer w, and what the writer left in the buffer
 module _
     (o : Opening)
-    (r : Merged)
+    (r : WordList)
     (e : r ≡ checked o)
     (n : r .number ≡ accepted)
     (w : Written)

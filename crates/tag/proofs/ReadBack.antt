@@ -4,7 +4,7 @@ use mathlib.Core.Path.{_≡_, refl, sym, ap, ap₂, _∙_}
 use mathlib.Core.Bool.{true}
 use mathlib.Core.List.{List, [], _∷_, _++_, map}
 use mathlib.Core.Logic.{_≢_, _↔_}
-use Prim.Native.Nat.{ℕ, suc, _-_, _*_, _/_, _%_, _<_}
+use Prim.Native.Nat.{ℕ, suc, _-_, _*_, _/_, _%_, _≤_, _<_}
 use native.Mathlib.Omega.{arith}
 use borrow.Author.Tests.{eqb-true, eq-eqb}
 use lib.Dec.{lit<}
@@ -20,15 +20,15 @@ use Rattle.basics.proofs.Parts.{four-bytes-below}
 use Rattle.basics.proofs.Positional.{number-digits, digits-number}
 use Rattle.words.specs.Words.{Phase, phaseOf, wordOf}
 use Rattle.pattern.specs.Pattern.{phases, mergedWords, soundWords}
-use Rattle.pattern.specs.Opening.{Opening, opening, openingNumber, withWords}
+use Rattle.pattern.specs.Opening.{Opening, opening, maxSeparator, openingNumber, withWords}
 use Rattle.tag.specs.TagString.{wordBytes, stringOf, tagString, wordAt, wordsOf, wordsPart, separatorPart, soundBytes, readNumber, readWords, wordsRead, readSeparator}
-use Rattle.pattern.specs.declared.Merged.{Merged}
+use Rattle.pattern.specs.declared.WordList.{WordList}
 use Rattle.tag.proofs.WordBytes.{length-word-bytes}
 use Rattle.pattern.proofs.Answers.{words-used}
-use Rattle.pattern.proofs.StartCheck.{passed-rows}
+use Rattle.pattern.proofs.StartCheck.{passed-rows, fit}
 use Rattle.tag.proofs.Writing.{length-tag-string}
 use Rattle.tag.proofs.Reading.{number-0, read-accepted, separator-accepted, passed}
-use Rattle.pattern.proofs.MergedWords.{phases-of-words, merged-sound, sound-merged, sound-accepted}
+use Rattle.pattern.proofs.MergedWords.{phases-of-words, merged-sound}
 
 -- ---- words and their bytes
 
@@ -109,7 +109,7 @@ module _ (o : Opening) (e : openingNumber o ≡ accepted) where
   unfolding mergedWords
   words =
       ap wordsOf front
-      ∙ words-of-bytes (mergedWords (o .words)) (phases-of-words (phases (o .words)) (passed-rows o e .of-words .e5) .1)
+      ∙ words-of-bytes (mergedWords (o .words)) (phases-of-words (phases (o .words)) (fit o e) .1)
 
   sound-string : soundBytes (wordsPart s n) ≡ true
   unfolding soundBytes
@@ -133,7 +133,7 @@ module _ (s : List ℕ) (n : ℕ) (bytes : Below 256 s) (e : readNumber s n ≡ 
   head = wordsPart s n
 
   words-read : wordsRead s n ≡ wordsOf head
-  words-read = ap (λ (m : Merged). take (m .count) (m .words)) (read-accepted s n e) ∙ words-used accepted (wordsOf head)
+  words-read = ap (λ (m : WordList). take (m .count) (m .words)) (read-accepted s n e) ∙ words-used accepted (wordsOf head)
 
   whole : length head % 4 ≡ 0
   unfolding soundBytes
@@ -147,27 +147,25 @@ module _ (s : List ℕ) (n : ℕ) (bytes : Below 256 s) (e : readNumber s n ≡ 
   unfolding wordsPart
   head-bytes = below-take 256 (length s - n) s bytes
 
-  separator-length : length (separatorPart s n) ≡ n
+  -- what is read: sound words of 32 bits, and a separator of the length given
+  pub read-sound : soundWords (wordsRead s n) ≡ true
+  read-sound = ap soundWords words-read ∙ sound-words
+
+  pub read-below : Below 4294967296 (wordsRead s n)
+  read-below = rw words-read (words-below head whole head-bytes)
+
+  pub read-length : length (readSeparator s n) ≡ n
   unfolding separatorPart
-  separator-length = let long = passed s n e .long in omega (arith, length-drop (length s - n) s)
+  read-length = ap length (separator-accepted s n e) ∙ (let long = passed s n e .long in omega (arith, length-drop (length s - n) s))
 
-  -- what is read, as an opening
-  abbrev again : Opening
-  again = opening (wordsRead s n) (readSeparator s n)
+  pub read-short : length (readSeparator s n) ≤ maxSeparator
+  read-short = rw read-length (passed s n e .short)
 
-  again-parts : again ≡ opening (wordsOf head) (separatorPart s n)
-  again-parts = ap₂ opening words-read (separator-accepted s n e)
-
-  pub writes : openingNumber (opening (wordsRead s n) (readSeparator s n)) ≡ accepted
-  writes =
-      ap openingNumber again-parts
-      ∙ sound-accepted (opening (wordsOf head) (separatorPart s n)) sound-words (rw separator-length (passed s n e .short))
-
-  pub writes-string : tagString (opening (wordsRead s n) (readSeparator s n)) ≡ s
+  -- whatever merges to the words that are read has the string for its tag string
+  pub writes-string : (ws : List ℕ) → mergedWords ws ≡ wordsRead s n → tagString (opening ws (readSeparator s n)) ≡ s
   unfolding tagString stringOf wordsPart separatorPart
-  writes-string =
-      ap tagString again-parts
-      ∙ ap (λ (ws : List ℕ). wordBytes ws ++ separatorPart s n) (sound-merged (wordsOf head) sound-words (words-below head whole head-bytes))
+  writes-string ws merges =
+      ap₂ (λ (vs t : List ℕ). wordBytes vs ++ t) (merges ∙ words-read) (separator-accepted s n e)
       ∙ ap (λ (l : List ℕ). l ++ separatorPart s n) (bytes-of-words head whole head-bytes)
       ∙ take-append-drop (length s - n) s
 
@@ -183,7 +181,7 @@ refused-string s n r o e l q =
 -- an accepted pattern's kinds and lengths are those of its merged words
 pub phases-read : (o : Opening) → openingNumber o ≡ accepted → map phaseOf (mergedWords (o .words)) ≡ phases (o .words)
 unfolding mergedWords
-phases-read o e = phases-of-words (phases (o .words)) (passed-rows o e .of-words .e5) .0
+phases-read o e = phases-of-words (phases (o .words)) (fit o e) .0
 
 module _
     (a b : Opening)
@@ -196,7 +194,7 @@ module _
         let answers = sym (reads-words a e) ∙ ap₂ readWords q l ∙ reads-words b f in
         let merged =
         sym (words-used accepted (mergedWords (a .words)))
-        ∙ ap (λ (m : Merged). take (m .count) (m .words)) answers
+        ∙ ap (λ (m : WordList). take (m .count) (m .words)) answers
         ∙ words-used accepted (mergedWords (b .words)) in (
           sym (phases-read a e) ∙ ap (map phaseOf) merged ∙ phases-read b f,
           sym (reads-separator a e) ∙ ap₂ readSeparator q l ∙ reads-separator b f,

@@ -19,7 +19,7 @@ use Rattle.basics.proofs.Fill.{length-tabulate}
 use Rattle.pattern.specs.Pattern.{soundWords}
 use Rattle.pattern.specs.Opening.{withWords, answerWith}
 use Rattle.tag.specs.TagString.{wordAt, wordsOf, wordsPart, separatorPart, soundBytes, readRows, readNumber, readWords, readSeparator}
-use Rattle.pattern.specs.declared.Merged.{Merged}
+use Rattle.pattern.specs.declared.WordList.{WordList}
 use Rattle.pattern.proofs.Given.{given-accepted, given-refused, answer-accepted, answer-refused}
 use Rattle.pattern.proofs.Soundness.{too-many}
 
@@ -36,9 +36,9 @@ module _ (s : List ℕ) (n : ℕ) where
   unfolding readWords
   read-accepted e = answer-accepted _ _ e
 
-  pub number-read : (r : Merged) → r ≡ readWords s n → readNumber s n ≡ r .number
+  pub number-read : (r : WordList) → r ≡ readWords s n → readNumber s n ≡ r .number
   unfolding readWords answerWith withWords
-  number-read r e = sym (ap (λ (m : Merged). m .number) e)
+  number-read r e = sym (ap (λ (m : WordList). m .number) e)
 
   pub separator-refused : readNumber s n ≢ 0 → readSeparator s n ≡ []
   unfolding readSeparator

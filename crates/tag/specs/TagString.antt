@@ -11,7 +11,7 @@ use Rattle.basics.specs.Numbers.{separatorTooLong, bufferTooShort, notTagString
 use Rattle.basics.specs.Refusals.{Row, _gets_⨾_, firstNumber}
 use Rattle.pattern.specs.Pattern.{maxWords, mergedWords, soundWords}
 use Rattle.pattern.specs.Opening.{Opening, maxSeparator, openingRows, given, answerWith}
-use Rattle.pattern.specs.declared.Merged.{Merged}
+use Rattle.pattern.specs.declared.WordList.{WordList}
 use Rattle.tag.specs.declared.Written.{Written}
 
 -- words as bytes: "four bytes each, highest byte first" (big-endian)
@@ -39,7 +39,7 @@ bufferRows string buffer = ltb (length buffer) (length string) gets bufferTooSho
 unfoldable pub bufferNumber : List ℕ → List ℕ → ℕ
 bufferNumber string buffer = firstNumber (bufferRows string buffer)
 
--- "Writing checks 1 to 6, then 12"
+-- "Writing checks 1 to 6, then 12", with 19 among the first (document 02, P4)
 unfoldable pub writeRows : Opening → List ℕ → List Row
 writeRows o buffer = openingRows o ++ bufferRows (tagString o) buffer
 
@@ -105,7 +105,7 @@ unfoldable pub readNumber : List ℕ → ℕ → ℕ
 readNumber s n = firstNumber (readRows s n)
 
 -- "The merged words come back by value"; "Refused, it gives 64 zero words and count 0."
-unfoldable pub readWords : List ℕ → ℕ → Merged
+unfoldable pub readWords : List ℕ → ℕ → WordList
 readWords s n = answerWith (readNumber s n) (wordsOf (wordsPart s n))
 
 -- the words that reading gives, without the places that are not used

@@ -1,7 +1,7 @@
 // Tag strings, read back; and the elements cut from a tag string's digest.
 mod bytes;
 
-use pattern::Merged;
+use pattern::WordList;
 ghost use mathlib.Core.Path.{_≡_};
 ghost use Prim.Native.Nat.{_+_, _-_, _≤_};
 ghost use denote.Ref.{ptr};
@@ -18,7 +18,7 @@ fn words_length(string: &[u8], separator_length: usize) -> usize
 }
 
 // The merged words of a tag string whose separator has the given length.
-pub fn read(string: &[u8], separator_length: usize) -> Merged
+pub fn read(string: &[u8], separator_length: usize) -> WordList
     ensures { λ r. ⌜ r ≡ readWords (now (string .entry)) «separator_length» ⌝ }
 {
     if separator_length > pattern::MAX_SEPARATOR {
@@ -37,7 +37,7 @@ pub fn read(string: &[u8], separator_length: usize) -> Merged
     }
     let list = bytes::words_of(&string[..length]);
     if sound_words::is_sound(&list[..count]) {
-        return Merged {
+        return WordList {
             number: basics::ACCEPTED,
             words: list,
             count,

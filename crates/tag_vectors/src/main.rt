@@ -78,7 +78,7 @@ fn sum_from(words: &[u32; 64], start: usize) -> u64 {
     sum
 }
 
-fn print_merged(merged: pattern::Merged) {
+fn print_merged(merged: pattern::WordList) {
     let words = merged.words;
     let count = merged.count;
     print_number(merged.number as u64);

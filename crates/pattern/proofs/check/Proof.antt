@@ -10,10 +10,10 @@ use lib.ListN.{length, take}
 use lib.Seq.{length-take-le, take-all}
 use Rattle.pattern.specs.Opening.{opening, openingNumber}
 use Rattle.pattern.specs.Steps.{holding}
-use Rattle.pattern.specs.Pass.{lower, heldAfter}
-use Rattle.pattern.specs.declared.Merged.{Merged}
+use Rattle.pattern.specs.Pass.{earlier, heldAfter}
+use Rattle.pattern.specs.declared.WordList.{WordList}
 use Rattle.pattern.proofs.StartCheck.{checked-refused, checked-accepted}
-use Rattle.pattern.proofs.PassStep.{held-65, holding-number, holding-words, lower-zero}
+use Rattle.pattern.proofs.PassStep.{held-65, holding-number, holding-words, earlier-zero}
 use Rattle.pattern.proofs.FromPass.{lastOf, start-none, start-by-pass, words-by-pass}
 use borrow.Author.Needs.{needs}
 use Rattle.pattern.proofs.check.Statement.{statement}
@@ -36,42 +36,42 @@ pass-requires c κs =
     (omega (arith, looked, length-take-le (c .before .before .looked-at .result) words (omega (arith, looked))), search needs)
 
 -- what was lent, where the number is known
-words : tie.After-lower-of → List ℕ
+words : tie.After-earlier-of → List ℕ
 words c = c .before .before .before .before .before .before .before .before .before .args .words .now
 
-separator : tie.After-lower-of → List ℕ
+separator : tie.After-earlier-of → List ℕ
 separator c = c .before .before .before .before .before .before .before .before .before .args .separator .now
 
-some : (c : tie.After-lower-of) → length (words c) ≢ 0
+some : (c : tie.After-earlier-of) → length (words c) ≢ 0
 unfolding words
 some c = λ e. omega arith
 
 -- the pass gets 65 words at most, which tell
-looked : (c : tie.After-lower-of) → c .before .before .before .before .before .looked-at .result ≡ min (length (words c)) 65
+looked : (c : tie.After-earlier-of) → c .before .before .before .before .before .looked-at .result ≡ min (length (words c)) 65
 unfolding words
 looked c = c .before .before .before .before .before .looked-at .ensures
 
-pass-held : (c : tie.After-lower-of) → holding (c .before .before .pass .result .number) (c .before .before .pass .last .1 .0) (c .before .before .pass .result .count) ≡ heldAfter (words c)
+pass-held : (c : tie.After-earlier-of) → holding (c .before .before .pass .result .number) (c .before .before .pass .last .1 .0) (c .before .before .pass .result .count) ≡ heldAfter (words c)
 unfolding words
 pass-held c = c .before .before .pass .ensures .0 ∙ ap (λ (n : ℕ). heldAfter (take n (words c))) (looked c) ∙ held-65 (words c)
 
-last-held : (c : tie.After-lower-of) → 1 ≤ length (words c) → length (words c) ≤ 64
+last-held : (c : tie.After-earlier-of) → 1 ≤ length (words c) → length (words c) ≤ 64
     → c .before .before .pass .result .last ≡ lastOf (words c)
 unfolding words
 last-held c some few =
     let all = take-all (c .before .before .before .before .before .looked-at .result) (words c) (omega (arith, looked c)) in
     c .before .before .pass .ensures .1 (rw all some) ∙ ap lastOf all
 
-number-held : (c : tie.After-lower-of) → c .before .before .pass .result .number ≡ heldAfter (words c) .number
+number-held : (c : tie.After-earlier-of) → c .before .before .pass .result .number ≡ heldAfter (words c) .number
 unfolding words
-number-held c = sym (holding-number _ _ _) ∙ ap (λ (m : Merged). m .number) (pass-held c)
+number-held c = sym (holding-number _ _ _) ∙ ap (λ (m : WordList). m .number) (pass-held c)
 
-number-is : (c : tie.After-lower-of) → c .lower-of .result ≡ openingNumber (opening (words c) (separator c))
+number-is : (c : tie.After-earlier-of) → c .earlier-of .result ≡ openingNumber (opening (words c) (separator c))
 unfolding words separator
 number-is c =
     let last = c .before .before .pass .result .last in
-    c .lower-of .ensures
-    ∙ ap₂ (λ (held end : ℕ). lower held end) (number-held c) (c .before .ending-of .ensures)
+    c .earlier-of .ensures
+    ∙ ap₂ (λ (held end : ℕ). earlier held end) (number-held c) (c .before .ending-of .ensures)
     ∙ start-by-pass (separator c) (words c) last (some c) (last-held c)
 
 returns-2 : tie.Need-returns-2
@@ -86,7 +86,7 @@ unfolding words separator
 returns-3 c =
     let at-number = c .before in
     let accepts = sym (number-is at-number) ∙ c .if2 .left in
-    let (held, _) = lower-zero _ _ (sym (at-number .lower-of .ensures) ∙ c .if2 .left) in
+    let (held, _) = earlier-zero _ _ (sym (at-number .earlier-of .ensures) ∙ c .if2 .left) in
     let list = sym (holding-words _ _ _ held) ∙ pass-held at-number in
     list
     ∙ words-by-pass (words at-number) (some at-number) (sym (number-held at-number) ∙ held)

@@ -4,11 +4,11 @@ use mathlib.Core.Path.{_≡_, sym, ap, _∙_}
 use mathlib.Core.Bool.{true, false, not}
 use mathlib.Core.Logic.{_≢_}
 use native.Mathlib.Omega.{arith}
-use borrow.Author.Tests.{eq-eqb, ne-eqb}
-use lib.Dec.{eqb}
+use borrow.Author.Tests.{eq-eqb, ne-eqb, lt-ltb, le-ltb}
+use lib.Dec.{ltb, eqb}
 use Rattle.basics.proofs.Cases.{and-stop, and-step}
 use Rattle.words.specs.Words.{lengthOf}
-use Rattle.pattern.proofs.PassStep.{earned-0, earned-1, earned-2, earned-3}
+use Rattle.pattern.proofs.PassStep.{earned-0, earned-1, earned-2, earned-3, earned-19}
 use borrow.Author.Needs.{needs}
 use Rattle.pattern.proofs.pass.earned_by.Statement.{statement}
 use Rattle.pattern.proofs.pass.earned_by.Tie as tie
@@ -25,25 +25,34 @@ some c = ne-eqb _ 0 (λ e. c .if2 .left (c .before .length-of .ensures ∙ e))
 
 returns-3 : tie.Need-returns-3
 returns-3 c =
-    let n = c .before .before .before .before .args .n in
-    let later : n ≢ 0 = λ e. omega arith in
-    sym (earned-0 n _ (omega arith) (some (c .before)) (and-stop _ _ (ne-eqb n 0 later)))
+    let word = c .before .before .before .before .before .args .word in
+    sym (earned-19 _ word (omega arith) (some (c .before .before)) (lt-ltb 16777216 (lengthOf word) (omega (arith, c .before .length-of2 .ensures))))
 
--- it is the first
-first : (c : tie.Else3) → eqb (c .before .before .before .before .args .n) 0 ≡ true
-first c = eq-eqb (c .before .before .before .before .args .n) 0 (omega arith)
+-- it is within the limit
+short : (c : tie.Else3) → ltb 16777216 (lengthOf (c .before .before .before .before .before .args .word)) ≡ false
+short c = le-ltb 16777216 (lengthOf (c .before .before .before .before .before .args .word)) (omega (arith, c .before .length-of2 .ensures))
 
 returns-4 : tie.Need-returns-4
 returns-4 c =
-    let absorbs = sym (c .before .is-absorb .ensures) ∙ c .if4 .taken in
-    let at-first = c .before .before in
-    sym (earned-0 _ _ (omega arith) (some (at-first .before)) (and-step _ _ (first at-first) ∙ ap not absorbs))
+    let n = c .before .before .before .before .before .before .args .n in
+    let later : n ≢ 0 = λ e. omega arith in
+    sym (earned-0 n _ (omega arith) (some (c .before .before .before)) (short (c .before)) (and-stop _ _ (ne-eqb n 0 later)))
+
+-- it is the first
+first : (c : tie.Else4) → eqb (c .before .before .before .before .before .before .args .n) 0 ≡ true
+first c = eq-eqb (c .before .before .before .before .before .before .args .n) 0 (omega arith)
 
 returns-5 : tie.Need-returns-5
 returns-5 c =
-    let squeezes = sym (c .before .is-absorb .ensures) ∙ c .if4 .left in
+    let absorbs = sym (c .before .is-absorb .ensures) ∙ c .if5 .taken in
     let at-first = c .before .before in
-    sym (earned-3 _ _ (omega arith) (some (at-first .before)) (and-step _ _ (first at-first) ∙ ap not squeezes))
+    sym (earned-0 _ _ (omega arith) (some (at-first .before .before .before)) (short (at-first .before)) (and-step _ _ (first at-first) ∙ ap not absorbs))
+
+returns-6 : tie.Need-returns-6
+returns-6 c =
+    let squeezes = sym (c .before .is-absorb .ensures) ∙ c .if5 .left in
+    let at-first = c .before .before in
+    sym (earned-3 _ _ (omega arith) (some (at-first .before .before .before)) (short (at-first .before)) (and-step _ _ (first at-first) ∙ ap not squeezes))
 
 pub earned-by-spec : {M : Type 1} → statement M
 earned-by-spec =
@@ -52,7 +61,9 @@ earned-by-spec =
     returns
     (λ c κs. search needs)
     returns-2
-    returns-3
     (λ c κs. search needs)
+    returns-3
     returns-4
-    returns-5)
+    (λ c κs. search needs)
+    returns-5
+    returns-6)

@@ -8,7 +8,7 @@ use lib.ListN.{length, getD, take}
 use lib.Seq.{length-take-le, take-all}
 use Rattle.pattern.specs.Steps.{holding}
 use Rattle.pattern.specs.Pass.{heldAfter}
-use Rattle.pattern.proofs.PassStep.{begins, next-word, holding-few}
+use Rattle.pattern.proofs.PassStep.{begins, next-word, holding-few, holding-within}
 use borrow.Author.Needs.{needs}
 use Rattle.pattern.proofs.pass.pass.Statement.{statement}
 use Rattle.pattern.proofs.pass.pass.Tie as tie
@@ -33,7 +33,11 @@ pass-word-requires : tie.Need-pass-word-requires Inv-loop μ-loop
 pass-word-requires c κs =
     let loop = c .before .before .before .loop in
     let words = c .before .before .before .before .before .args .words .now in
-    λ e. omega (arith, holding-few (take (loop .i) words) _ _ _ (loop .inv .1) e, length-take-le (loop .i) words (omega arith))
+    let long = length-take-le (loop .i) words (omega arith) in
+    λ e. (
+      omega (arith, holding-few (take (loop .i) words) _ _ _ (loop .inv .1) e),
+      λ some. rw long at (holding-within (take (loop .i) words) _ _ _ (loop .inv .1) e some),
+    )
 
 loop-again : tie.Need-loop-again Inv-loop μ-loop
 loop-again c =
