@@ -1,6 +1,6 @@
 //! The independent implementation, held to what is published: the samples B1 to B10 and the table of refused calls in document
-//! 01, document 02's sentences about tables of owners, and examples of SHA3-256 from NIST. What the library is compared with must itself
-//! be right.
+//! 01, document 02's sentences about tables of owners, fields and declared calls, and examples of SHA3-256 from NIST. What the library is
+//! compared with must itself be right.
 
 mod guarded;
 mod independent;
@@ -60,6 +60,7 @@ fn hashes_published_by_nist() {
     }
 }
 
+/// Of B3, P4 of document 02: "its example and B3 now get the new number".
 #[test]
 fn tag_strings_b1_to_b3() {
     let b1 = [0x80, 0, 0, 6, 0, 0, 0, 3, 0x41, 0x42];
@@ -68,8 +69,9 @@ fn tag_strings_b1_to_b3() {
         written(&[0x80000001, 0x00000001], &[0x80, 0, 0, 2, 0, 0, 0, 2]),
         written(&[0x80000001, 0x00000001, 0x80000002, 0x00000002], &[])
     );
-    let b3 = started(1, &[0xfffffffe, 0x80000001, 0x00000001], &[]);
-    assert_eq!((b3.count, &b3.words[..3]), (2, &[0xffffffff, 0x00000001, 0][..]));
+    let b3 = [0xfffffffe, 0x80000001, 0x00000001];
+    assert_eq!(start(1, &b3, &[]), (19, WIPED));
+    assert_eq!(write_tag(&b3, &[], &mut [0; 512]), Err(19));
 }
 
 #[test]
@@ -123,6 +125,7 @@ fn figures_of_both_fields() {
     }
 }
 
+/// Of number 5, P4 of document 02: "Its row is marked unused; its example and B3 now get the new number."
 #[test]
 fn patterns_turned_away_as_in_the_table() {
     for field in [1, 2] {
@@ -130,9 +133,56 @@ fn patterns_turned_away_as_in_the_table() {
         assert_eq!(start(field, &[0x80000003, 0x00000000], &[]), (2, WIPED));
         assert_eq!(start(field, &[0x00000001], &[]), (3, WIPED));
         assert_eq!(start(field, &[0x80000001], &[]), (4, WIPED));
-        assert_eq!(start(field, &[0xffffffff, 0x80000001, 0x00000001], &[]), (5, WIPED));
+        assert_eq!(start(field, &[0xffffffff, 0x80000001, 0x00000001], &[]), (19, WIPED));
         assert_eq!(start(field, &[0x80000001, 0x00000001], &[0; 257]), (6, WIPED));
         assert_eq!(start(field, &[0x80000001, 0x00000001], &[0; 256]).0, 0);
+    }
+}
+
+/// "19: a declared call above 16,777,216 elements, after 2 and before 3"; "With 64 words no merged length can then pass 2147483647."
+#[test]
+fn declared_calls_turned_away_as_in_the_request() {
+    const LIMIT: u32 = 16777216;
+    let number = |words: &[u32], separator: &[u8]| {
+        let number = start(1, words, separator).0;
+        let written = write_tag(words, separator, &mut [0; 512]);
+        assert_eq!(written.err().unwrap_or(0), number);
+        number
+    };
+    assert_eq!(number(&[ABSORB + LIMIT, LIMIT], &[]), 0);
+    assert_eq!(number(&[ABSORB + LIMIT + 1, 1], &[]), 19);
+    assert_eq!(number(&[ABSORB + 1, LIMIT + 1], &[]), 19);
+    assert_eq!(number(&[ABSORB + 1, 1, ABSORB + 1, LONGEST], &[]), 19);
+    assert_eq!(number(&[LIMIT + 1; 65], &[]), 1);
+    assert_eq!(number(&[LIMIT + 1, ABSORB], &[]), 2);
+    assert_eq!(number(&[LIMIT + 1], &[]), 19);
+    assert_eq!(number(&[1, ABSORB + LIMIT + 1], &[]), 19);
+    assert_eq!(number(&[LIMIT], &[]), 3);
+    assert_eq!(number(&[ABSORB + LIMIT + 1], &[]), 19);
+    assert_eq!(number(&[ABSORB + LIMIT; 64], &[]), 4);
+    assert_eq!(number(&[ABSORB + LIMIT + 1, 1], &[0; 257]), 19);
+    assert_eq!(number(&[ABSORB + LIMIT, 1], &[0; 257]), 6);
+    for absorbed in [1, 32, 63] {
+        let words: Vec<u32> = (0..64)
+            .map(|k| if k < absorbed { ABSORB + LIMIT } else { LIMIT })
+            .collect();
+        let merged = [ABSORB + absorbed * LIMIT, (64 - absorbed) * LIMIT, 0];
+        let record = started(2, &words, &[]);
+        assert_eq!((record.count, &record.words[..3]), (2, &merged[..]));
+    }
+}
+
+/// "Reading still takes any 31-bit length", and so does a sound record.
+#[test]
+fn lengths_that_are_read_and_sound() {
+    for (first, second) in [(16777217, 1), (1, 16777217), (LONGEST, LONGEST)] {
+        let words = [ABSORB + first, second];
+        let string = words.map(u32::to_be_bytes).concat();
+        let (number, read, count) = read_tag(&string, 0);
+        assert_eq!((number, &read[..3], count), (0, &[words[0], words[1], 0][..], 2));
+        let mut record = started(1, &[ABSORB + 1, 1], &[]);
+        record.words[..2].copy_from_slice(&words);
+        assert_eq!(absorb(&mut record, &[1]), 0);
     }
 }
 

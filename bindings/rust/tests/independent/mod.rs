@@ -1,6 +1,7 @@
-//! An independent implementation of the challenge sponge, written from document 01 and P3 of document 02 alone, and of the
-//! owners of separators, written from P1 of document 02 alone (`owners.rs`). It shares no code with the library, which the tests
-//! compare with it, and is plain rather than fast. Quotations here are from document 01 unless another source is named.
+//! An independent implementation of the challenge sponge, written from document 01 and P3 and P4 of document 02 alone, and
+//! of the owners of separators, written from P1 of document 02 alone (`owners.rs`). It shares no code with the library, which
+//! the tests compare with it, and is plain rather than fast. Quotations here are from document 01 unless another source is
+//! named.
 
 // Each program that takes this file in uses only a part of it.
 #![allow(dead_code, unused_imports)]
@@ -29,6 +30,9 @@ pub const PLACES: usize = 744;
 /// "A word has its top bit set for ABSORB and clear for SQUEEZE; its low 31 bits are the length."
 pub const ABSORB: u32 = 0x80000000;
 pub const LONGEST: u32 = 0x7fffffff;
+
+/// P4: "limits one declared call to 16,777,216 elements."
+pub const LONGEST_CALL: u32 = 16_777_216;
 
 /// "pattern of 0 or over 64 words" and "separator over 256 bytes".
 pub const MOST_WORDS: usize = 64;
@@ -362,25 +366,24 @@ pub fn length(word: u32) -> u32 {
     word & LONGEST
 }
 
-/// "Merging adds neighbouring lengths of one kind." None for a "merged length above 2147483647".
-fn merge(words: &[u32]) -> Option<Vec<u32>> {
+/// "Merging adds neighbouring lengths of one kind." P4, of words that are declared calls: "With 64 words no merged length can
+/// then pass 2147483647."
+fn merge(words: &[u32]) -> Vec<u32> {
     let mut merged: Vec<u32> = Vec::new();
     for word in words {
         match merged.last_mut() {
             Some(last) if is_absorb(*last) == is_absorb(*word) => {
-                let sum = u64::from(length(*last)) + u64::from(length(*word));
-                if sum > u64::from(LONGEST) {
-                    return None;
-                }
+                assert!(length(*word) <= LONGEST - length(*last), "merged length");
                 *last += length(*word);
             }
             _ => merged.push(*word),
         }
     }
-    Some(merged)
+    merged
 }
 
-/// "START checks 1 to 6 in number order, whichever word is at fault". Gives the merged words or the number.
+/// "START checks 1 to 6 in number order, whichever word is at fault". P4: "19: a declared call above 16,777,216 elements, after
+/// 2 and before 3", and 5 is not given. Gives the merged words or the number.
 fn check_pattern(words: &[u32], separator: &[u8]) -> Result<Vec<u32>, u32> {
     if words.is_empty() || words.len() > MOST_WORDS {
         return Err(1);
@@ -388,17 +391,19 @@ fn check_pattern(words: &[u32], separator: &[u8]) -> Result<Vec<u32>, u32> {
     if words.iter().any(|word| length(*word) == 0) {
         return Err(2);
     }
+    if words.iter().any(|word| length(*word) > LONGEST_CALL) {
+        return Err(19);
+    }
     if !is_absorb(words[0]) {
         return Err(3);
     }
     if is_absorb(words[words.len() - 1]) {
         return Err(4);
     }
-    let merged = merge(words).ok_or(5_u32)?;
     if separator.len() > LONGEST_SEPARATOR {
         return Err(6);
     }
-    Ok(merged)
+    Ok(merge(words))
 }
 
 /// "The tag string is the merged words, four bytes each, highest byte first, then the separator."
