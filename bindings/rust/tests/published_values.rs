@@ -7,6 +7,9 @@ mod independent;
 
 use independent::*;
 
+/// "The buyers' house rule now limits one declared call to 16,777,216 elements."
+const LIMIT: u32 = 16777216;
+
 fn started(field: u32, words: &[u32], separator: &[u8]) -> Session {
     let (number, record) = start(field, words, separator);
     assert_eq!((number, record.field), (0, field));
@@ -142,7 +145,6 @@ fn patterns_turned_away_as_in_the_table() {
 /// "19: a declared call above 16,777,216 elements, after 2 and before 3"; "With 64 words no merged length can then pass 2147483647."
 #[test]
 fn declared_calls_turned_away_as_in_the_request() {
-    const LIMIT: u32 = 16777216;
     let number = |words: &[u32], separator: &[u8]| {
         let number = start(1, words, separator).0;
         let written = write_tag(words, separator, &mut [0; 512]);
@@ -175,7 +177,7 @@ fn declared_calls_turned_away_as_in_the_request() {
 /// "Reading still takes any 31-bit length", and so does a sound record.
 #[test]
 fn lengths_that_are_read_and_sound() {
-    for (first, second) in [(16777217, 1), (1, 16777217), (LONGEST, LONGEST)] {
+    for (first, second) in [(LIMIT + 1, 1), (1, LIMIT + 1), (LONGEST, LONGEST)] {
         let words = [ABSORB + first, second];
         let string = words.map(u32::to_be_bytes).concat();
         let (number, read, count) = read_tag(&string, 0);
@@ -184,6 +186,60 @@ fn lengths_that_are_read_and_sound() {
         record.words[..2].copy_from_slice(&words);
         assert_eq!(absorb(&mut record, &[1]), 0);
     }
+}
+
+/// The calls of words that 64 calls suffice for.
+fn calls_of(words: &[u32]) -> Vec<u32> {
+    let (number, calls, count) = cut(words);
+    assert_eq!(number, 0);
+    assert!(calls[count..].iter().all(|word| *word == 0));
+    calls[..count].to_vec()
+}
+
+/// "cutting longer words into calls of 16,777,216 and any rest, where 64 calls suffice."
+#[test]
+fn words_cut_into_calls() {
+    assert_eq!(calls_of(&[]), []);
+    for kind in [ABSORB, 0] {
+        for short in [0, 1, LIMIT - 1, LIMIT] {
+            assert_eq!(calls_of(&[kind + short; 64]), [kind + short; 64]);
+            assert_eq!(cut(&[kind + short; 65]), (1, [0; 64], 0));
+        }
+        assert_eq!(calls_of(&[kind + LIMIT + 1]), [kind + LIMIT, kind + 1]);
+        assert_eq!(calls_of(&[kind + 2 * LIMIT - 1]), [kind + LIMIT, kind + LIMIT - 1]);
+        for times in [2, 3, 64] {
+            assert_eq!(calls_of(&[kind + times * LIMIT]), vec![kind + LIMIT; times as usize]);
+        }
+        assert_eq!(calls_of(&[kind + 64 * LIMIT - 1]).len(), 64);
+        assert_eq!(cut(&[kind + 64 * LIMIT + 1]), (1, [0; 64], 0));
+        assert_eq!(cut(&[kind + LONGEST]), (1, [0; 64], 0));
+    }
+    assert_eq!(
+        calls_of(&[ABSORB + 2 * LIMIT + 5, 0, LIMIT + 7, ABSORB]),
+        [ABSORB + LIMIT, ABSORB + LIMIT, ABSORB + 5, 0, LIMIT, 7, ABSORB]
+    );
+    assert_eq!(cut(&vec![u32::MAX; 1_000_000]), (1, [0; 64], 0));
+}
+
+/// "what it reads is written again by cutting longer words .. where 64 calls suffice."
+#[test]
+fn what_is_read_is_written_again() {
+    let lists: [&[u32]; 5] = [
+        &[ABSORB + 6, 3],
+        &[ABSORB + LIMIT + 1, 2 * LIMIT],
+        &[ABSORB + 63 * LIMIT, 1],
+        &[ABSORB + 1, 63 * LIMIT - 1],
+        &[ABSORB + 30 * LIMIT + 1, LIMIT, ABSORB + 7, 31 * LIMIT],
+    ];
+    for words in lists {
+        let mut string: Vec<u8> = words.iter().flat_map(|word| word.to_be_bytes()).collect();
+        string.extend(b"AB");
+        let (number, read, count) = read_tag(&string, 2);
+        assert_eq!((number, &read[..count]), (0, words));
+        assert_eq!(written(&calls_of(&read[..count]), read_separator(&string, 2)), string);
+    }
+    assert_eq!(cut(&[ABSORB + 63 * LIMIT + 1, 1]), (1, [0; 64], 0));
+    assert_eq!(cut(&[ABSORB + LONGEST, 1]), (1, [0; 64], 0));
 }
 
 /// "18: field number neither 1 nor 2, before 1 at START, before 10 in the bare permutation, which gives its input back, and in the generator, whose list

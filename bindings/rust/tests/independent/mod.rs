@@ -459,6 +459,36 @@ pub fn read_separator(string: &[u8], separator_length: usize) -> &[u8] {
     split_tag(string, separator_length).map_or(&[], |(_, separator)| separator)
 }
 
+/// P4: "cutting longer words into calls of 16,777,216 and any rest", of the word's kind. Other words are one call as they are,
+/// those of length 0 too.
+fn cut_word(word: u32) -> Vec<u32> {
+    if length(word) <= LONGEST_CALL {
+        return vec![word];
+    }
+    let kind = word & ABSORB;
+    let (whole, rest) = (length(word) / LONGEST_CALL, length(word) % LONGEST_CALL);
+    let mut calls = vec![kind + LONGEST_CALL; whole as usize];
+    if rest > 0 {
+        calls.push(kind + rest);
+    }
+    calls
+}
+
+/// P4: "what it reads is written again by cutting longer words into calls of 16,777,216 and any rest, where 64 calls suffice."
+/// Where they don't, 1 as for a "pattern of 0 or over 64 words", with 64 zero words and count 0. The words may be any list, and
+/// the 65th call decides, so none is cut after it.
+pub fn cut(words: &[u32]) -> (u32, [u32; MOST_WORDS], usize) {
+    let calls: Vec<u32> = words
+        .iter()
+        .flat_map(|word| cut_word(*word))
+        .take(MOST_WORDS + 1)
+        .collect();
+    if calls.len() > MOST_WORDS {
+        return (1, [0; MOST_WORDS], 0);
+    }
+    (0, with_unused_words(&calls), calls.len())
+}
+
 /// "with the merged words and their number"; "unused words are 0."
 fn with_unused_words(words: &[u32]) -> [u32; MOST_WORDS] {
     std::array::from_fn(|k| words.get(k).copied().unwrap_or(0))
