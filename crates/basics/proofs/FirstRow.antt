@@ -1,6 +1,6 @@
 -- Laws of the first row of a table that applies.
 -- Assumes nothing.
-use mathlib.Core.Path.{_≡_, refl, _∙_}
+use mathlib.Core.Path.{_≡_, refl, sym, _∙_}
 use mathlib.Core.Bool.{Bool, true, false, not}
 use mathlib.Core.List.{List, [], _∷_, _++_}
 use mathlib.Core.Logic.{_≢_}
@@ -64,3 +64,10 @@ unfolding firstNumber all
 number-bound m [] e = zero-le
 number-bound m (row ∷ rows) e =
     by (λ (n : ℕ). n ≤ m) _ _ _ (λ _. leb-true _ _ (and-left _ _ e)) λ _. number-bound m rows (and-right _ _ e)
+
+-- a number that no row has is not given
+pub never-given : (n : ℕ) (rows : List Row) → all (λ row. not (eqb (row .number) n)) rows ≡ true → n ≢ accepted → firstNumber rows ≢ n
+unfolding firstNumber all
+never-given n [] e some = λ z. some (sym z)
+never-given n (row ∷ rows) e some =
+    by (λ (k : ℕ). k ≢ n) _ _ _ (λ _. eqb-false (row .number) n (not-true _ (and-left _ _ e))) λ _. never-given n rows (and-right _ _ e) some

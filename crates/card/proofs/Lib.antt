@@ -6,3 +6,4 @@ pub mod Texts
 pub mod CardAnswer
 pub mod Cut
 pub mod Reading
+pub mod GivenNumber

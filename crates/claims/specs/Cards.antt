@@ -14,7 +14,7 @@ use Rattle.basics.specs.Refusals.{firstNumber}
 use Rattle.basics.proofs.Placed.{placed-front}
 use Rattle.words.specs.Words.{isAbsorb, lengthOf, phaseOf, wordOf}
 use Rattle.pattern.specs.Pattern.{join, merge, phases, mergedWords}
-use Rattle.pattern.specs.Opening.{opening, tooLong, wordRows, openingRows, openingNumber}
+use Rattle.pattern.specs.Opening.{opening, wordRows, openingRows, openingNumber}
 use Rattle.tag.specs.TagString.{wordBytes, stringOf, tagString}
 use Rattle.counters.specs.Permutations.{blockCount, phasePermutations, permutationsAt, fullPermutations}
 use Rattle.session.specs.Calls.{start}
@@ -198,7 +198,7 @@ unfolding line3 all _and_ hexDigit hex separatorText decimalUpTo decimal callTex
 card3 = record { short = lit≤ tt; bytes = refl; words = refl; text = refl }
 
 answer1 : answer line1 ≡ ascii "(ok 80000006000000034142 1)"
-unfolding cardAnswer okText openingNumber openingRows wordRows firstNumber tooLong tagString stringOf wordBytes digits mergedWords phases merge join phaseOf wordOf isAbsorb lengthOf
+unfolding cardAnswer okText openingNumber openingRows wordRows firstNumber tagString stringOf wordBytes digits mergedWords phases merge join phaseOf wordOf isAbsorb lengthOf
     fullPermutations permutationsAt phasePermutations blockCount sum hexDigit hex decimalUpTo decimal if_then_else_ _or_ same any
 answer1 = answer-to-card _ _ _ card1 ∙ refl
 

@@ -14,7 +14,7 @@ use Rattle.basics.specs.Digits.{digits}
 use Rattle.basics.specs.Refusals.{firstNumber}
 use Rattle.words.specs.Words.{Phase, isAbsorb, lengthOf, phaseOf, wordOf}
 use Rattle.pattern.specs.Pattern.{join, merge, phases, mergedWords}
-use Rattle.pattern.specs.Opening.{Opening, opening, tooLong, wordRows, openingRows, openingNumber}
+use Rattle.pattern.specs.Opening.{Opening, opening, wordRows, openingRows, openingNumber}
 use Rattle.tag.specs.TagString.{wordBytes, stringOf, tagString}
 use Rattle.field.specs.Field.{isField, fieldOf, isElement}
 use Rattle.field.proofs.Moduli.{positive}
@@ -42,11 +42,11 @@ module _ (field : ℕ) (known : isField field ≡ true) where
   zeros (suc n) = and-both _ _ (lt-ltb 0 _ (positive (fieldOf field))) (zeros n)
 
   short-session : (a : Run) × (a .field ≡ field) × (a .opening ≡ opening twoWords eightBytes) × (absorbedOf a ≡ 0 ∷ [])
-  unfolding twoWords eightBytes openingNumber openingRows wordRows firstNumber tooLong phases merge join phaseOf isAbsorb lengthOf absorbLength if_then_else_ _and_ _or_ same any
+  unfolding twoWords eightBytes openingNumber openingRows wordRows firstNumber phases merge join phaseOf isAbsorb lengthOf absorbLength if_then_else_ _and_ _or_ same any
   short-session = finishable field (opening twoWords eightBytes) (0 ∷ []) (accepted-start field (opening twoWords eightBytes) known refl) refl (zeros 1)
 
   long-session : (a : Run) × (a .field ≡ field) × (a .opening ≡ opening fourWords []) × (absorbedOf a ≡ 0 ∷ 0 ∷ 0 ∷ [])
-  unfolding fourWords openingNumber openingRows wordRows firstNumber tooLong phases merge join phaseOf isAbsorb lengthOf absorbLength if_then_else_ _and_ _or_ same any
+  unfolding fourWords openingNumber openingRows wordRows firstNumber phases merge join phaseOf isAbsorb lengthOf absorbLength if_then_else_ _and_ _or_ same any
   long-session = finishable field (opening fourWords []) (0 ∷ 0 ∷ 0 ∷ []) (accepted-start field (opening fourWords []) known refl) refl (zeros 3)
 
 same-string : tagString (opening twoWords eightBytes) ≡ tagString (opening fourWords [])

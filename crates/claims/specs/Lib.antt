@@ -8,3 +8,5 @@ pub mod EqualLengths
 pub mod Cards
 pub mod Owners
 pub mod Pass
+pub mod Unused
+pub mod Cutting

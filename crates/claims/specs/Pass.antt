@@ -4,31 +4,32 @@ use mathlib.Core.Path.{_≡_, refl, sym, _∙_}
 use mathlib.Core.Bool.{not}
 use mathlib.Core.List.{List, [], _∷_, _++_}
 use mathlib.Core.Logic.{_≢_}
-use Prim.Native.Nat.{ℕ, suc, _-_, _≤_, _<_}
+use Prim.Native.Nat.{ℕ, suc, _-_, _*_, _≤_, _<_}
 use native.Mathlib.Omega.{arith}
 use borrow.Author.Tests.{eqb-false, ne-eqb}
 use lib.Dec.{ltb, eqb}
 use lib.ListN.{length, getD, take, replicate}
-use Rattle.basics.specs.Logic.{if_then_else_, _or_, same, any}
-use Rattle.basics.specs.Numbers.{accepted, wordCountOutOfRange, wordLengthZero, firstWordSqueeze, mergedLengthTooLong}
+use Rattle.basics.specs.Logic.{if_then_else_, _or_, any}
+use Rattle.basics.specs.Numbers.{accepted, wordCountOutOfRange, wordLengthZero, callTooLong, firstWordSqueeze}
 use Rattle.basics.specs.Refusals.{_gets_⨾_, firstNumber}
-use Rattle.words.specs.Words.{isAbsorb, lengthOf, phaseOf}
-use Rattle.pattern.specs.Pattern.{join, merge, phases, mergedWords}
-use Rattle.pattern.specs.Opening.{Opening, opening, tooLong, wordRows, openingNumber, withWords, answerWith, checked}
-use Rattle.pattern.specs.Pass.{without, passNumber, passed, passBegin, lower, passStep, pass, heldAfter, ending}
+use Rattle.words.specs.Words.{isAbsorb, lengthOf}
+use Rattle.pattern.specs.Pattern.{mergedWords}
+use Rattle.pattern.specs.Opening.{Opening, opening, maxCall, wordRows, openingNumber, withWords, answerWith, checked}
+use Rattle.pattern.specs.Pass.{without, passNumber, passed, passBegin, rank, earlier, passStep, pass, heldAfter, ending}
 use Rattle.basics.proofs.Cases.{or-false}
 use Rattle.pattern.proofs.Given.{answer-accepted, answer-refused}
 use Rattle.pattern.proofs.StartCheck.{passed-rows, checked-accepted}
-use Rattle.pattern.proofs.PassStep.{step-holds, pass-from, held-over, lower-zero}
-use Rattle.pattern.proofs.FromPass.{start-by-pass}
+use Rattle.pattern.proofs.PassStep.{step-holds, pass-from, held-over, earlier-zero}
+use Rattle.pattern.proofs.FromPass.{rank-other, earlier-left, earlier-right, earlier-of-none, start-by-pass}
 
--- "the lowest number that the words so far earn, number 4 aside": the first that applies of 1, 2, 3 and 5, which is the lowest.
+-- "the lowest number that the words so far earn, number 4 aside", where 19 counts "after 2 and before 3, in P2's pass too": the first that applies
+-- of 1, 2, 19 and 3.
 pub numbers-of-the-pass : (ws : List ℕ) → passNumber ws
     ≡ firstNumber
     (eqb (length ws) 0 or ltb 64 (length ws) gets wordCountOutOfRange ⨾
     any (λ w. eqb (lengthOf w) 0) ws gets wordLengthZero ⨾
+    any (λ w. ltb maxCall (lengthOf w)) ws gets callTooLong ⨾
     not (isAbsorb (getD ws 0 0)) gets firstWordSqueeze ⨾
-    any tooLong (phases ws) gets mergedLengthTooLong ⨾
     [])
 unfolding passNumber without wordRows if_then_else_
 numbers-of-the-pass ws = refl
@@ -65,30 +66,53 @@ unfolding heldAfter
 number-1-over-64 [] h = absurd (omega arith)
 number-1-over-64 (w ∷ ws) h = held-over (w ∷ ws) h
 
+-- The order in which numbers count: 19 "after 2 and before 3", the others as they rise; and where one is 0, the other counts.
+pub order-of-numbers :
+    (_≡_ {A = ℕ} (earlier 19 2) 2)
+    × (_≡_ {A = ℕ} (earlier 19 3) 19)
+    × (_≡_ {A = ℕ} (earlier 2 19) 2)
+    × (_≡_ {A = ℕ} (earlier 3 19) 19)
+    × ((a b : ℕ) → a ≢ 0 → a < b → b < 19 → (earlier a b ≡ a) × (earlier b a ≡ a))
+    × ((a : ℕ) → (earlier a 0 ≡ a) × (earlier 0 a ≡ a))
+unfolding earlier rank if_then_else_
+order-of-numbers = (
+  refl,
+  refl,
+  refl,
+  refl,
+  λ a b some less few.
+      let low : rank a ≡ 2 * a = rank-other a (λ e. omega arith) in
+      let high : rank b ≡ 2 * b = rank-other b (λ e. omega arith) in
+      let other : b ≢ 0 = λ e. omega arith in
+      (earlier-left a b some other (omega (arith, low, high)), earlier-right b a other some (omega (arith, low, high))),
+  earlier-of-none,
+)
+
 lowest : (separator ws : List ℕ) → length ws ≢ 0
-    → openingNumber (opening ws separator) ≡ lower (passed ws .number) (ending (getD ws (length ws - 1) 0) (length separator))
+    → openingNumber (opening ws separator) ≡ earlier (passed ws .number) (ending (getD ws (length ws - 1) 0) (length separator))
 unfolding heldAfter
 lowest separator [] some = absurd (some refl)
 lowest separator (w ∷ ws) some = sym (start-by-pass separator (w ∷ ws) _ some (λ _ _. refl))
 
--- "The lowest applicable number still wins, even when a later word is the one at fault.": the start check's number is the lower of the one that
--- the pass holds at the end and of 4, by the last word, or 6, by the separator. So 4 comes before a 5 that is held.
+-- "The lowest applicable number still wins, even when a later word is the one at fault.": the start check's number is the one that is checked first of
+-- what the pass holds at the end and of 4, by the last word, or 6, by the separator.
 pub lowest-number-wins : (o : Opening) → length (o .words) ≢ 0
-    → openingNumber o ≡ lower (passed (o .words) .number) (ending (getD (o .words) (length (o .words) - 1) 0) (length (o .separator)))
+    → openingNumber o ≡ earlier (passed (o .words) .number) (ending (getD (o .words) (length (o .words) - 1) 0) (length (o .separator)))
 lowest-number-wins o = lowest (o .separator) (o .words)
 
 -- And an opening that START accepts gets what the pass holds.
 pub accepted-gets-what-is-held : (o : Opening) → openingNumber o ≡ accepted → checked o ≡ passed (o .words)
 accepted-gets-what-is-held o e =
     let some : length (o .words) ≢ 0 = eqb-false _ 0 (or-false _ _ (passed-rows o e .of-words .e1) .0) in
-    let (none, _) = lower-zero _ _ (sym (lowest-number-wins o some) ∙ e) in
+    let (none, _) = earlier-zero _ _ (sym (lowest-number-wins o some) ∙ e) in
     checked-accepted o e ∙ sym (else-merged-words (o .words) none)
 
--- A 5 is held, then a word of length 0 gives 2; and a 3 is held, then a 65th word gives 1.
+-- A 3 is held, then a call that is too long gives 19; then a word of length 0 gives 2; and a 3 is held, then a 65th word gives 1.
 pub later-words-at-fault :
-    (_≡_ {A = ℕ} (passNumber (0xffffffff ∷ 0xffffffff ∷ [])) 5)
-    × (_≡_ {A = ℕ} (passNumber (0xffffffff ∷ 0xffffffff ∷ 0x80000000 ∷ [])) 2)
+    (_≡_ {A = ℕ} (passNumber (3 ∷ [])) 3)
+    × (_≡_ {A = ℕ} (passNumber (3 ∷ 0x81000001 ∷ [])) 19)
+    × (_≡_ {A = ℕ} (passNumber (3 ∷ 0x81000001 ∷ 0x80000000 ∷ [])) 2)
     × (_≡_ {A = ℕ} (passNumber (replicate 64 3)) 3)
     × (_≡_ {A = ℕ} (passNumber (replicate 65 3)) 1)
-unfolding without passNumber tooLong wordRows join merge phases isAbsorb lengthOf phaseOf firstNumber if_then_else_ _or_ same any
-later-words-at-fault = (refl, refl, refl, refl)
+unfolding without passNumber wordRows isAbsorb lengthOf firstNumber if_then_else_ _or_ any
+later-words-at-fault = (refl, refl, refl, refl, refl)

@@ -1,9 +1,10 @@
 -- Sessions: records stay sound, counts and positions are those of document 01 at every place of a pattern, every session can be finished,
 -- copies are forks, calls may be cut, and what is squeezed are elements of the session's field.
 -- `start`, `absorb`, `squeeze` and `finish` are those that the contracts of `session` cite.
-use mathlib.Core.Path.{_≡_}
+use mathlib.Core.Path.{_≡_, ap, _∙_}
 use mathlib.Core.Bool.{true}
-use mathlib.Core.List.{List, [], _++_}
+use mathlib.Core.List.{List, _++_}
+use mathlib.Core.Logic.{_≢_}
 use Prim.Native.Nat.{ℕ, _+_, _≤_, _<_}
 use native.Mathlib.Omega.{arith}
 use borrow.Author.Tests.{eqb-true, eq-eqb}
@@ -15,23 +16,26 @@ use Rattle.field.specs.Field.{fieldOf, isElement}
 use Rattle.words.specs.Words.{lengthOf}
 use Rattle.pattern.specs.Pattern.{phases, mergedWords}
 use Rattle.counters.specs.Permutations.{permutationsAt}
-use Rattle.pattern.specs.Opening.{Opening, opening}
-use Rattle.session.specs.Record.{opened, squeezedAll}
+use Rattle.pattern.specs.Opening.{Opening, opening, maxCall}
+use Rattle.cutting.specs.Cutting.{cutWords, cutNumber}
+use Rattle.cutting.proofs.Openings.{cut-merges, cut-accepted, accepted-suffices}
+use Rattle.session.specs.Record.{opened, openRecord, squeezedAll}
 use Rattle.session.specs.Soundness.{sound}
 use Rattle.session.specs.Calls.{start, absorb, squeeze}
 use Rattle.session.specs.declared.Session.{Session}
 use Rattle.session.proofs.SoundRecord.{parts}
+use Rattle.basics.proofs.Below.{below-take}
 use Rattle.counters.proofs.Bounds.{positions-bound}
 use Rattle.runs.specs.Calls.{Call, left, leftBy, absorbed, squeezed}
 use Rattle.runs.specs.Lengths.{absorbLength}
 use Rattle.runs.specs.Runs.{Run, absorbedOf, permutationsOf}
 use Rattle.runs.proofs.Outcomes.{absorb-takes}
 use Rattle.runs.proofs.SoundCalls.{sound-left}
-use Rattle.runs.proofs.Opened.{start-open, start-sound, sound-run}
+use Rattle.runs.proofs.Opened.{start-open, start-sound, start-accepted, accepted-start, sound-run}
 use Rattle.runs.proofs.Counted.{count-run, count-whole}
 use Rattle.runs.proofs.Finishing.{finishable}
 use Rattle.runs.proofs.Reached.{place-reached, end-reached}
-use Rattle.runs.proofs.SoundPlaces.{pattern-opens, record-reached}
+use Rattle.runs.proofs.SoundPlaces.{record-reached, started-at}
 use Rattle.runs.proofs.Forks.{left-by-append, absorbed-append, squeezed-append}
 use Rattle.runs.proofs.SqueezedElements.{squeezed-reduced}
 use Rattle.runs.proofs.Cuts.{absorb-part, absorb-cut, squeeze-part, squeeze-cut, squeezed-cut}
@@ -79,14 +83,13 @@ every-end-is-reached field o e =
     let reached = end-reached field o e in
     (reached .0, (reached .1 .opens, reached .1 .phase, reached .1 .done))
 
--- "count and positions are those the steps give at that place": START takes the field number and the words of an open sound record, and some calls then lead to a
--- record that is this one in all but the state. (Words are of 32 bits, and 64, in every record that a caller can hand over.)
-pub sound-records-are-reached : (r : Session) → Below 4294967296 (r .words) → length (r .words) ≡ 64
-    → r .status ≡ opened → sound r ≡ true
-    → let o = opening (take (r .count) (r .words)) [] in
-    (start (r .field) o .number ≡ accepted)
-    × ((cs : List Call)
-    × (let t = leftBy (start (r .field) o .session) cs in
+-- "count and positions are those the steps give at that place": from the begin of its pattern, with any state of elements, some calls lead to a record
+-- that is this one in all but the state, for every open sound record. (`openRecord` is the record that START makes of a field number, a state and
+-- merged words. There are 64 words in every record that a caller can hand over.)
+pub sound-records-are-reached : (r : Session) → length (r .words) ≡ 64 → r .status ≡ opened → sound r ≡ true
+    → (state : List ℕ) → all (isElement (fieldOf (r .field))) state ≡ true
+    → (cs : List Call)
+    × (let t = leftBy (openRecord (r .field) state (take (r .count) (r .words))) cs in
     (_≡_ {A = Session}
     (record {
       status = t .status;
@@ -100,8 +103,30 @@ pub sound-records-are-reached : (r : Session) → Below 4294967296 (r .words) �
       «squeeze_position» = t .«squeeze_position»;
       permutations = t .permutations;
     })
-    r)))
-sound-records-are-reached r fits long opens e = (pattern-opens r fits (parts r e), record-reached r fits (parts r e) opens long)
+    r))
+sound-records-are-reached r long opens e state elements = record-reached r (parts r e) state elements opens long
+
+-- START makes such a record of the words, cut, where 64 calls suffice: with any separator of at most 256 bytes. (Words are of 32 bits.)
+pub sound-records-are-opened : (r : Session) → Below 4294967296 (r .words) → sound r ≡ true
+    → let ws = take (r .count) (r .words) in
+    cutNumber ws ≡ accepted → (separator : List ℕ) → length separator ≤ 256
+    → let a = start (r .field) (opening (cutWords maxCall ws) separator) in
+    (a .number ≡ accepted)
+    × ((state : List ℕ) × (all (isElement (fieldOf (r .field))) state ≡ true) × (a .session ≡ openRecord (r .field) state ws))
+sound-records-are-opened r fits e suffice separator short =
+    let s = parts r e in
+    let ws = take (r .count) (r .words) in
+    let bits = below-take _ (r .count) (r .words) fits in
+    let o = opening (cutWords maxCall ws) separator in
+    let opens = accepted-start (r .field) o (s .known) (cut-accepted ws (s .pattern) bits suffice separator short) in
+    let (state, elements, begun) = started-at (r .field) o opens in
+    (opens, (state, elements, begun ∙ ap (openRecord (r .field) state) (cut-merges ws (s .pattern) bits)))
+
+-- Where they do not, START opens no session with these merged words, in any field.
+pub other-records-are-not-opened : (r : Session) → sound r ≡ true
+    → let ws = take (r .count) (r .words) in
+    cutNumber ws ≢ accepted → (field : ℕ) (o : Opening) → phases (o .words) ≡ phases ws → start field o .number ≢ accepted
+other-records-are-not-opened r e over field o same a = over (accepted-suffices _ (parts r e .pattern) o (start-accepted field o a) same)
 
 -- "an absorb and a squeeze position (0 to 8)": neither position of a sound record is above 8.
 pub positions-are-0-to-8 : (r : Session) → sound r ≡ true → (r .«absorb_position» ≤ 8) × (r .«squeeze_position» ≤ 8)

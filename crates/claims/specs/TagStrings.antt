@@ -1,6 +1,6 @@
 -- Tag strings read back, and tell patterns and separators apart. `tagString`, `openingNumber` and the others are those that the contracts of
 -- `pattern` and `tag` cite. An opening, words and a separator, is accepted where the start check's number is 0.
-use mathlib.Core.Path.{_≡_}
+use mathlib.Core.Path.{_≡_, sym, ap, ap₂, _∙_}
 use mathlib.Core.List.{List}
 use mathlib.Core.Logic.{_≢_, _↔_}
 use Prim.Native.Nat.{ℕ}
@@ -8,10 +8,12 @@ use lib.ListN.{length, take}
 use Rattle.basics.specs.Lists.{Below}
 use Rattle.basics.specs.Numbers.{accepted, notTagString}
 use Rattle.pattern.specs.Pattern.{phases, mergedWords}
-use Rattle.pattern.specs.Opening.{Opening, opening, openingNumber, withWords}
+use Rattle.pattern.specs.Opening.{Opening, opening, maxCall, openingNumber, withWords}
+use Rattle.cutting.specs.Cutting.{cutWords, cutNumber}
+use Rattle.cutting.proofs.Openings.{cut-merges, cut-accepted, accepted-suffices}
 use Rattle.tag.specs.TagString.{tagString, writeNumber, written, bufferAfter, readNumber, readWords, wordsRead, readSeparator}
 use Rattle.tag.proofs.Writing.{front-of-buffer}
-use Rattle.tag.proofs.ReadBack.{reads-words, reads-separator, writes, writes-string, refused-string, strings-tell}
+use Rattle.tag.proofs.ReadBack.{reads-words, words-again, reads-separator, phases-again, read-sound, read-below, read-short, writes-string, refused-string, strings-tell}
 
 -- What an accepted call of `write` leaves in the front of the buffer is the tag string.
 pub written-string : (o : Opening) (buffer : List ℕ) → writeNumber o buffer ≡ accepted
@@ -25,11 +27,25 @@ pub reading-back : (o : Opening) → openingNumber o ≡ accepted
     × (readSeparator (tagString o) (length (o .separator)) ≡ o .separator)
 reading-back o e = (reads-words o e, reads-separator o e)
 
--- "and writing these gives it again": what reading accepts of a string of bytes is an accepted pattern, whose tag string it is.
-pub writing-again : (string : List ℕ) (n : ℕ) → Below 256 string → readNumber string n ≡ accepted
-    → (openingNumber (opening (wordsRead string n) (readSeparator string n)) ≡ accepted)
-    × (tagString (opening (wordsRead string n) (readSeparator string n)) ≡ string)
-writing-again string n bytes e = (writes string n bytes e, writes-string string n bytes e)
+-- "and writing these gives it again"; "what it reads is written again by cutting longer words into calls of 16,777,216 and any rest, where 64 calls
+-- suffice": what reading accepts of a string of bytes, with its words cut, is an accepted pattern, whose tag string it is.
+pub writing-again : (string : List ℕ) (n : ℕ) → Below 256 string → readNumber string n ≡ accepted → cutNumber (wordsRead string n) ≡ accepted
+    → (openingNumber (opening (cutWords maxCall (wordsRead string n)) (readSeparator string n)) ≡ accepted)
+    × (tagString (opening (cutWords maxCall (wordsRead string n)) (readSeparator string n)) ≡ string)
+writing-again string n bytes e suffice =
+    let sound = read-sound string n bytes e in
+    let bits = read-below string n bytes e in (
+      cut-accepted (wordsRead string n) sound bits suffice (readSeparator string n) (read-short string n bytes e),
+      writes-string string n bytes e (cutWords maxCall (wordsRead string n)) (cut-merges (wordsRead string n) sound bits),
+    )
+
+-- And 64 calls suffice for every string that is the tag string of an accepted pattern with a separator of that length: where they do not, no such
+-- pattern has it.
+pub suffices-for-tag-strings : (string : List ℕ) (n : ℕ) → Below 256 string → readNumber string n ≡ accepted
+    → (o : Opening) → openingNumber o ≡ accepted → length (o .separator) ≡ n → tagString o ≡ string → cutNumber (wordsRead string n) ≡ accepted
+suffices-for-tag-strings string n bytes e o a long same =
+    let words : wordsRead string n ≡ mergedWords (o .words) = sym (ap₂ wordsRead same long) ∙ words-again o a in
+    accepted-suffices (wordsRead string n) (read-sound string n bytes e) o a (sym (ap phases words ∙ phases-again o a))
 
 -- "no tag string of that separator length": what reading refuses with 13 is the tag string of no accepted pattern with a separator of that
 -- length.

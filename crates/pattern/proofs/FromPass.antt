@@ -4,15 +4,15 @@ use mathlib.Core.Path.{_≡_, refl, sym, ap, _∙_}
 use mathlib.Core.Bool.{Bool, true, false}
 use mathlib.Core.List.{List, [], _∷_}
 use mathlib.Core.Logic.{_≢_}
-use Prim.Native.Nat.{ℕ, suc, _-_, _≤_, _<_}
+use Prim.Native.Nat.{ℕ, suc, _-_, _*_, _≤_, _<_}
 use native.Mathlib.Omega.{arith}
-use borrow.Author.Tests.{ltb-true, leb-true, leb-false, eqb-false, ne-eqb}
+use borrow.Author.Tests.{ltb-true, lt-ltb, le-ltb, leb-true, leb-false, eqb-true, eqb-false, ne-eqb}
 use lib.Dec.{leb, ltb, eqb}
 use lib.ListN.{length, getD}
 use Rattle.basics.specs.Logic.{if_then_else_, _or_}
 use Rattle.basics.specs.Numbers.{accepted, wordCountOutOfRange}
 use Rattle.basics.specs.Refusals.{_gets_⨾_, firstNumber}
-use Rattle.basics.proofs.Cases.{by, cases, if-true}
+use Rattle.basics.proofs.Cases.{by, cases, if-true, if-false}
 use Rattle.pattern.specs.Pattern.{mergedWords}
 use Rattle.pattern.specs.Opening.{wordRows, openingRows, openingNumber, withWords, answerWith}
 use Rattle.pattern.specs.Pass.{passNumber, passed, rank, earlier, heldAfter, ending}
@@ -40,6 +40,25 @@ by-ending false false false true true f = refl
 by-ending false false false true false true = refl
 by-ending false false false true false false = refl
 by-ending false false false false e f = refl
+
+-- ---- the order of numbers
+
+pub rank-other : (n : ℕ) → n ≢ 19 → rank n ≡ 2 * n
+unfolding rank
+rank-other n other = if-false _ _ _ (ne-eqb n 19 other)
+
+module _ (a b : ℕ) (some : a ≢ 0) (other : b ≢ 0) where
+  pub earlier-left : rank a ≤ rank b → earlier a b ≡ a
+  unfolding earlier
+  earlier-left h = if-false _ _ _ (ne-eqb a 0 some) ∙ if-false _ _ _ (ne-eqb b 0 other) ∙ if-false _ _ _ (le-ltb (rank b) (rank a) h)
+
+  pub earlier-right : rank b < rank a → earlier a b ≡ b
+  unfolding earlier
+  earlier-right h = if-false _ _ _ (ne-eqb a 0 some) ∙ if-false _ _ _ (ne-eqb b 0 other) ∙ if-true _ _ _ (lt-ltb (rank b) (rank a) h)
+
+pub earlier-of-none : (a : ℕ) → (earlier a 0 ≡ a) × (earlier 0 a ≡ a)
+unfolding earlier if_then_else_
+earlier-of-none a = (cases (eqb a 0) (λ e. if-true _ _ _ e ∙ sym (eqb-true a 0 e)) (λ e. if-false _ _ _ e), refl)
 
 -- nothing is checked before number 1
 earlier-one : (x : ℕ) → earlier 1 x ≡ 1

@@ -74,7 +74,7 @@ module _ (field : ℕ) (state ws : List ℕ) (known : isField field ≡ true) (r
       }
 
 module _ (field : ℕ) (o : Opening) where
-  number-of : start field o .number ≡ startNumber field o
+  pub number-of : start field o .number ≡ startNumber field o
   unfolding start giving
   number-of = by (λ (a : Answer). a .number ≡ startNumber field o) _ _ _ (λ e. sym (eqb-true _ _ e)) λ _. refl
 

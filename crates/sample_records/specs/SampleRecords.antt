@@ -14,7 +14,7 @@ use Rattle.keccak_tables.specs.Tables.{offsets, roundConstants}
 use Rattle.basics.specs.Refusals.{firstNumber}
 use Rattle.words.specs.Words.{isAbsorb, lengthOf, phaseOf, wordOf}
 use Rattle.pattern.specs.Pattern.{join, merge, phases, mergedWords}
-use Rattle.pattern.specs.Opening.{opening, tooLong, wordRows, openingRows}
+use Rattle.pattern.specs.Opening.{opening, wordRows, openingRows}
 use Rattle.tag.specs.TagString.{wordBytes, stringOf, tagString, wordAt}
 use Rattle.tag.specs.Elements.{tagElements}
 use Rattle.session.specs.Record.{tagState, openRecord}
@@ -25,7 +25,7 @@ use Rattle.session.specs.declared.Session.{Session}
 unfoldable startedRecord : List ℕ → Session
 unfolding start giving startRows startNumber startRecord openRecord tagState isField
     all any _and_ _or_ if_then_else_ same tabulate sum digits number numberAfter
-    isAbsorb lengthOf phaseOf wordOf join merge phases mergedWords tooLong wordRows openingRows firstNumber wordBytes stringOf tagString wordAt tagElements
+    isAbsorb lengthOf phaseOf wordOf join merge phases mergedWords wordRows openingRows firstNumber wordBytes stringOf tagString wordAt tagElements
     hash.bytes hash.pad10*1 hash.padded hash.laneAt hash.addBlock hash.absorb hash.byteOf hash.squeeze hash.sha3
     keccak.state keccak.rotate keccak.parity keccak.effect keccak.theta keccak.rho keccak.pi keccak.chi keccak.iota
     keccak.round keccak.rounds keccak.permutation offsets roundConstants

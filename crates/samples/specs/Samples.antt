@@ -9,14 +9,14 @@ use lib.ListN.{length, getD, replicate}
 use Rattle.basics.specs.Logic.{if_then_else_, _and_, _or_, same, all, any}
 use Rattle.basics.specs.Lists.{tabulate, sum}
 use Rattle.basics.specs.Digits.{digits, number, numberAfter}
-use Rattle.basics.specs.Numbers.{accepted}
+use Rattle.basics.specs.Numbers.{accepted, callTooLong}
 use Rattle.field.specs.Field.{modulus, isField, fieldOf}
 use Rattle.field.specs.declared.Field.{Field}
 use Rattle.field.specs.declared.Field.the-variants.{BabyBear, KoalaBear}
 use Rattle.basics.specs.Refusals.{firstNumber}
 use Rattle.words.specs.Words.{isAbsorb, lengthOf, phaseOf, wordOf}
 use Rattle.pattern.specs.Pattern.{join, merge, phases, mergedWords, alternate, soundWords, soundPlaces}
-use Rattle.pattern.specs.Opening.{opening, tooLong, wordRows, openingRows}
+use Rattle.pattern.specs.Opening.{opening, wordRows, openingRows}
 use Rattle.tag.specs.TagString.{wordBytes, stringOf, tagString, wordAt}
 use Rattle.tag.specs.Elements.{tagElements}
 use Rattle.counters.specs.Permutations.{blockCount, phasePermutations, permutationsAt, fullPermutations}
@@ -57,10 +57,10 @@ b2 =
     (tagString (opening (0x80000001 ∷ 1 ∷ 0x80000002 ∷ 2 ∷ []) []))
     ∷ []
 
--- "B3 fffffffe 80000001 00000001: accepted, merged ffffffff 00000001."
+-- "B3 fffffffe 80000001 00000001: accepted, merged ffffffff 00000001."; document 02: "B3 now get[s] the new number"
 b3 : List Bool
 b3 =
-    eqb (startNumber 1 (opening (0xfffffffe ∷ 0x80000001 ∷ 1 ∷ []) [])) accepted
+    eqb (startNumber 1 (opening (0xfffffffe ∷ 0x80000001 ∷ 1 ∷ []) [])) callTooLong
     ∷ sameList (mergedWords (0xfffffffe ∷ 0x80000001 ∷ 1 ∷ [])) (0xffffffff ∷ 1 ∷ [])
     ∷ []
 
@@ -151,7 +151,7 @@ computed : all (λ sample. sample) (samplesWith record4 record5 record6 record7)
 unfolding samplesWith b1 b2 b3 b4 b5 b6 b7 b8 b8InField2 b9 b9InField2 b10 sameList fullPermutations byCalls raised
     record4 record5 record6 record7 words4 words5 words6 words7 alternate soundWords soundPlaces
     all any _and_ _or_ if_then_else_ same tabulate sum digits number numberAfter
-    isAbsorb lengthOf phaseOf wordOf join merge phases mergedWords tooLong wordRows openingRows startRows startNumber isField firstNumber wordBytes stringOf tagString wordAt tagElements
+    isAbsorb lengthOf phaseOf wordOf join merge phases mergedWords wordRows openingRows startRows startNumber isField firstNumber wordBytes stringOf tagString wordAt tagElements
     fieldOf parameters constants inverses babyBearConstants babyBearInverses koalaBearInverses
     addConstants raiseAll raiseFirst raise matrix multiply rounds permutation
     tagState readyToAbsorb absorbElement readyToSqueeze squeezedElement squeezeElement

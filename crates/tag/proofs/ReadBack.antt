@@ -28,7 +28,7 @@ use Rattle.pattern.proofs.Answers.{words-used}
 use Rattle.pattern.proofs.StartCheck.{passed-rows, fit}
 use Rattle.tag.proofs.Writing.{length-tag-string}
 use Rattle.tag.proofs.Reading.{number-0, read-accepted, separator-accepted, passed}
-use Rattle.pattern.proofs.MergedWords.{phases-of-words, merged-sound}
+use Rattle.pattern.proofs.MergedWords.{phases-of-words, phases-of-sound, merged-sound}
 
 -- ---- words and their bytes
 
@@ -123,6 +123,9 @@ module _ (o : Opening) (e : openingNumber o ≡ accepted) where
   pub reads-words : readWords s n ≡ withWords accepted (mergedWords (o .words))
   reads-words = read-accepted s n reads ∙ ap (withWords accepted) words
 
+  pub words-again : wordsRead (tagString o) (length (o .separator)) ≡ mergedWords (o .words)
+  words-again = ap (λ (m : WordList). take (m .count) (m .words)) reads-words ∙ words-used accepted (mergedWords (o .words))
+
   pub reads-separator : readSeparator s n ≡ o .separator
   reads-separator = separator-accepted s n reads ∙ back
 
@@ -183,6 +186,10 @@ pub phases-read : (o : Opening) → openingNumber o ≡ accepted → map phaseOf
 unfolding mergedWords
 phases-read o e = phases-of-words (phases (o .words)) (fit o e) .0
 
+-- and its merged words have its merged pattern
+pub phases-again : (o : Opening) → openingNumber o ≡ accepted → phases (mergedWords (o .words)) ≡ phases (o .words)
+phases-again o e = phases-of-sound (mergedWords (o .words)) (merged-sound o e) ∙ phases-read o e
+
 module _
     (a b : Opening)
     (e : openingNumber a ≡ accepted)
@@ -191,11 +198,7 @@ module _
   where
     tell : tagString a ≡ tagString b → (phases (a .words) ≡ phases (b .words)) × (a .separator ≡ b .separator)
     tell q =
-        let answers = sym (reads-words a e) ∙ ap₂ readWords q l ∙ reads-words b f in
-        let merged =
-        sym (words-used accepted (mergedWords (a .words)))
-        ∙ ap (λ (m : WordList). take (m .count) (m .words)) answers
-        ∙ words-used accepted (mergedWords (b .words)) in (
+        let merged = sym (words-again a e) ∙ ap₂ wordsRead q l ∙ words-again b f in (
           sym (phases-read a e) ∙ ap (map phaseOf) merged ∙ phases-read b f,
           sym (reads-separator a e) ∙ ap₂ readSeparator q l ∙ reads-separator b f,
         )
