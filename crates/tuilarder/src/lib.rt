@@ -4,6 +4,7 @@ use session::Session;
 ghost use mathlib.Core.Path.{_≡_};
 ghost use lib.ListN.{length};
 ghost use Rattle.sha3.specs.Sponge.{sha3};
+ghost use Rattle.cutting.specs.Cutting.{cutAnswer};
 ghost use Rattle.pattern.specs.Opening.{opening};
 ghost use Rattle.tag.specs.TagString.{written as writing, bufferAfter, readWords};
 ghost use Rattle.poseidon.specs.Permutation.{permuted};
@@ -125,6 +126,20 @@ pub extern "C" fn tuilarder_read_tag(
     *words = merged_words;
     *count = merged.count;
     merged.number
+}
+
+// Words cut into calls of at most 16,777,216 elements, and how many they are. Where 64 do not suffice, it gives zeros and number 1.
+#[no_mangle]
+pub extern "C" fn tuilarder_cut(words: &[u32], calls: &mut [u32; 64], count: &mut usize) -> u32
+    ensures { λ r. ⌜ (r ≡ cutAnswer (now (words .entry)) .number) ×
+        (now (calls .exit) ≡ cutAnswer (now (words .entry)) .words) ×
+        (now (count .exit) ≡ cutAnswer (now (words .entry)) .count) ⌝ }
+{
+    let cut = cutting::cut(words);
+    let cut_words = cut.words;
+    *calls = cut_words;
+    *count = cut.count;
+    cut.number
 }
 
 // The SHA3-256 digest of any string of bytes, the empty one too, into 32 lent bytes.
