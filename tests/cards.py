@@ -8,7 +8,7 @@
   tests/cards.py answers < BOOK
 
 The stored answers are those of the second implementation, in Python, written from document 01 by other hands (tests/oracle). `test` does
-not ask it: it has document 01's rule once more, as `answer` below, and compares the program with it on mutated cards; then on books of
+not ask it: it has the papers' rule once more, as `answer` below, and compares the program with it on mutated cards; then on books of
 short lines, whose answers fill the program's output many times in a piece, and on the stored book, cut into pieces of given sizes; then it
 tries input and output that fail, a line of 64 MB with little memory, and docs/sample.cards with what the README says of it. `compare` gives
 random lines to the program and to the second implementation. `answers` does the program's job by the rule of this file.
@@ -26,30 +26,31 @@ from second_implementation import oracle
 
 ABSORB = 1 << 31
 LONGEST = ABSORB - 1
+LIMIT = 16777216
 
 
-# ---- document 01's rule
+# ---- the rule of the papers
 
 CARD = re.compile(rb"\(card \(domain(?: ((?:[0-9a-f]{2})+))?\) \(calls((?: \([as] (?:0|[1-9][0-9]*)\))*)\)\)", re.DOTALL)
 
 
 def start_number(calls, separator):
-    """1 to 6 in number order, with the merged lengths; a call is its letter and its length."""
+    """1 to 6 in number order, with 19 behind 2, and the merged lengths; a call is its letter and its length."""
     merged = []
     for kind, length in calls:
         if merged and merged[-1][0] == kind:
             merged[-1] = (kind, merged[-1][1] + length)
         else:
             merged.append((kind, length))
-    rows = [
-        not 1 <= len(calls) <= 64,
-        any(length == 0 for _, length in calls),
-        calls[:1] and calls[0][0] == b"s",
-        calls[-1:] and calls[-1][0] == b"a",
-        any(length > LONGEST for _, length in merged),
-        len(separator) > 256,
-    ]
-    return next((number for number, row in enumerate(rows, 1) if row), 0), merged
+    rows = {
+        1: not 1 <= len(calls) <= 64,
+        2: any(length == 0 for _, length in calls),
+        19: any(length > LIMIT for _, length in calls),
+        3: calls[:1] and calls[0][0] == b"s",
+        4: calls[-1:] and calls[-1][0] == b"a",
+        6: len(separator) > 256,
+    }
+    return next((number for number, row in rows.items() if row), 0), merged
 
 
 def answer(line):
@@ -79,7 +80,7 @@ PAIR = [("a", 3), ("s", 3)]
 
 
 def refused():
-    """Document 01's example of each number that a card can get, and cards that more than one number fits."""
+    """The papers' example of each number that a card can get, and cards that more than one number fits."""
     yield card([])
     yield card([("a", 3), ("s", 0)])
     yield card([("s", 1)])
@@ -89,6 +90,9 @@ def refused():
     yield card([("s", 0)], bytes(300))
     yield card([("s", 1), ("a", LONGEST), ("a", LONGEST)], bytes(300))
     yield card([("a", LONGEST), ("a", 1), ("s", 1)], bytes(257))
+    yield card([("s", LIMIT + 1), ("s", 0)])
+    yield card([("s", LIMIT + 1)])
+    yield card([("a", 1), ("a", LIMIT + 1)])
 
 
 def limits():
@@ -97,12 +101,13 @@ def limits():
         yield card([("a", 1)] * (count - 1) + [("s", 1)])
     for length in (255, 256, 257, 258, 500):
         yield card(PAIR, bytes(k % 256 for k in range(length)))
-    for length in (0, 1, 7, 8, 9, 10, 99, 100, LONGEST - 1, LONGEST, LONGEST + 1, 10 * LONGEST, 2**32 - 1, 2**32, 2**32 + 3, 2**64 + 3, 10**40):
+    for length in (0, 1, 7, 8, 9, 10, 99, 100, LIMIT - 1, LIMIT, LIMIT + 1, LONGEST - 1, LONGEST, LONGEST + 1, 10 * LONGEST, 2**32 - 1, 2**32, 2**32 + 3, 2**64 + 3, 10**40):
         yield card([("a", length), ("s", 1)])
         yield card([("a", 1), ("s", length)])
-    yield card([("a", LONGEST - 1), ("a", 1), ("s", LONGEST)])
-    # the longest answer: 1,041 bytes
-    yield card([("as"[k % 2], LONGEST) for k in range(64)], bytes(range(256)))
+    yield card([("a", LIMIT - 1), ("a", 2), ("s", LIMIT)])
+    yield card([("a", LIMIT)] * 63 + [("s", LIMIT)])
+    # the longest answer: 1,039 bytes
+    yield card([("as"[k % 2], LIMIT) for k in range(64)], bytes(range(256)))
 
 
 def exact(length):
@@ -167,7 +172,7 @@ def spelled():
 
 def good(source, count):
     for _ in range(count):
-        calls = [(kind, source.choice([1, 2, 7, 8, 9, 16, source.randint(1, 300), source.randint(1, LONGEST)]))
+        calls = [(kind, source.choice([1, 2, 7, 8, 9, 16, source.randint(1, 300), source.randint(1, LIMIT)]))
                  for _ in range(source.randint(1, 4)) for kind in "as" for _ in range(source.randint(1, 3))]
         yield card(calls, source.randbytes(source.choice([0, 0, 1, 2, 8, 32, source.randint(0, 40)])))
 
@@ -199,7 +204,7 @@ def mutated(source, line):
         elif kind == 3:
             line = line[:k] + line[max(0, k - 7):k] * source.choice([1, 1, 2, 70, 400]) + line[k:]
         else:
-            line = re.sub(rb"[0-9]+", lambda m: source.choice([m[0], b"0", b"00", b"0" + m[0], b"2147483647", b"2147483648", m[0] + b"0"]), line)
+            line = re.sub(rb"[0-9]+", lambda m: source.choice([m[0], b"0", b"00", b"0" + m[0], b"16777216", b"16777217", b"2147483647", b"2147483648", m[0] + b"0"]), line)
     return line.replace(b"\n", b" ")
 
 
@@ -249,7 +254,7 @@ def random_cards(program, seed, count):
     numbers = {want.split(b" ")[0] + want.split(b" ")[1].rstrip(b")") if want.startswith(b"(no") else b"(ok" for want in map(answer, lines)}
     assert len(numbers) == 8, sorted(numbers)
     accepted = sum(answer(line).startswith(b"(ok") for line in lines)
-    print(f"cards: {len(lines)} random lines agree (seed {seed}; {accepted} accepted; numbers 1 to 6 and 14 all reached)")
+    print(f"cards: {len(lines)} random lines agree (seed {seed}; {accepted} accepted; numbers 1 to 4, 6, 14 and 19 all reached)")
 
 
 def pieces(program):

@@ -33,6 +33,7 @@ from second_implementation import oracle
 P1, P2 = oracle.PRIME[1], oracle.PRIME[2]
 ABSORB = 1 << 31
 LONGEST = ABSORB - 1
+LIMIT = oracle.MAX_CALL
 LARGEST = (1 << 32) - 1
 NUMBERS = ("status", "field", "count", "phase", "done", "absorb_at", "squeeze_at")
 # numbers of no field; the low byte or all bits but the highest are a field's in the last two
@@ -252,11 +253,15 @@ def document_examples(calls):
     calls.absorb([1])
 
 
+# what a pattern and a separator can be turned away for
+FAULTS = (1, 2, 19, 3, 4, 6)
+
+
 def faulty(faults):
-    """Words and separator with these of the faults 1 to 6."""
+    """Words and separator with these of the faults."""
     words = [ABSORB + 3, 0 if 2 in faults else 5, ABSORB + 2, 6]
-    if 5 in faults:
-        words[2:2] = [ABSORB + LONGEST, ABSORB + 1]
+    if 19 in faults:
+        words[2:2] = [ABSORB + LIMIT + 1, ABSORB + 1]
     if 1 in faults:
         words[2:2] = [ABSORB + 1, 1] * 32
     return [7] * (3 in faults) + words + [ABSORB + 9] * (4 in faults), separator(257 if 6 in faults else 2)
@@ -267,7 +272,7 @@ def refused_starts(calls):
     for bits in range(1, 64):
         calls.field = 1 + bin(bits).count("1") % 2
         calls.start([ABSORB + 1, 1])
-        calls.start(*faulty({k for k in range(1, 7) if bits >> (k - 1) & 1}))
+        calls.start(*faulty({number for k, number in enumerate(FAULTS) if bits >> k & 1}))
         calls.absorb([1])
     for count in (63, 64, 65, 66, 130):
         calls.start(([ABSORB + 7, 9] * 65)[-count:])
@@ -276,9 +281,9 @@ def refused_starts(calls):
 
 
 def unknown_fields(calls):
-    """START with numbers of no field, good otherwise, with each of the faults 1 to 6 and with all; after a session of either field."""
+    """START with numbers of no field, good otherwise, with each of the faults and with all; after a session of either field."""
     for number in UNKNOWN:
-        for faults in (set(), {1}, {2}, {3}, {4}, {5}, {6}, {1, 2, 3, 4, 5, 6}):
+        for faults in (set(), *({fault} for fault in FAULTS), set(FAULTS)):
             calls.turn()
             calls.start([ABSORB + 1, 1])
             calls.start(*faulty(faults), number)
@@ -333,12 +338,15 @@ def shapes(calls):
 
 
 def long_phases(calls):
-    """Records near the end of a phase of 2147483647 elements: a call up to its end, one past it, and a wrong count."""
-    for words in ([ABSORB + LONGEST, LONGEST, ABSORB + LONGEST - 1, 1, LONGEST - 1], [ABSORB + LONGEST, LONGEST] * 32):
+    """Records near the end of phases of 2147483647 elements, which START does not open, and of the longest that it does: a call up to its end, one past
+    it, and a wrong count."""
+    for words in ([ABSORB + LONGEST, LONGEST, ABSORB + LONGEST - 1, LONGEST], [ABSORB + LONGEST, LONGEST] * 32, [ABSORB + LIMIT] * 60 + [LIMIT] * 4):
         calls.turn()
         calls.start(words)
-        opened = calls.record
-        for phase in sorted({0, 1, 2, opened["count"] - 1}):
+        calls.start([ABSORB + 1, 1])
+        merged = oracle.merged(words)
+        opened = dict(calls.record, words=merged + [0] * (64 - len(merged)), count=len(merged))
+        for phase in sorted({0, 1, 2, opened["count"] - 1} & {*range(opened["count"])}):
             for left in (1, 9):
                 done = opened["words"][phase] % ABSORB - left
                 record = dict(calls.placed(opened, phase, done), state=calls.state())

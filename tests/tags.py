@@ -4,17 +4,19 @@
   tests/tags.py cases > crates/tag_vectors/stdin
   tests/tags.py answers < crates/tag_vectors/stdin > crates/tag_vectors/stdout
 
-The answers are those of the second implementation, in Python, written from document 01 by other hands (tests/oracle).
+The answers are those of the second implementation, in Python, written from the papers by other hands (tests/oracle).
 A line of input is a call; lists are hexadecimal:
 
   w WORDS SEPARATOR LENGTH    check, and write to a buffer of that length (four digits)
   r STRING LENGTH             read, with a separator of that length (sixteen digits)
+  c WORDS                     cut
   e DIGEST                    the tag's elements
 
 A line of output is what the call answers:
 
   w NUMBER COUNT WORDS OTHERS, NUMBER WRITTEN BUFFER
   r NUMBER COUNT WORDS OTHERS, SEPARATOR
+  c NUMBER COUNT WORDS OTHERS
   e ELEMENTS
 
 OTHERS is the sum of the unused ones of the 64 words. The buffer holds the byte a5 at every place before the call.
@@ -26,6 +28,7 @@ from second_implementation import oracle
 
 ABSORB = 1 << 31
 LONGEST = ABSORB - 1
+LIMIT = oracle.MAX_CALL
 random = random.Random(31)
 
 
@@ -75,9 +78,9 @@ def write_cases():
     yield [ABSORB + 7, 9] * 32, separator(256), 0
     yield [ABSORB + 7, 9] * 32, separator(256), -1
     yield [ABSORB + 7, 9] * 32, separator(257), 0
-    # lengths 1 and 2147483647, and their sums
-    for first, second in ((1, 1), (1, LONGEST), (LONGEST, 1), (LONGEST, LONGEST), (LONGEST - 1, 1), (LONGEST - 1, 2), (1 << 30, 1 << 30),
-                          ((1 << 30) - 1, 1 << 30)):
+    # lengths 1, 16,777,216 and 2147483647, and their sums
+    for first, second in ((1, 1), (1, LIMIT), (LIMIT, LIMIT), (LIMIT + 1, 1), (1, LIMIT + 1), (LIMIT, LIMIT - 1), (1, LONGEST), (LONGEST, 1),
+                          (LONGEST, LONGEST), (LONGEST - 1, 1), (1 << 30, 1 << 30)):
         yield [ABSORB + first, second], b"x", 0
         yield [ABSORB + first, ABSORB + second, 1], b"x", 0
         yield [ABSORB + 1, first, second], b"x", 0
@@ -85,8 +88,14 @@ def write_cases():
         yield [ABSORB + 1, 1, ABSORB + first, ABSORB + second, 1], b"x", 0
         yield [ABSORB + first, ABSORB + second, 1, ABSORB + 1, 1], b"x", 0
         yield [ABSORB + 1, first, second, 1, ABSORB + 1, 1], b"x", 0
-    yield [ABSORB + (1 << 25)] * 63 + [1], b"", 0
-    yield [ABSORB + (1 << 26)] * 32 + [1], b"", 0
+    for length in (LIMIT, LIMIT + 1):
+        yield [ABSORB + length] * 63 + [1], b"", 0
+        yield [ABSORB + 1] + [length] * 63, b"", 0
+        yield [ABSORB + LIMIT] * 32 + [LIMIT] * 31 + [length], b"", 0
+        yield [length], b"", 0
+        yield [length, ABSORB], b"", 0
+        yield [ABSORB + length], b"", 0
+        yield [ABSORB + 1, length], separator(257), 0
     yield [ABSORB + LONGEST] * 63 + [1], b"", 0
     yield [ABSORB + LONGEST, LONGEST] * 32, b"", 0
     # separators, buffers exact, one byte short, longer and empty
@@ -102,11 +111,11 @@ def write_cases():
         if number % 7 == 0:
             words[random.randrange(len(words))] &= ABSORB
         yield words, separator(random.choice([0, 1, 2, 8, 31])), random.choice([-1, 0, 0, 0, 1, 4])
-    # numbers that later words lower, word by word: 5 then 2, 3 then 2, 5 then 4 and not, and 1 behind each
-    for words in (long + [0], [1, 0], long + [1, ABSORB + 1, ABSORB], [1] + long + [0, 1], [ABSORB + 1, 1, ABSORB + 1] + long + [2, ABSORB + 3, 0]):
+    # words behind which another number counts, word by word: 19 then 2, 3 then 2, 3 then 19 then 2, 4 and not, and 1 behind each
+    for words in (long + [0], [1, 0], [1, ABSORB + LIMIT + 1, 2, 0], long + [1, ABSORB + 1, ABSORB], [1] + long + [0, 1], [ABSORB + 1, 1, ABSORB + 1] + long + [2, ABSORB + 3, 0]):
         for end in range(1, len(words)):
             yield words[:end], b"", 4
-    for first in ([1], long, [ABSORB, 1], [ABSORB + 1]):
+    for first in ([1], long, [1] + long, [ABSORB, 1], [ABSORB + 1]):
         for count in (64, 65):
             yield (first + [2, ABSORB + 1] * 33)[:count], b"", 4
             yield (first + [2, ABSORB + 1] * 33)[:count], separator(257), 4
@@ -137,6 +146,8 @@ def read_cases():
         yield string(words, b""), 0
         yield string(words, b"abc"), 3
         yield string(words, b"abc"), 2
+    for length in (LIMIT, LIMIT + 1, 64 * LIMIT):
+        yield string([ABSORB + length, length], b"abc"), 3
     for length in (0, 1, 255, 256, 257):
         yield string([ABSORB + 9, 1], separator(length)), length
         yield string([ABSORB + 9, 1] * 32, separator(length)), length
@@ -144,6 +155,27 @@ def read_cases():
         length = random.randrange(12)
         words = [w ^ random.choice([0, 0, 0, 0, 0, ABSORB, 1]) for w in pattern(random.randint(1, 4))]
         yield string(words, separator(length)), length + random.choice([0, 0, 0, 4, 8, 1])
+
+
+def cut_cases():
+    """Words of any kind, which need not be merged."""
+    yield []
+    for length in (0, 1, LIMIT - 1, LIMIT, LIMIT + 1, 2 * LIMIT - 1, 2 * LIMIT, 2 * LIMIT + 1, 3 * LIMIT, 63 * LIMIT, 64 * LIMIT - 1, 64 * LIMIT, 64 * LIMIT + 1,
+                   65 * LIMIT, LONGEST - LIMIT, LONGEST):
+        for top in (ABSORB, 0):
+            yield [top + length]
+            yield [ABSORB + 5, top + length, 7]
+    yield [ABSORB + LONGEST, 1]
+    yield [ABSORB + 2, 0, ABSORB, 3]
+    # 63 to 66 calls, in words and in what they are cut into
+    for count in (63, 64, 65, 66, 120):
+        yield [ABSORB + 7] * count
+        yield [ABSORB + 7, 9 + LIMIT] * (count // 3) + [1] * (count % 3)
+        yield [ABSORB + 60 * LIMIT] + [3] * (count - 60)
+        yield [3] * (count - 60) + [ABSORB + 59 * LIMIT + 1]
+    for number in range(60):
+        yield [random.choice([ABSORB, 0]) + random.choice([0, 1, 40, LIMIT, random.randint(1, 9) * LIMIT, random.randint(1, 12 * LIMIT)])
+               for _ in range(random.randint(1, 14))]
 
 
 def element_cases():
@@ -163,6 +195,8 @@ def cases():
         print("w", hexadecimal(words), behind.hex(), "%04x" % length)
     for string, length in read_cases():
         print("r", string.hex(), "%016x" % length)
+    for words in cut_cases():
+        print("c", hexadecimal(words))
     for digest in element_cases():
         print("e", digest.hex())
 
@@ -186,6 +220,10 @@ def answer(kind, *fields):
         number, words, count, behind = oracle.read_tag(bytes.fromhex(fields[0]), int(fields[1], 16))
         return "%d %d %s %d, %s" % (number, count, hexadecimal(words[:count]), sum(words[count:]), behind.hex())
     words = [int(fields[0][k:k + 8], 16) for k in range(0, len(fields[0]), 8)]
+    if kind == "c":
+        calls = oracle.cut(words)
+        # "where 64 calls suffice": otherwise number 1, and none
+        return "%d %d %s 0" % ((0, len(calls), hexadecimal(calls)) if len(calls) <= oracle.MAX_WORDS else (1, 0, ""))
     behind = bytes.fromhex(fields[1])
     number = oracle.start_number(words, behind)
     list_ = oracle.merged(words) if number == 0 else []

@@ -1,4 +1,4 @@
-// Checks, writes and reads the patterns and tag strings of standard input, and prints the answers. tests/tags.py says how lines are
+// Checks, writes, cuts and reads the patterns and tag strings of standard input, and prints the answers. tests/tags.py says how lines are
 // laid out; stdin is what it makes, and stdout what the second implementation answers to it, in Python, written from document 01 by
 // other hands (tests/oracle).
 
@@ -78,21 +78,21 @@ fn sum_from(words: &[u32; 64], start: usize) -> u64 {
     sum
 }
 
-fn print_merged(merged: pattern::WordList) {
-    let words = merged.words;
-    let count = merged.count;
-    print_number(merged.number as u64);
+fn print_list(list: pattern::WordList) {
+    let words = list.words;
+    let count = list.count;
+    print_number(list.number as u64);
     print_number(count as u64);
     print_words(&words, count);
     io::write_all(1, b" ");
     io::print_decimal(1, sum_from(&words, count));
-    io::write_all(1, b", ");
 }
 
 fn print_write(words: &[u32], separator: &[u8], size: usize)
     requires { ⌜ size ≤ 1024 ⌝ }
 {
-    print_merged(pattern::check(words, separator));
+    print_list(pattern::check(words, separator));
+    io::write_all(1, b", ");
     let mut buffer = [0xa5u8; 1024];
     let written = tag::write(words, separator, &mut buffer[..size]);
     print_number(written.number as u64);
@@ -101,7 +101,8 @@ fn print_write(words: &[u32], separator: &[u8], size: usize)
 }
 
 fn print_read(string: &[u8], length: usize) {
-    print_merged(tag_reader::read(string, length));
+    print_list(tag_reader::read(string, length));
+    io::write_all(1, b", ");
     print_bytes(tag_reader::read_separator(string, length));
 }
 
@@ -135,6 +136,16 @@ fn read_line(text: &[u8], at: usize) -> usize
     second.next
 }
 
+fn cut_line(text: &[u8], at: usize) -> usize
+    ensures { λ r. ⌜ at ≤ r ⌝ }
+{
+    let first = hex_fields::field_at(text, at);
+    let words = hex_fields::words_of(&first.bytes);
+    let count = first.count / 4;
+    print_list(cutting::cut(&words[..count]));
+    first.next
+}
+
 fn elements_line(text: &[u8], at: usize) -> usize
     ensures { λ r. ⌜ at ≤ r ⌝ }
 {
@@ -150,7 +161,7 @@ fn elements_line(text: &[u8], at: usize) -> usize
 
 fn print_line(text: &[u8], at: usize) -> usize
     requires { ⌜ at < length (now text) ⌝ }
-    requires { ⌜ length (now text) ≤ 131072 ⌝ }
+    requires { ⌜ length (now text) ≤ 262144 ⌝ }
     ensures { λ r. ⌜ at < r ⌝ }
 {
     let kind = text[at];
@@ -162,11 +173,14 @@ fn print_line(text: &[u8], at: usize) -> usize
     if kind == b'r' {
         return read_line(text, at + 2);
     }
+    if kind == b'c' {
+        return cut_line(text, at + 2);
+    }
     elements_line(text, at + 2)
 }
 
 fn print_lines(text: &[u8])
-    requires { ⌜ length (now text) ≤ 131072 ⌝ }
+    requires { ⌜ length (now text) ≤ 262144 ⌝ }
 {
     let mut at: usize = 0;
     while at < text.len() {
@@ -176,7 +190,7 @@ fn print_lines(text: &[u8])
 }
 
 fn main() {
-    let mut text = [0u8; 131072];
+    let mut text = [0u8; 262144];
     let size = io::read_full(0, &mut text);
     print_lines(&text[..size]);
 }
