@@ -36,14 +36,14 @@ no-merged-length-too-long ws few e =
 -- Number 5 is not given by START,
 pub start-never-gives-5 : (field : ℕ) (o : Opening) → start field o .number ≢ mergedLengthTooLong
 unfolding startNumber startRows openingRows wordRows all _and_
-start-never-gives-5 field o e = never-given 5 (startRows field o) refl (λ z. omega arith) (sym (number-of field o) ∙ e)
+start-never-gives-5 field o e = never-given mergedLengthTooLong (startRows field o) refl (λ z. omega arith) (sym (number-of field o) ∙ e)
 
 -- by writing,
 pub writing-never-gives-5 : (o : Opening) (buffer : List ℕ) → written o buffer .number ≢ mergedLengthTooLong
 unfolding written writtenWith writeNumber writeRows bufferRows openingRows wordRows all _and_
-writing-never-gives-5 o buffer = never-given 5 (writeRows o buffer) refl (λ z. omega arith)
+writing-never-gives-5 o buffer = never-given mergedLengthTooLong (writeRows o buffer) refl (λ z. omega arith)
 
 -- or in the answer to a line.
 pub cards-never-give-5 : (line : List ℕ) → answer line ≢ ascii "(no 5)"
 unfolding openingNumber openingRows wordRows all _and_ noText decimal decimalUpTo
-cards-never-give-5 line = line-gives 5 (lit< tt) (λ o. never-given 5 (openingRows o) refl (λ z. omega arith)) line
+cards-never-give-5 line = line-gives mergedLengthTooLong (lit< tt) (λ o. never-given mergedLengthTooLong (openingRows o) refl (λ z. omega arith)) line
