@@ -42,7 +42,7 @@ def between():
 
 
 def refused(field):
-    """States with a number that is an element of neither field, at several places and at all."""
+    """States with a number of p or more: one that is an element of neither field, at several places and at all; and p itself, the last."""
     p = oracle.PRIME[field]
     for large in (P2, 1 << 31, LARGEST):
         yield from (with_one(elements(p), place, large) for place in (0, 7, 8, 23))
