@@ -1,6 +1,6 @@
 -- The two fields of document 02: the numbers that name them and their figures, the laws that both cite, and what START and records do with a
 -- field number. What the generator does with one is in `Primitives`.
-use mathlib.Core.Path.{_≡_, refl, sym, ap, _∙_}
+use mathlib.Core.Path.{_≡_, refl, ap, _∙_}
 use mathlib.Core.Bool.{true, false, not}
 use mathlib.Core.List.{List}
 use mathlib.Core.Logic.{_≢_}
@@ -168,10 +168,12 @@ pub calls-keep-the-field : (field : ℕ) (o : Opening) → start field o .number
     r .status ≡ opened → r .field ≡ field
 calls-keep-the-field field o e cs still = same-left-by (start field o .session) cs (eq-eqb _ _ still) .field ∙ start-field field o e
 
--- a record with its field number changed to 2
-abbrev pub inField2 : Session → Session
-inField2 r =
-    record {
+-- "Rate, capacity and tags don't change.": the records that START gives in the two fields differ in the field number alone.
+pub same-tag-in-both-fields : (o : Opening) → openingNumber o ≡ accepted
+    → let r = start 1 o .session in
+    _≡_ {A = Session}
+    (start 2 o .session)
+    (record {
       status = r .status;
       field = 2;
       state = r .state;
@@ -182,15 +184,10 @@ inField2 r =
       «absorb_position» = r .«absorb_position»;
       «squeeze_position» = r .«squeeze_position»;
       permutations = r .permutations;
-    }
-
--- "Rate, capacity and tags don't change.": the records that START gives in the two fields differ in the field number alone.
-pub same-tag-in-both-fields : (o : Opening) → openingNumber o ≡ accepted
-    → start 2 o .session ≡ inField2 (start 1 o .session)
+    })
 unfolding startRecord openRecord
 same-tag-in-both-fields o e =
-    let one = start-record 1 o (accepted-start 1 o (fields-by-number .0) e) in
-    start-record 2 o (accepted-start 2 o (fields-by-number .1) e) ∙ sym (ap inField2 one)
+    rw (start-record 1 o (accepted-start 1 o (fields-by-number .0) e)) (start-record 2 o (accepted-start 2 o (fields-by-number .1) e))
 
 -- "Wiped means every field 0.": the field number too.
 pub wiped-is-0 : (wiped .status ≡ 0) × (wiped .field ≡ 0) × (wiped .state ≡ replicate 24 0) × (wiped .words ≡ replicate 64 0) × (wiped .count ≡ 0)
