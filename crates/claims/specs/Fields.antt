@@ -25,9 +25,9 @@ use Rattle.poseidon.specs.Permutation.{Parameters, addConstants, raiseAll, rais
 use Rattle.poseidon.proofs.Bounds.{multiplied}
 use Rattle.poseidon.proofs.Remainders.{round-congruent}
 use Rattle.pattern.specs.Opening.{Opening, openingNumber}
-use Rattle.sponge.specs.Sponge.{readyToAbsorb, absorbElement, readyToSqueeze, squeezedElement}
+use Rattle.sponge.specs.Sponge.{readyToAbsorb, absorbElement, readyToSqueeze, squeezedElement, squeezeElement}
 use Rattle.sponge.specs.declared.Sponge.{Sponge}
-use Rattle.session.specs.Record.{wiped, opened, openRecord, spongeOf, moved, absorbOne, squeezedOne}
+use Rattle.session.specs.Record.{wiped, opened, openRecord, spongeOf, moved, absorbOne, squeezeOne, squeezedOne}
 use Rattle.session.specs.Soundness.{sound}
 use Rattle.session.specs.Calls.{giving, startRecord, start}
 use Rattle.session.specs.declared.Session.{Session}
@@ -213,15 +213,18 @@ absorbed-in-its-field r x =
       λ e. ap added (if-true _ _ _ (eq-eqb (r .«absorb_position») 8 e)),
     )
 
+-- SQUEEZE permutes by the same, and leaves the state so.
 pub squeezed-in-its-field : (r : Session)
-    → (r .«squeeze_position» < 8 → squeezedOne r ≡ getD (r .state) (r .«squeeze_position») 0)
-    × (r .«squeeze_position» ≡ 8 → squeezedOne r ≡ getD (permutation (parameters (fieldOf (r .field))) (r .state)) 0 0)
-unfolding squeezedOne squeezedElement readyToSqueeze spongeOf
+    → let permuted = permutation (parameters (fieldOf (r .field))) (r .state) in
+    (r .«squeeze_position» < 8 → (squeezedOne r ≡ getD (r .state) (r .«squeeze_position») 0) × (squeezeOne r .state ≡ r .state))
+    × (r .«squeeze_position» ≡ 8 → (squeezedOne r ≡ getD permuted 0 0) × (squeezeOne r .state ≡ permuted))
+unfolding squeezedOne squeezeOne moved squeezedElement squeezeElement readyToSqueeze spongeOf
 squeezed-in-its-field r =
-    let out : Sponge → ℕ = λ t. getD (t .state) (t .«squeeze_position» % 8) 0 in (
-      λ l. ap out (if-false _ _ _ (ne-eqb (r .«squeeze_position») 8 (λ e. absurd (omega (arith, l, e)))))
-          ∙ ap (λ (k : ℕ). getD (r .state) k 0) (mod-eq-of-lt l),
-      λ e. ap out (if-true _ _ _ (eq-eqb (r .«squeeze_position») 8 e)),
+    let out : Sponge → ℕ = λ t. getD (t .state) (t .«squeeze_position» % 8) 0 in
+    let left : Sponge → List ℕ = λ t. t .state in (
+      λ l. let below = ne-eqb (r .«squeeze_position») 8 (λ e. absurd (omega (arith, l, e))) in
+          (ap out (if-false _ _ _ below) ∙ ap (λ (k : ℕ). getD (r .state) k 0) (mod-eq-of-lt l), ap left (if-false _ _ _ below)),
+      λ e. let at-8 = eq-eqb (r .«squeeze_position») 8 e in (ap out (if-true _ _ _ at-8), ap left (if-true _ _ _ at-8)),
     )
 
 -- "all state elements are below p": of a sound record, below the p of its field
