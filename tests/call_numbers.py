@@ -28,6 +28,7 @@ ANSWERS = {
     "FINISH": ("crates/session_vectors/stdout", r"f (\d+)"),
     "write": ("crates/tag_vectors/stdout", r"w .*, (\d+)"),
     "read": ("crates/tag_vectors/stdout", r"r (\d+)"),
+    "cut": ("crates/tag_vectors/stdout", r"c (\d+)"),
     "permute": ("crates/permutation_vectors/stdout", r"(\d+)"),
     "generate": ("crates/generator_check/stdout", r"generate \d+ number (\d+)"),
     "cards": ("crates/cards/stdout", r"\((?:ok|no (\d+))"),
@@ -75,13 +76,19 @@ def lower_camel(name):
     return name.split()[0] + camel(name.partition(" ")[2])
 
 
+def marked(row, text=None):
+    """A row's condition, or another text of it, marked where no call gives the number."""
+    return (text or row.condition) + ("" if row.calls else " (unused)")
+
+
 def sentence(row):
-    return row.condition[0].upper() + row.condition[1:] + "."
+    text = marked(row)
+    return text[0].upper() + text[1:] + "."
 
 
 # ---- the four places with a row for each number
 
-def place(path, text, pattern, rows, name, comment=lambda row: row.condition):
+def place(path, text, pattern, rows, name, comment=marked):
     """A place's path; what its text has, row by row, and whatever else stands there; and the rows that it has to have."""
     found = ["{number} {name}: {comment}".format(**match.groupdict()) for match in re.finditer(pattern, text)]
     rest = re.sub(pattern, "", text).split()
@@ -106,7 +113,7 @@ def places():
     yield place(CODE, behind_heading(CODE), code, rows, snake, sentence)
     yield place(DEFINITIONS, behind_heading(DEFINITIONS), definitions, rows, lower_camel)
     yield place(HEADER, between(HEADER, "enum tuilarder_number {\n", "};"), header, known, lambda name: "TUILARDER_" + snake(name))
-    yield place(RUST, between(RUST, "\nrefusals! {\n", "}\n"), rust, known[1:], camel, lambda row: row.message)
+    yield place(RUST, between(RUST, "\nrefusals! {\n", "}\n"), rust, known[1:], camel, lambda row: marked(row, row.message))
 
 
 def quoted():
@@ -172,7 +179,7 @@ def orders(path):
 
 def checked():
     """Whether the comments of the exported functions say that they check the numbers which they give, each in the order that documents 01 and 02 have:
-    18, then the others as they rise."""
+    18, then the others as they rise, with 19 after 2 and before 3."""
     wanted = {name: {row.number for row in table() if row.number and call in row.calls} for call, name in exports().items() if name}
     for path in (HEADER, DECLARED):
         said = orders(path)
@@ -181,7 +188,7 @@ def checked():
             if set(said[function]) != wanted[function]:
                 yield f"{path}: {function} is said to check {sorted(said[function])}, and gives {sorted(wanted[function])}"
         for function, order in said.items():
-            if order != sorted(order, key=lambda number: (number != 18, number)):
+            if order != sorted(order, key=lambda number: {18: 0, 19: 2.5}.get(number, number)):
                 yield f"{path}: {function} is said to check {order}, in this order"
 
 
@@ -217,12 +224,13 @@ MISTAKES = [
     (NUMBERS, "| 7 | record not open", "| 17 | record not open", "one after the other"),
     (NUMBERS, "| record not open |", "| record not sound |", "the name record not sound"),
     (NUMBERS, "| 14 | not card |", "| 14 | not card line |", "NOT_CARD"),
-    (NUMBERS, "| 18 | field", "| 18 | another one | of something | | | an example | write |\n| 19 | field", "TUILARDER_ANOTHER_ONE"),
+    (NUMBERS, "| 19 | call", "| 19 | another one | of something | | | an example | write |\n| 20 | call", "TUILARDER_ANOTHER_ONE"),
+    (NUMBERS, "80000001 00000001 | |", "80000001 00000001 | START, write, cards |", "START gives [0, 1, 2, 3, 4, 6, 18, 19]"),
     (NUMBERS, "| | | | owner |", "| | | | check owners, owner |", "check owners gives [0, 15, 16]"),
     (NUMBERS, "| | | | check owners, owner |", "| | | | check owners |", "owner gives [0, 15, 16, 17]"),
     (NUMBERS, "ABSORB, permute |", "ABSORB |", "permute gives [0, 10, 18]"),
     (NUMBERS, "START, permute, generate |", "START, permute |", "generate gives [0, 18]"),
-    (NUMBERS, "START, permute, generate |", "permute, generate |", "START gives [0, 1, 2, 3, 4, 5, 6, 18]"),
+    (NUMBERS, "START, permute, generate |", "permute, generate |", "START gives [0, 1, 2, 3, 4, 6, 18, 19]"),
     (NUMBERS, "| not a card line | | | (card) | cards |", "| not a card line | | | (card) | |", "NotCard"),
     (NUMBERS, "| permute | `tuilarder_permute` |", "| permute | |", "lacks tuilarder_permute"),
     (NUMBERS, "| FINISH |\n| 12", "| FINISH, SHUT |\n| 12", "no call SHUT"),

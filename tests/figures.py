@@ -107,6 +107,6 @@ MISTAKES = [
     (CLAIMS, "01: \"rate 8\"", "rate 8", "session::Session::RATE: neither quoted nor made of others"),
     (CLAIMS, "| 64 | 01: \"", "| 65 | 01: \"", "pattern::MAX_WORDS: 64 in the code, 65"),
     (CLAIMS, "made of 4 × ", "made of 5 × ", "tag::MAX_STRING: 512 is not 5 × "),
-    (CLAIMS, " | `words/Words.maxLength` |", " | |", "words::MAX_LENGTH: the definition is words/Words.maxLength"),
-    (CLAIMS, "| `words::MAX_LENGTH` | 2147483647 |", "| `words::MAX_LENGTH` | p |", "does not read this: | `words::MAX_LENGTH` | p |"),
+    (CLAIMS, " | `pattern/Opening.maxCall` |", " | |", "pattern::MAX_CALL: the definition is pattern/Opening.maxCall"),
+    (CLAIMS, "| `pattern::MAX_CALL` | 16777216 |", "| `pattern::MAX_CALL` | p |", "does not read this: | `pattern::MAX_CALL` | p |"),
 ]

@@ -7,9 +7,6 @@ ghost use Rattle.words.specs.Words.{isAbsorb, lengthOf};
 // The top bit of a word, set for ABSORB.
 const ABSORB: u32 = 2147483648;
 
-// The longest call, in elements: what 31 bits hold.
-pub const MAX_LENGTH: u32 = 2147483647;
-
 // Whether a word is ABSORB; else it is SQUEEZE.
 pub fn is_absorb(word: u32) -> bool
     ensures { λ r. ⌜ r ≡ isAbsorb word ⌝ }
