@@ -15,32 +15,26 @@ sum-next : (f : ℕ → ℕ) (n k : ℕ) → k ≡ n + 1 → sum k f ≡ sum n f
 unfolding sum
 sum-next f n k e = rw (e, add-one)
 
-sum-four : (f : ℕ → ℕ) (n : ℕ) → sum (n + 4) f ≡ sum n f + f n + f (n + 1) + f (n + 2) + f (n + 3)
-sum-four f n =
+sum-two : (f : ℕ → ℕ) (n : ℕ) → sum (n + 2) f ≡ sum n f + f n + f (n + 1)
+sum-two f n =
     let e₁ = sum-next f n (n + 1) refl in
     let e₂ = sum-next f (n + 1) (n + 2) (omega arith) in
-    let e₃ = sum-next f (n + 2) (n + 3) (omega arith) in
-    let e₄ = sum-next f (n + 3) (n + 4) (omega arith) in
     omega arith
 
--- four products further along a row that begins at start
-pub row-four : (table state : List ℕ) (start n : ℕ)
-    → sum (n + 4) (λ k. getD table (start + k) 0 * getD state k 0)
+-- two products further along a row that begins at start
+pub row-two : (table state : List ℕ) (start n : ℕ)
+    → sum (n + 2) (λ k. getD table (start + k) 0 * getD state k 0)
     ≡ sum n (λ k. getD table (start + k) 0 * getD state k 0)
     + getD table (start + n) 0 * getD state n 0
     + getD table (start + n + 1) 0 * getD state (n + 1) 0
-    + getD table (start + n + 2) 0 * getD state (n + 2) 0
-    + getD table (start + n + 3) 0 * getD state (n + 3) 0
-row-four table state start n =
-    rw (add-assoc start n 1, add-assoc start n 2, add-assoc start n 3)
-    (sum-four (λ k. getD table (start + k) 0 * getD state k 0) n)
+row-two table state start n = rw (add-assoc start n 1) (sum-two (λ k. getD table (start + k) 0 * getD state k 0) n)
 
--- the product of two numbers below m
-pub product-bound : (m a b : ℕ) → a < m → b < m → a * b ≤ (m - 1) * (m - 1)
+-- the product of a number below m and one below 2m
+pub product-bound : (m a b : ℕ) → a < m → b < 2 * m → a * b ≤ (m - 1) * (2 * m - 1)
 product-bound m a b ha hb = mul-le-mul (omega arith) (omega arith)
 
 -- the high half of a row's sum, times what 2^32 is modulo m
-pub high-bound : (high word : ℕ) → high ≤ 25368723456 → word ≤ 268435454 → high * word ≤ 6809864798311809024
+pub high-bound : (high word : ℕ) → high ≤ 50737446912 → word ≤ 268435454 → high * word ≤ 13619729596623618048
 high-bound high word h w = mul-le-mul h w
 
 -- the high 32 bits of a sum count as 2^32 does modulo m

@@ -1,8 +1,12 @@
 -- Definitions that no public contract cites: what private functions of the crate take and give.
 use mathlib.Core.List.{List}
-use Prim.Native.Nat.{ℕ, _%_}
+use Prim.Native.Nat.{ℕ, _+_, _*_, _%_}
 use lib.ListN.{getD}
 use Rattle.basics.specs.Lists.{tabulate}
+
+-- "adding the round constants needn't reduce its sums .. Let that sum be the plain sum of its two inputs, unreduced" (document 02, P5)
+unfoldable pub plainSums : List ℕ → ℕ → List ℕ → List ℕ
+plainSums constants r s = tabulate 24 (λ i. getD s i 0 + getD constants (24 * r + i) 0)
 
 -- a state's remainders modulo m
 unfoldable pub remainders : ℕ → List ℕ → List ℕ

@@ -4,10 +4,10 @@ ghost use mathlib.Core.Path.{_≡_};
 ghost use Prim.Native.Nat.{_+_, _*_, _%_, _≤_, _<_};
 ghost use lib.ListN.{length, getD};
 ghost use Rattle.basics.specs.Lists.{sum, Below};
-ghost use Rattle.field.specs.Field.{modulus, partialRounds};
+ghost use Rattle.field.specs.Field.{modulus};
 ghost use Rattle.poseidon_tables.specs.Tables.{constants, inverses};
-ghost use Rattle.poseidon.specs.Permutation.{parameters, addConstants, raiseAll, raiseFirst, raise, multiply, permutation, permuted};
-ghost use Rattle.poseidon.specs.Steps.{remainders, largest};
+ghost use Rattle.poseidon.specs.Permutation.{parameters, raiseAll, raiseFirst, raise, multiply, permutation, permuted};
+ghost use Rattle.poseidon.specs.Steps.{plainSums, remainders, largest};
 
 // Number 0 and the permuted state, or number 18 or 10 and the state as it came.
 pub struct Permuted {
@@ -25,25 +25,23 @@ fn word(field: Field) -> u64
     }
 }
 
-// The sum of two reduced elements, for which one subtraction does what a division would.
-fn add_reduced(field: Field, a: u32, b: u32) -> u32
-    requires { ⌜ (a < modulus field) × (b < modulus field) ⌝ }
-    ensures { λ r. ⌜ r ≡ (a + b) % modulus field ⌝ }
+// The plain sum of two elements, which is below 2p and is not reduced: the products behind it take such factors.
+fn plain_sum(a: u32, b: u32) -> u32
+    requires { ⌜ (a < largest) × (b < largest) ⌝ }
+    ensures { λ r. ⌜ r ≡ a + b ⌝ }
 {
-    let sum = a + b;
-    let p = field::modulus(field);
-    if sum < p { sum } else { sum - p }
+    a + b
 }
 
 // Adds the 24 constants of a round, which the table has from 24 * round on.
-fn add_constants(field: Field, state: &[u32; 24], table: &[u32], round: usize) -> [u32; 24]
-    requires { ⌜ (round < 4 + partialRounds field + 4) × (now table ≡ constants field) × Below (modulus field) (now state) ⌝ }
-    ensures { λ r. ⌜ r ≡ addConstants (parameters field) round (now (state .entry)) ⌝ }
+fn add_constants(state: &[u32; 24], table: &[u32], round: usize) -> [u32; 24]
+    requires { ⌜ (round < 31) × (24 * round + 24 ≤ length (now table)) × Below largest (now table) × Below largest (now state) ⌝ }
+    ensures { λ r. ⌜ r ≡ plainSums (now (table .entry)) round (now (state .entry)) ⌝ }
 {
     let mut out = [0u32; 24];
     let mut i: usize = 0;
     while i < 24 {
-        out[i] = add_reduced(field, state[i], table[24 * round + i]);
+        out[i] = plain_sum(state[i], table[24 * round + i]);
         i += 1;
     }
     out
@@ -84,41 +82,39 @@ fn raise(field: Field, state: &[u32; 24], round: usize) -> [u32; 24]
     raise_all(field, state)
 }
 
-// One product of a row of the matrix with the state: at most (p - 1)^2 with the larger p, so that four of them fit 64 bits. Its remainder is the table's
-// number itself, and tells the compiler that the factors have 32 bits.
+// One product of a row of the matrix with the state, whose elements are below 2p: at most (p - 1)(2p - 1) with the larger p, so that two of them fit 64
+// bits, and four do not. The remainder of the table's number is that number itself, and tells the compiler that the factors have 32 bits.
 fn term(table: &[u64], place: usize, state: &[u32; 24], j: usize) -> u64
-    requires { ⌜ (place < length (now table)) × (j < 24) × Below largest (now table) × Below largest (now state) ⌝ }
-    ensures { λ r. ⌜ (r ≡ getD (now (table .entry)) place 0 * getD (now (state .entry)) j 0) × (r ≤ 4539909899366170624) ⌝ }
+    requires { ⌜ (place < length (now table)) × (j < 24) × Below largest (now table) × Below (2 * largest) (now state) ⌝ }
+    ensures { λ r. ⌜ (r ≡ getD (now (table .entry)) place 0 * getD (now (state .entry)) j 0) × (r ≤ 9079819800863047680) ⌝ }
 {
     (table[place] % 4294967296) * state[j] as u64
 }
 
 // A row of the matrix times the state, not reduced, where the row is the 24 numbers of a table from start on.
-// Four products are summed at a time, and then their low and high 32 bits apart.
+// Two products are summed at a time, and then the low and high 32 bits of such sums apart.
 fn row_sum(field: Field, table: &[u64], start: usize, state: &[u32; 24]) -> u64
-    requires { ⌜ (start + 24 ≤ length (now table)) × Below largest (now table) × Below largest (now state) ⌝ }
+    requires { ⌜ (start + 24 ≤ length (now table)) × Below largest (now table) × Below (2 * largest) (now state) ⌝ }
     ensures { λ r. ⌜ r % modulus field ≡ sum 24 (λ j. getD (now (table .entry)) (start + j) 0 * getD (now (state .entry)) j 0) % modulus field ⌝ }
 {
-    let mut low: u64 = 0;
+    let mut whole: u64 = 0;
     let mut high: u64 = 0;
     let mut j: usize = 0;
     while j < 24 {
         let k = start + j;
-        let four = term(table, k, state, j)
-            + term(table, k + 1, state, j + 1)
-            + term(table, k + 2, state, j + 2)
-            + term(table, k + 3, state, j + 3);
-        low += four % 4294967296;
-        high += four / 4294967296;
-        j += 4;
+        let two = term(table, k, state, j) + term(table, k + 1, state, j + 1);
+        whole = std::num::wrapping_add_u64(whole, two);
+        high += two / 4294967296;
+        j += 2;
     }
     let word = word(field);
+    let low = std::num::wrapping_sub_u64(whole, high % 4294967296 * 4294967296);
     high * word + low
 }
 
 // The rows of the matrix times the state, not reduced: the row i of the matrix is the 24 inverses from place i on.
 fn row_sums(field: Field, state: &[u32; 24], table: &[u64; 47]) -> [u64; 24]
-    requires { ⌜ (now table ≡ inverses field) × Below (modulus field) (now state) ⌝ }
+    requires { ⌜ (now table ≡ inverses field) × Below (2 * modulus field) (now state) ⌝ }
     ensures { λ r. ⌜ remainders (modulus field) r ≡ multiply (parameters field) (now (state .entry)) ⌝ }
 {
     let mut out = [0u64; 24];
@@ -143,9 +139,9 @@ fn reduce_sums(field: Field, sums: &[u64; 24]) -> [u32; 24]
     out
 }
 
-// The matrix times the state.
+// The matrix times the state, whose elements are below 2p: in a partial round all but element 0 come from the sum as they are.
 fn multiply(field: Field, state: &[u32; 24], table: &[u64; 47]) -> [u32; 24]
-    requires { ⌜ (now table ≡ inverses field) × Below (modulus field) (now state) ⌝ }
+    requires { ⌜ (now table ≡ inverses field) × Below (2 * modulus field) (now state) ⌝ }
     ensures { λ r. ⌜ r ≡ multiply (parameters field) (now (state .entry)) ⌝ }
 {
     let sums = row_sums(field, state, table);
@@ -161,7 +157,7 @@ fn rounds(field: Field, state: [u32; 24], added: &[u32], factors: &[u64; 47]) ->
     let mut s = state;
     let mut round: usize = 0;
     while round < count {
-        s = add_constants(field, &s, added, round);
+        s = add_constants(&s, added, round);
         s = raise(field, &s, round);
         s = multiply(field, &s, factors);
         round += 1;

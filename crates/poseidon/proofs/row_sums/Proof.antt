@@ -53,7 +53,7 @@ row-sum-requires c κs =
     let e : now (at-start .args .table) ≡ inverses f = at-start .pre .0 in (
       subst (λ (table : List ℕ). c .before .before .loop .i + 24 ≤ length table) (sym e) (omega (arith, inverses-length f)),
       subst (Below largest) (sym e) (below-larger (small f) _ (inverses-reduced f)),
-      below-larger (small f) _ (at-start .pre .1),
+      below-larger (omega (arith, small f)) _ (at-start .pre .1),
     )
 
 loop-again : tie.Need-loop-again Inv-loop μ-loop

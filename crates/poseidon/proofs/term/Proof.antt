@@ -1,4 +1,4 @@
--- `poseidon::term` meets its contract: the product of two numbers below the larger modulus.
+-- `poseidon::term` meets its contract: the product of a number below the larger modulus and one below its double.
 -- Assumes nothing.
 use mathlib.Core.Path.{_≡_, ap}
 use Prim.Native.Nat.{ℕ, _*_, _%_, _<_, _≤_}
@@ -18,15 +18,15 @@ use Rattle.poseidon.proofs.term.Tie as tie
 whole : (x : ℕ) → x < largest → x % 4294967296 ≡ x
 whole x h = mod-eq-of-lt (omega arith)
 
-bound : (x y : ℕ) → x < largest → y < largest → x % 4294967296 * y ≤ 4539909899366170624
+bound : (x y : ℕ) → x < largest → y < 2 * largest → x % 4294967296 * y ≤ 9079819800863047680
 bound x y hx hy = omega (arith, product-bound largest (x % 4294967296) y (omega (arith, whole x hx)) hy)
 
 -- the two factors
 entry-below : (c : tie.Start) → getD (now (c .args .table)) (c .args .place) 0 < largest
 entry-below c = below-at largest (lit< tt) _ (c .pre .2) (c .args .place)
 
-element-below : (c : tie.Start) → getD (now (c .args .state)) (c .args .j) 0 < largest
-element-below c = below-at largest (lit< tt) _ (c .pre .3) (c .args .j)
+element-below : (c : tie.Start) → getD (now (c .args .state)) (c .args .j) 0 < 2 * largest
+element-below c = below-at (2 * largest) (lit< tt) _ (c .pre .3) (c .args .j)
 
 product-fits : tie.Need-mul-result-3
 product-fits c =
