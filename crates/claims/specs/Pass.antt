@@ -14,7 +14,7 @@ use Rattle.basics.specs.Numbers.{accepted, wordCountOutOfRange, wordLengthZero,
 use Rattle.basics.specs.Refusals.{_gets_⨾_, firstNumber}
 use Rattle.words.specs.Words.{isAbsorb, lengthOf}
 use Rattle.pattern.specs.Pattern.{mergedWords}
-use Rattle.pattern.specs.Opening.{Opening, opening, maxCall, wordRows, openingNumber, withWords, answerWith, checked}
+use Rattle.pattern.specs.Opening.{Opening, opening, maxCall, wordRows, openingRows, openingNumber, withWords, answerWith, checked}
 use Rattle.pattern.specs.Pass.{without, passNumber, passed, passBegin, rank, earlier, passStep, pass, heldAfter, ending}
 use Rattle.basics.proofs.Cases.{or-false}
 use Rattle.pattern.proofs.Given.{answer-accepted, answer-refused}
@@ -34,6 +34,19 @@ pub numbers-of-the-pass : (ws : List ℕ) → passNumber ws
 unfolding passNumber without wordRows if_then_else_
 numbers-of-the-pass ws = refl
 
+-- START's own order, row by row: "19: .. after 2 and before 3".
+pub numbers-of-an-opening : (ws separator : List ℕ) → openingNumber (opening ws separator)
+    ≡ firstNumber
+    (eqb (length ws) 0 or ltb 64 (length ws) gets 1 ⨾
+    any (λ w. eqb (lengthOf w) 0) ws gets 2 ⨾
+    any (λ w. ltb 16777216 (lengthOf w)) ws gets 19 ⨾
+    not (isAbsorb (getD ws 0 0)) gets 3 ⨾
+    isAbsorb (getD ws (length ws - 1) 0) gets 4 ⨾
+    ltb 256 (length separator) gets 6 ⨾
+    [])
+unfolding openingNumber openingRows wordRows
+numbers-of-an-opening ws separator = refl
+
 -- "After each word the pass holds the lowest number that the words so far earn, number 4 aside, else their merged words; this is proved.": of the
 -- first word,
 pub after-the-first-word : (w : ℕ) → passStep 0 passBegin w ≡ passed (w ∷ [])
@@ -51,7 +64,11 @@ unfolding pass heldAfter
 at-every-prefix [] k h l = absurd (omega arith)
 at-every-prefix (w ∷ ws) (suc k) h l = pass-from [] (take (suc k) (w ∷ ws))
 
--- With a number it holds no words, and without one the merged words.
+-- The number that it holds is that one. With it, it holds no words, and without one the merged words.
+pub number-held : (ws : List ℕ) → passed ws .number ≡ passNumber ws
+unfolding passed answerWith withWords
+number-held ws = refl
+
 pub number-without-words : (ws : List ℕ) → passed ws .number ≢ accepted → passed ws ≡ withWords (passed ws .number) []
 unfolding passed answerWith withWords
 number-without-words ws n = answer-refused (passNumber ws) (passNumber ws) (mergedWords ws) refl (ne-eqb _ _ n)
@@ -66,20 +83,26 @@ unfolding heldAfter
 number-1-over-64 [] h = absurd (omega arith)
 number-1-over-64 (w ∷ ws) h = held-over (w ∷ ws) h
 
+rank-of-19 : rank 19 ≡ 5
+unfolding rank if_then_else_
+rank-of-19 = refl
+
 -- The order in which numbers count: 19 "after 2 and before 3", the others as they rise; and where one is 0, the other counts.
 pub order-of-numbers :
-    (_≡_ {A = ℕ} (earlier 19 2) 2)
-    × (_≡_ {A = ℕ} (earlier 19 3) 19)
-    × (_≡_ {A = ℕ} (earlier 2 19) 2)
-    × (_≡_ {A = ℕ} (earlier 3 19) 19)
+    ((a : ℕ) → a ≢ 0 → a < 3 → (earlier a 19 ≡ a) × (earlier 19 a ≡ a))
+    × ((a : ℕ) → 3 ≤ a → a < 19 → (earlier a 19 ≡ 19) × (earlier 19 a ≡ 19))
     × ((a b : ℕ) → a ≢ 0 → a < b → b < 19 → (earlier a b ≡ a) × (earlier b a ≡ a))
     × ((a : ℕ) → (earlier a 0 ≡ a) × (earlier 0 a ≡ a))
-unfolding earlier rank if_then_else_
 order-of-numbers = (
-  refl,
-  refl,
-  refl,
-  refl,
+  λ a some few.
+      let low : rank a ≡ 2 * a = rank-other a (λ e. omega arith) in
+      let other : _≢_ {A = ℕ} 19 0 = λ e. omega arith in
+      (earlier-left a 19 some other (omega (arith, low, rank-of-19)), earlier-right 19 a other some (omega (arith, low, rank-of-19))),
+  λ a more few.
+      let high : rank a ≡ 2 * a = rank-other a (λ e. omega arith) in
+      let some : a ≢ 0 = λ e. omega arith in
+      let other : _≢_ {A = ℕ} 19 0 = λ e. omega arith in
+      (earlier-right a 19 some other (omega (arith, high, rank-of-19)), earlier-left 19 a other some (omega (arith, high, rank-of-19))),
   λ a b some less few.
       let low : rank a ≡ 2 * a = rank-other a (λ e. omega arith) in
       let high : rank b ≡ 2 * b = rank-other b (λ e. omega arith) in

@@ -12,9 +12,9 @@ use lib.ListN.{length, getD, take}
 use Rattle.basics.specs.Logic.{all}
 use Rattle.basics.specs.Lists.{Below}
 use Rattle.basics.specs.Numbers.{accepted}
-use Rattle.field.specs.Field.{fieldOf, isElement}
+use Rattle.field.specs.Field.{isField, fieldOf, isElement}
 use Rattle.words.specs.Words.{lengthOf}
-use Rattle.pattern.specs.Pattern.{phases, mergedWords}
+use Rattle.pattern.specs.Pattern.{phases, mergedWords, soundWords}
 use Rattle.counters.specs.Permutations.{permutationsAt}
 use Rattle.pattern.specs.Opening.{Opening, opening, maxCall}
 use Rattle.cutting.specs.Cutting.{cutWords, cutNumber}
@@ -23,7 +23,7 @@ use Rattle.session.specs.Record.{opened, openRecord, squeezedAll}
 use Rattle.session.specs.Soundness.{sound}
 use Rattle.session.specs.Calls.{start, absorb, squeeze}
 use Rattle.session.specs.declared.Session.{Session}
-use Rattle.session.proofs.SoundRecord.{parts}
+use Rattle.session.proofs.SoundRecord.{parts, whole}
 use Rattle.basics.proofs.Below.{below-take}
 use Rattle.counters.proofs.Bounds.{positions-bound}
 use Rattle.runs.specs.Calls.{Call, left, leftBy, absorbed, squeezed}
@@ -31,7 +31,7 @@ use Rattle.runs.specs.Lengths.{absorbLength}
 use Rattle.runs.specs.Runs.{Run, absorbedOf, permutationsOf}
 use Rattle.runs.proofs.Outcomes.{absorb-takes}
 use Rattle.runs.proofs.SoundCalls.{sound-left}
-use Rattle.runs.proofs.Opened.{start-open, start-sound, start-accepted, accepted-start, sound-run}
+use Rattle.runs.proofs.Opened.{open-sound, start-open, start-sound, start-accepted, accepted-start, sound-run}
 use Rattle.runs.proofs.Counted.{count-run, count-whole}
 use Rattle.runs.proofs.Finishing.{finishable}
 use Rattle.runs.proofs.Reached.{place-reached, end-reached}
@@ -106,7 +106,12 @@ pub sound-records-are-reached : (r : Session) → length (r .words) ≡ 64 → r
     r))
 sound-records-are-reached r long opens e state elements = record-reached r (parts r e) state elements opens long
 
--- START makes such a record of the words, cut, where 64 calls suffice: with any separator of at most 256 bytes. (Words are of 32 bits.)
+-- Such a begin is sound, whatever 31-bit lengths its words have,
+pub begins-are-sound : (field : ℕ) (state ws : List ℕ) → isField field ≡ true → all (isElement (fieldOf field)) state ≡ true → soundWords ws ≡ true
+    → sound (openRecord field state ws) ≡ true
+begins-are-sound field state ws known elements pattern = whole (openRecord field state ws) (open-sound field state ws known elements pattern)
+
+-- and START makes one of the words, cut, where 64 calls suffice: with any separator of at most 256 bytes. (Words are of 32 bits.)
 pub sound-records-are-opened : (r : Session) → Below 4294967296 (r .words) → sound r ≡ true
     → let ws = take (r .count) (r .words) in
     cutNumber ws ≡ accepted → (separator : List ℕ) → length separator ≤ 256

@@ -1,19 +1,23 @@
 -- Tag strings read back, and tell patterns and separators apart. `tagString`, `openingNumber` and the others are those that the contracts of
 -- `pattern` and `tag` cite. An opening, words and a separator, is accepted where the start check's number is 0.
 use mathlib.Core.Path.{_≡_, sym, ap, ap₂, _∙_}
+use mathlib.Core.Bool.{true}
 use mathlib.Core.List.{List}
 use mathlib.Core.Logic.{_≢_, _↔_}
-use Prim.Native.Nat.{ℕ}
-use lib.ListN.{length, take}
+use Prim.Native.Nat.{ℕ, _%_, _≤_, _<_}
+use lib.Dec.{eqb}
+use lib.ListN.{length, getD, take}
 use Rattle.basics.specs.Lists.{Below}
 use Rattle.basics.specs.Numbers.{accepted, notTagString}
-use Rattle.pattern.specs.Pattern.{phases, mergedWords}
+use Rattle.words.specs.Words.{isAbsorb, lengthOf}
+use Rattle.pattern.specs.Pattern.{phases, mergedWords, soundWords}
+use Rattle.pattern.proofs.SoundPattern.{sound-words}
 use Rattle.pattern.specs.Opening.{Opening, opening, maxCall, openingNumber, withWords}
 use Rattle.cutting.specs.Cutting.{cutWords, cutNumber}
-use Rattle.cutting.proofs.Openings.{cut-merges, cut-accepted, accepted-suffices}
-use Rattle.tag.specs.TagString.{tagString, writeNumber, written, bufferAfter, readNumber, readWords, wordsRead, readSeparator}
+use Rattle.cutting.proofs.Openings.{cut-merges, cut-accepted, merged-suffices}
+use Rattle.tag.specs.TagString.{stringOf, tagString, writeNumber, written, bufferAfter, readNumber, readWords, wordsRead, readSeparator}
 use Rattle.tag.proofs.Writing.{front-of-buffer}
-use Rattle.tag.proofs.ReadBack.{reads-words, words-again, reads-separator, phases-again, read-sound, read-below, read-short, writes-string, refused-string, strings-tell}
+use Rattle.tag.proofs.ReadBack.{string-words, string-separator, reads-words, words-again, reads-separator, read-sound, read-below, read-short, writes-string, refused-string, strings-tell}
 
 -- What an accepted call of `write` leaves in the front of the buffer is the tag string.
 pub written-string : (o : Opening) (buffer : List ℕ) → writeNumber o buffer ≡ accepted
@@ -41,11 +45,21 @@ writing-again string n bytes e suffice =
 
 -- And 64 calls suffice for every string that is the tag string of an accepted pattern with a separator of that length: where they do not, no such
 -- pattern has it.
-pub suffices-for-tag-strings : (string : List ℕ) (n : ℕ) → Below 256 string → readNumber string n ≡ accepted
+pub suffices-for-tag-strings : (string : List ℕ) (n : ℕ)
     → (o : Opening) → openingNumber o ≡ accepted → length (o .separator) ≡ n → tagString o ≡ string → cutNumber (wordsRead string n) ≡ accepted
-suffices-for-tag-strings string n bytes e o a long same =
-    let words : wordsRead string n ≡ mergedWords (o .words) = sym (ap₂ wordsRead same long) ∙ words-again o a in
-    accepted-suffices (wordsRead string n) (read-sound string n bytes e) o a (sym (ap phases words ∙ phases-again o a))
+suffices-for-tag-strings string n o a long same = ap cutNumber (sym (ap₂ wordsRead same long) ∙ words-again o a) ∙ merged-suffices o a
+
+-- "Reading still takes any 31-bit length": whatever sound words and separator of at most 256 bytes a string is made of, it reads back to them.
+pub reading-any-length : (ws separator : List ℕ) → soundWords ws ≡ true → Below 4294967296 ws → length separator ≤ 256
+    → (readWords (stringOf ws separator) (length separator) ≡ withWords accepted ws) × (readSeparator (stringOf ws separator) (length separator) ≡ separator)
+reading-any-length ws separator e bits short = (string-words ws separator e bits short, string-separator ws separator e bits short)
+
+-- "a sound record's word list": 2 to 64 words, even in number, that alternate from ABSORB and have lengths of at least 1, and nothing else.
+pub sound-word-lists : (ws : List ℕ)
+    → (soundWords ws ≡ true)
+    ↔ ((2 ≤ length ws) × (length ws ≤ 64) × (length ws % 2 ≡ 0)
+    × ((i : ℕ) → i < length ws → (isAbsorb (getD ws i 0) ≡ eqb (i % 2) 0) × (1 ≤ lengthOf (getD ws i 0))))
+sound-word-lists = sound-words
 
 -- "no tag string of that separator length": what reading refuses with 13 is the tag string of no accepted pattern with a separator of that
 -- length.

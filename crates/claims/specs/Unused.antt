@@ -1,4 +1,4 @@
--- Numbers that are no longer given. From document 02, P4: "With 64 words no merged length can then pass 2147483647. Prove that number 5 can't be given
+-- Numbers that are not given. From document 02, P4: "With 64 words no merged length can then pass 2147483647. Prove that number 5 can't be given
 -- by START, the writer or the card program, and remove the check."
 use mathlib.Core.Path.{_≡_, refl, sym, _∙_}
 use mathlib.Core.Bool.{false}
@@ -10,7 +10,6 @@ use lib.Dec.{ltb, lit<}
 use lib.ListN.{length}
 use Rattle.basics.specs.Logic.{_and_, all, any}
 use Rattle.basics.proofs.FirstRow.{never-given}
-use Rattle.basics.specs.Numbers.{mergedLengthTooLong}
 use Rattle.words.specs.Words.{lengthOf}
 use Rattle.pattern.specs.Pattern.{phases, tooLong}
 use Rattle.pattern.specs.Opening.{Opening, maxCall, wordRows, openingRows, openingNumber}
@@ -34,16 +33,16 @@ no-merged-length-too-long ws few e =
     (within-more (length ws * maxCall) 1073741824 (phases ws) (omega arith) (phases-within maxCall ws e), phases-fit ws few e)
 
 -- Number 5 is not given by START,
-pub start-never-gives-5 : (field : ℕ) (o : Opening) → start field o .number ≢ mergedLengthTooLong
+pub start-never-gives-5 : (field : ℕ) (o : Opening) → start field o .number ≢ 5
 unfolding startNumber startRows openingRows wordRows all _and_
-start-never-gives-5 field o e = never-given mergedLengthTooLong (startRows field o) refl (λ z. omega arith) (sym (number-of field o) ∙ e)
+start-never-gives-5 field o e = never-given 5 (startRows field o) refl (λ z. omega arith) (sym (number-of field o) ∙ e)
 
 -- by writing,
-pub writing-never-gives-5 : (o : Opening) (buffer : List ℕ) → written o buffer .number ≢ mergedLengthTooLong
+pub writing-never-gives-5 : (o : Opening) (buffer : List ℕ) → written o buffer .number ≢ 5
 unfolding written writtenWith writeNumber writeRows bufferRows openingRows wordRows all _and_
-writing-never-gives-5 o buffer = never-given mergedLengthTooLong (writeRows o buffer) refl (λ z. omega arith)
+writing-never-gives-5 o buffer = never-given 5 (writeRows o buffer) refl (λ z. omega arith)
 
 -- or in the answer to a line.
 pub cards-never-give-5 : (line : List ℕ) → answer line ≢ ascii "(no 5)"
 unfolding openingNumber openingRows wordRows all _and_ noText decimal decimalUpTo
-cards-never-give-5 line = line-gives mergedLengthTooLong (lit< tt) (λ o. never-given mergedLengthTooLong (openingRows o) refl (λ z. omega arith)) line
+cards-never-give-5 line = line-gives 5 (lit< tt) (λ o. never-given 5 (openingRows o) refl (λ z. omega arith)) line

@@ -1,10 +1,9 @@
 -- Which sound words START takes, cut.
 -- Assumes nothing.
-use mathlib.Core.Path.{_≡_, refl, sym, ap, _∙_}
-use mathlib.Core.Bool.{true, false}
-use mathlib.Core.List.{List}
-use mathlib.Core.Logic.{_≢_}
-use Prim.Native.Nat.{ℕ, _≤_}
+use mathlib.Core.Path.{_≡_, sym, ap, _∙_}
+use mathlib.Core.Bool.{true}
+use mathlib.Core.List.{List, _∷_, _++_}
+use Prim.Native.Nat.{ℕ, _-_, _≤_, _<_}
 use native.Mathlib.Omega.{arith}
 use borrow.Author.Tests.{leb-true, leb-false}
 use lib.Dec.{leb, lit<}
@@ -12,11 +11,13 @@ use lib.ListN.{length}
 use Rattle.basics.specs.Lists.{Below}
 use Rattle.basics.specs.Numbers.{accepted}
 use Rattle.basics.proofs.Cases.{cases}
+use Rattle.words.specs.Words.{lengthOf}
+use Rattle.cutting.proofs.Words.{calls-short, calls-long, first-long}
 use Rattle.pattern.specs.Pattern.{phases, mergedWords, soundWords}
 use Rattle.pattern.specs.Opening.{Opening, opening, maxSeparator, openingNumber}
 use Rattle.pattern.proofs.Soundness.{sound}
-use Rattle.pattern.proofs.StartCheck.{passed-rows, few-declared}
-use Rattle.pattern.proofs.MergedWords.{phases-of-sound, sound-merged, none-empty, accepts}
+use Rattle.pattern.proofs.StartCheck.{passed-rows, few-declared, fit}
+use Rattle.pattern.proofs.MergedWords.{phases-of-sound, phases-of-words, merged-sound, sound-merged, none-empty, accepts}
 use Rattle.cutting.specs.Cutting.{cutWords, cutNumber}
 use Rattle.cutting.proofs.Steps.{number-accepted, number-refused}
 use Rattle.cutting.proofs.Merging.{merged-cut, cut-words-within, cut-words-empty}
@@ -49,3 +50,22 @@ module _ (ws : List ℕ) where
         let passed = passed-rows o a .of-words in
         number-accepted ws
         (omega (arith, fewest 16777216 (lit< tt) ws (o .words) (phases-of-sound ws e) same (passed .e19), few-declared (o .words) (passed .e1)))
+
+pub merged-suffices : (o : Opening) → openingNumber o ≡ accepted → cutNumber (mergedWords (o .words)) ≡ accepted
+unfolding mergedWords
+merged-suffices o a =
+    accepted-suffices (mergedWords (o .words)) (merged-sound o a) o a
+    (sym (phases-of-sound (mergedWords (o .words)) (merged-sound o a) ∙ phases-of-words (phases (o .words)) (fit o a) .0))
+
+-- ---- one word after the other, one call after the other
+
+pub cut-next-short : (limit w : ℕ) (ws : List ℕ) → w < 4294967296 → lengthOf w ≤ limit → cutWords limit (w ∷ ws) ≡ w ∷ cutWords limit ws
+unfolding cutWords
+cut-next-short limit w ws fits h = ap (λ (l : List ℕ). l ++ cutWords limit ws) (calls-short limit w fits h)
+
+pub cut-next-long : (limit w : ℕ) (ws : List ℕ) → 0 < limit → w < 4294967296 → limit < lengthOf w
+    → cutWords limit (w ∷ ws) ≡ (w - (lengthOf w - limit)) ∷ cutWords limit ((w - limit) ∷ ws)
+unfolding cutWords
+cut-next-long limit w ws some fits h =
+    ap (λ (l : List ℕ). l ++ cutWords limit ws) (calls-long limit w fits some h)
+    ∙ ap (λ (x : ℕ). x ∷ cutWords limit ((w - limit) ∷ ws)) (first-long limit w fits h)

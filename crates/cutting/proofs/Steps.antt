@@ -1,9 +1,8 @@
 -- The calls that are left, one after the other.
 -- Assumes nothing.
 use mathlib.Core.Path.{_≡_, refl, sym, ap, _∙_}
-use mathlib.Core.Bool.{true, false}
 use mathlib.Core.List.{List, [], _∷_, _++_, append-nil}
-use Prim.Native.Nat.{ℕ, zero, suc, _+_, _-_, _≤_, _<_}
+use Prim.Native.Nat.{ℕ, suc, _+_, _-_, _≤_, _<_}
 use native.Mathlib.Numerals.{add-one}
 use native.Mathlib.Omega.{arith}
 use borrow.Author.Tests.{ltb-true, ltb-false, lt-ltb, le-ltb, leb-true, leb-false}
@@ -18,7 +17,6 @@ use Rattle.basics.proofs.Cases.{cases, if-true, if-false}
 use Rattle.basics.proofs.Zeros.{push-number}
 use Rattle.words.specs.Words.{lengthOf}
 use Rattle.pattern.specs.Opening.{withWords}
-use Rattle.pattern.specs.declared.WordList.{WordList}
 use Rattle.pattern.proofs.Given.{answer-accepted, answer-refused}
 use Rattle.cutting.specs.Cutting.{cutWords, cutNumber, cutAnswer}
 use Rattle.cutting.specs.Steps.{callsOf, firstCall, callsLeft}

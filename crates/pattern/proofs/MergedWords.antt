@@ -5,7 +5,7 @@ use mathlib.Core.Bool.{Bool, true, false, not, true≢false}
 use mathlib.Core.List.{List, [], _∷_, map}
 use Prim.Native.Nat.{ℕ, suc, _+_, _-_, _%_, _≤_, _<_}
 use native.Mathlib.Omega.{arith}
-use borrow.Author.Tests.{ltb-false, leb-true, le-leb, le-ltb, ne-eqb, eqb-false, not-false}
+use borrow.Author.Tests.{ltb-false, leb-true, le-leb, ne-eqb, eqb-false, not-false}
 use lib.Dec.{leb, eqb}
 use lib.ListN.{length, getD, length-map}
 use Rattle.basics.specs.Logic.{_or_, same, all, any}
@@ -16,7 +16,7 @@ use Rattle.basics.proofs.Cases.{by, if-false, and-left, and-right, and-both, or
 use Rattle.words.specs.Words.{isAbsorb, lengthOf, Phase, phaseOf, wordOf}
 use Rattle.pattern.specs.Pattern.{maxWords, join, merge, phases, mergedWords, tooLong, alternate, soundWords}
 use Rattle.pattern.specs.Opening.{Opening, maxSeparator, openingNumber}
-use Rattle.words.proofs.WordKinds.{word-kind, word-length, word-of-phase, phase-of-word, word-below, length-below}
+use Rattle.words.proofs.WordKinds.{word-kind, word-length, word-of-phase, phase-of-word, word-below}
 use Rattle.pattern.proofs.MergeStep.{merged-words-length}
 use Rattle.pattern.proofs.Soundness.{long, right-count, Sound, sound}
 use Rattle.pattern.proofs.MergedLengths.{phases-fit}

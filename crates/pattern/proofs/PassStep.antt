@@ -14,10 +14,10 @@ use lib.Seq.{length-take-le, take-all, take-suc, append-snoc}
 use Rattle.basics.specs.Logic.{if_then_else_, _and_, _or_, any}
 use Rattle.basics.specs.Numbers.{accepted, wordCountOutOfRange, wordLengthZero, callTooLong, firstWordSqueeze}
 use Rattle.basics.specs.Refusals.{_gets_⨾_, firstNumber}
-use Rattle.basics.proofs.Cases.{cases, if-true, if-false, or-false, any-append}
+use Rattle.basics.proofs.Cases.{cases, if-true, if-false, any-append}
 use Rattle.words.specs.Words.{isAbsorb, lengthOf, Phase, phaseOf, wordOf}
 use Rattle.pattern.specs.Pattern.{merge, phases, mergedWords, tooLong}
-use Rattle.pattern.specs.Opening.{wordRows, given, withWords, answerWith}
+use Rattle.pattern.specs.Opening.{wordRows, withWords, answerWith}
 use Rattle.pattern.specs.Steps.{Holds, holding}
 use Rattle.pattern.specs.Pass.{without, passNumber, passed, earned, rank, earlier, passStep, passFrom, heldAfter}
 use Rattle.pattern.specs.declared.WordList.{WordList}

@@ -13,6 +13,9 @@ ghost use Rattle.pattern.specs.Pattern.{phases, tooLong};
 ghost use Rattle.pattern.specs.Steps.{Holds, holding};
 ghost use Rattle.pattern.specs.Pass.{heldAfter, earned, rank, earlier, passStep};
 
+// Numbers are compared by their doubles, among which 19 counts between 2 and 3.
+const BETWEEN_2_AND_3: u64 = 5;
+
 // What the pass holds beside the list of merged words: a number, or 0 and how many words the list has.
 struct Held {
     number: u32,
@@ -75,12 +78,12 @@ fn earned_by(n: usize, word: u32) -> u32
     basics::FIRST_WORD_SQUEEZE
 }
 
-// Where a number stands in the order of checking: 19 lies between 2 and 3, so the others are doubled.
+// Where a number stands in the order of checking.
 fn rank_of(number: u32) -> u64
     ensures { λ r. ⌜ r ≡ rank number ⌝ }
 {
     if number == basics::CALL_TOO_LONG {
-        return 5;
+        return BETWEEN_2_AND_3;
     }
     2 * (number as u64)
 }

@@ -57,10 +57,11 @@ b2 =
     (tagString (opening (0x80000001 ∷ 1 ∷ 0x80000002 ∷ 2 ∷ []) []))
     ∷ []
 
--- "B3 fffffffe 80000001 00000001: accepted, merged ffffffff 00000001."; document 02: "B3 now get[s] the new number"
+-- "B3 fffffffe 80000001 00000001: accepted, merged ffffffff 00000001."; document 02, of number 5: "its example and B3 now get the new number"
 b3 : List Bool
 b3 =
     eqb (startNumber 1 (opening (0xfffffffe ∷ 0x80000001 ∷ 1 ∷ []) [])) callTooLong
+    ∷ eqb (startNumber 1 (opening (0xffffffff ∷ 0x80000001 ∷ 1 ∷ []) [])) callTooLong
     ∷ sameList (mergedWords (0xfffffffe ∷ 0x80000001 ∷ 1 ∷ [])) (0xffffffff ∷ 1 ∷ [])
     ∷ []
 
@@ -160,9 +161,9 @@ unfolding samplesWith b1 b2 b3 b4 b5 b6 b7 b8 b8InField2 b9 b9InField2 b10 sameL
     giving inPattern recordRows callRows absorbRows finishRows wipes answerOf absorb squeeze finish answered left leftBy
 computed = refl
 
--- Every test of every sample passes, and there are 29: two of B1, three of B2, two each of B3 to B7, four of B8 and four in field 2, two of B9 and
+-- Every test of every sample passes, and there are 30: two of B1, three of B2 and of B3, two each of B4 to B7, four of B8 and four in field 2, two of B9 and
 -- three in field 2, and one of B10.
-pub samples-hold : (length samples ≡ 29) × (all (λ sample. sample) samples ≡ true)
+pub samples-hold : (length samples ≡ 30) × (all (λ sample. sample) samples ≡ true)
 unfolding samples samplesWith b1 b2 b3 b4 b5 b6 b7 b8 b8InField2 b9 b9InField2 b10 started words4 words5 words6 words7
 samples-hold = (refl, (λ i. all (λ sample. sample) (samplesWith (started4 i) (started5 i) (started6 i) (started7 i))) ∙ computed)
 

@@ -4,11 +4,11 @@ use mathlib.Core.Path.{_≡_, refl, sym, ap, ap₂, _∙_}
 use mathlib.Core.Bool.{true}
 use mathlib.Core.List.{List, [], _∷_, _++_, map}
 use mathlib.Core.Logic.{_≢_, _↔_}
-use Prim.Native.Nat.{ℕ, suc, _-_, _*_, _/_, _%_, _≤_, _<_}
+use Prim.Native.Nat.{ℕ, suc, _+_, _-_, _*_, _/_, _%_, _≤_, _<_}
 use native.Mathlib.Omega.{arith}
 use borrow.Author.Tests.{eqb-true, eq-eqb}
 use lib.Dec.{lit<}
-use lib.ListN.{length, take, drop, length-drop, take-append-drop}
+use lib.ListN.{length, take, drop, length-append, length-drop, take-append-drop}
 use lib.Seq.{take-at, drop-at}
 use Rattle.basics.specs.Lists.{tabulate, Below}
 use Rattle.basics.specs.Digits.{digits, number}
@@ -26,9 +26,8 @@ use Rattle.pattern.specs.declared.WordList.{WordList}
 use Rattle.tag.proofs.WordBytes.{length-word-bytes}
 use Rattle.pattern.proofs.Answers.{words-used}
 use Rattle.pattern.proofs.StartCheck.{passed-rows, fit}
-use Rattle.tag.proofs.Writing.{length-tag-string}
 use Rattle.tag.proofs.Reading.{number-0, read-accepted, separator-accepted, passed}
-use Rattle.pattern.proofs.MergedWords.{phases-of-words, phases-of-sound, merged-sound}
+use Rattle.pattern.proofs.MergedWords.{phases-of-words, merged-sound}
 
 -- ---- words and their bytes
 
@@ -84,50 +83,72 @@ words-below (a ∷ b ∷ c ∷ d ∷ s) e h =
 
 -- ---- reading what was written
 
+-- the string of sound words and a separator
+module _
+    (ws separator : List ℕ)
+    (e : soundWords ws ≡ true)
+    (bits : Below 4294967296 ws)
+    (fits : length separator ≤ maxSeparator)
+  where
+    abbrev s : List ℕ
+    s = stringOf ws separator
+
+    abbrev n : ℕ
+    n = length separator
+
+    long : length s ≡ 4 * length ws + n
+    unfolding stringOf
+    long = length-append (wordBytes ws) separator ∙ ap (λ (k : ℕ). k + n) (length-word-bytes ws)
+
+    size : length s - n ≡ length (wordBytes ws)
+    size = omega (arith, long, length-word-bytes ws)
+
+    front : wordsPart s n ≡ wordBytes ws
+    unfolding wordsPart stringOf
+    front = take-at (wordBytes ws) separator (length s - n) (sym size)
+
+    back : separatorPart s n ≡ separator
+    unfolding separatorPart stringOf
+    back = drop-at (wordBytes ws) separator (length s - n) (sym size)
+
+    words : wordsOf (wordsPart s n) ≡ ws
+    words = ap wordsOf front ∙ words-of-bytes ws bits
+
+    sound-string : soundBytes (wordsPart s n) ≡ true
+    unfolding soundBytes
+    sound-string =
+        let whole : length (wordsPart s n) % 4 ≡ 0 = rw front (omega (arith, length-word-bytes ws)) in
+        and-both _ _ (eq-eqb (length (wordsPart s n) % 4) 0 whole) (ap soundWords words ∙ e)
+
+    string-reads : readNumber s n ≡ accepted
+    string-reads = number-0 s n fits (omega (arith, long)) sound-string
+
+    pub string-words : readWords (stringOf ws separator) (length separator) ≡ withWords accepted ws
+    string-words = read-accepted s n string-reads ∙ ap (withWords accepted) words
+
+    pub string-separator : readSeparator (stringOf ws separator) (length separator) ≡ separator
+    string-separator = separator-accepted s n string-reads ∙ back
+
+-- of an accepted opening
 module _ (o : Opening) (e : openingNumber o ≡ accepted) where
-  abbrev s : List ℕ
-  s = tagString o
-
-  abbrev n : ℕ
-  n = length (o .separator)
-
-  abbrev bytes : List ℕ
-  bytes = wordBytes (mergedWords (o .words))
-
-  size : length s - n ≡ length bytes
-  size = omega (arith, length-tag-string o, length-word-bytes (mergedWords (o .words)))
-
-  front : wordsPart s n ≡ bytes
-  unfolding wordsPart tagString stringOf
-  front = take-at bytes (o .separator) (length s - n) (sym size)
-
-  back : separatorPart s n ≡ o .separator
-  unfolding separatorPart tagString stringOf
-  back = drop-at bytes (o .separator) (length s - n) (sym size)
-
-  words : wordsOf (wordsPart s n) ≡ mergedWords (o .words)
+  merged-bits : Below 4294967296 (mergedWords (o .words))
   unfolding mergedWords
-  words =
-      ap wordsOf front
-      ∙ words-of-bytes (mergedWords (o .words)) (phases-of-words (phases (o .words)) (fit o e) .1)
+  merged-bits = phases-of-words (phases (o .words)) (fit o e) .1
 
-  sound-string : soundBytes (wordsPart s n) ≡ true
-  unfolding soundBytes
-  sound-string =
-      let whole : length (wordsPart s n) % 4 ≡ 0 = rw front (omega (arith, length-word-bytes (mergedWords (o .words)))) in
-      and-both _ _ (eq-eqb (length (wordsPart s n) % 4) 0 whole) (ap soundWords words ∙ merged-sound o e)
+  pub reads : readNumber (tagString o) (length (o .separator)) ≡ accepted
+  unfolding tagString
+  reads = string-reads (mergedWords (o .words)) (o .separator) (merged-sound o e) merged-bits (passed-rows o e .short)
 
-  pub reads : readNumber s n ≡ accepted
-  reads = number-0 s n (passed-rows o e .short) (omega (arith, length-tag-string o)) sound-string
-
-  pub reads-words : readWords s n ≡ withWords accepted (mergedWords (o .words))
-  reads-words = read-accepted s n reads ∙ ap (withWords accepted) words
+  pub reads-words : readWords (tagString o) (length (o .separator)) ≡ withWords accepted (mergedWords (o .words))
+  unfolding tagString
+  reads-words = string-words (mergedWords (o .words)) (o .separator) (merged-sound o e) merged-bits (passed-rows o e .short)
 
   pub words-again : wordsRead (tagString o) (length (o .separator)) ≡ mergedWords (o .words)
   words-again = ap (λ (m : WordList). take (m .count) (m .words)) reads-words ∙ words-used accepted (mergedWords (o .words))
 
-  pub reads-separator : readSeparator s n ≡ o .separator
-  reads-separator = separator-accepted s n reads ∙ back
+  pub reads-separator : readSeparator (tagString o) (length (o .separator)) ≡ o .separator
+  unfolding tagString
+  reads-separator = string-separator (mergedWords (o .words)) (o .separator) (merged-sound o e) merged-bits (passed-rows o e .short)
 
 -- ---- writing what was read
 
@@ -185,10 +206,6 @@ refused-string s n r o e l q =
 pub phases-read : (o : Opening) → openingNumber o ≡ accepted → map phaseOf (mergedWords (o .words)) ≡ phases (o .words)
 unfolding mergedWords
 phases-read o e = phases-of-words (phases (o .words)) (fit o e) .0
-
--- and its merged words have its merged pattern
-pub phases-again : (o : Opening) → openingNumber o ≡ accepted → phases (mergedWords (o .words)) ≡ phases (o .words)
-phases-again o e = phases-of-sound (mergedWords (o .words)) (merged-sound o e) ∙ phases-read o e
 
 module _
     (a b : Opening)
