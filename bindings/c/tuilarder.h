@@ -20,8 +20,8 @@
  * - A pointer is aligned for its type and valid: a list's for as many items as the length after it says, every other one for its object.
  *   With length 0 a list's pointer may have any value, NULL among them: nothing is read or written through it. No other one may be NULL.
  * - What a function writes (the record, the state, constants and count of tuilarder_generate, out, written, words and count of
- *   tuilarder_read_tag, place, value) overlaps nothing else that the call was lent. Nobody else reads or writes that, and nobody writes what
- *   the function reads, until the call returns.
+ *   tuilarder_read_tag, calls and count of tuilarder_cut, place, value) overlaps nothing else that the call was lent. Nobody else reads or
+ *   writes that, and nobody writes what the function reads, until the call returns.
  *
  * What a function only writes need not be set before. The library has no state of its own, so distinct records may be used by distinct
  * threads at once. The time that a call takes depends on what it is lent, and copies of a record may stay behind on the stack: nothing is
@@ -64,6 +64,9 @@ extern "C" {
 /* A word is a length, with this bit set for ABSORB and clear for SQUEEZE. */
 #define TUILARDER_ABSORB_BIT 0x80000000u
 
+/* The longest call that a pattern declares, in elements. Calls of one kind that follow each other are added together, and may be longer then. */
+#define TUILARDER_MAX_CALL 16777216u
+
 /* The longest pattern in words, and the longest separator in bytes. The longest tag string has 4 * 64 + 256 bytes. */
 #define TUILARDER_MAX_WORDS 64
 #define TUILARDER_MAX_SEPARATOR 256
@@ -88,7 +91,7 @@ enum tuilarder_number {
     TUILARDER_FIRST_WORD_SQUEEZE = 3,
     /* last word is ABSORB */
     TUILARDER_LAST_WORD_ABSORB = 4,
-    /* merged length above 2147483647 */
+    /* merged length above 2147483647 (unused) */
     TUILARDER_MERGED_LENGTH_TOO_LONG = 5,
     /* separator over 256 bytes */
     TUILARDER_SEPARATOR_TOO_LONG = 6,
@@ -113,7 +116,9 @@ enum tuilarder_number {
     /* the separator asked about is under four bytes */
     TUILARDER_SEPARATOR_TOO_SHORT = 17,
     /* field number neither 1 nor 2 */
-    TUILARDER_FIELD_UNKNOWN = 18
+    TUILARDER_FIELD_UNKNOWN = 18,
+    /* a declared call above 16,777,216 elements */
+    TUILARDER_CALL_TOO_LONG = 19
 };
 
 /*
@@ -173,9 +178,9 @@ TUILARDER_ASSERT(sizeof(size_t) == 8 && sizeof(void *) == 8);
 uint64_t tuilarder_layout_2(void);
 
 /*
- * START: opens a session for a field, a pattern and a separator in the record, whatever that held. Checks 18, then 1 to 6 in number order,
- * whichever word is at fault. Refused, it leaves a wiped record. The separator names the protocol: no two of a verifier have the same, and all
- * of them have one length.
+ * START: opens a session for a field, a pattern and a separator in the record, whatever that held. Checks 18, 1, 2, 19, 3, 4 and 6, in this
+ * order, whichever word is at fault. Refused, it leaves a wiped record. The separator names the protocol: no two of a verifier have the same,
+ * and all of them have one length.
  */
 TUILARDER_ANSWER tuilarder_start(struct tuilarder_session *record, uint32_t field, const uint32_t *words, size_t words_length,
                                  const uint8_t *separator, size_t separator_length);
@@ -200,17 +205,26 @@ TUILARDER_ANSWER tuilarder_finish(struct tuilarder_session *record);
 
 /*
  * Writes the tag string of a pattern and a separator, from out's start and only the string's bytes, and its length to written.
- * Checks 1 to 6 in number order, then 12. Refused, it writes nothing to out, and 0 to written.
+ * Checks 1, 2, 19, 3, 4, 6 and 12, in this order. Refused, it writes nothing to out, and 0 to written.
  */
 TUILARDER_ANSWER tuilarder_write_tag(const uint32_t *words, size_t words_length, const uint8_t *separator,
                                      size_t separator_length, uint8_t *out, size_t out_length, size_t *written);
 
 /*
  * Reads a tag string back, given the length of its separator, which is the string's last part: its merged words, with unused ones 0, and
- * how many they are. Checks 6 (of the length given), then 13. Refused, it gives 64 zero words and count 0.
+ * how many they are. Checks 6 (of the length given), then 13. Refused, it gives 64 zero words and count 0. Merged words may be longer than
+ * a declared call: tuilarder_cut makes words of them that START takes.
  */
 TUILARDER_ANSWER tuilarder_read_tag(const uint8_t *string, size_t length, size_t separator_length,
                                     uint32_t words[TUILARDER_MAX_WORDS], size_t *count);
+
+/*
+ * Cuts words into calls that a pattern may declare, in order: a word longer than TUILARDER_MAX_CALL becomes calls of that length and any rest,
+ * of its kind; every other word stays, one of length 0 too. Gives the calls as words, with unused ones 0, and how many they are. They merge to
+ * what the words merge to. Checks 1, and that only of too many calls. Refused, it gives 64 zero words and count 0; where the words are those
+ * of a tag string, no pattern that START takes has it then. The list may have any length, and no words are no calls.
+ */
+TUILARDER_ANSWER tuilarder_cut(const uint32_t *words, size_t words_length, uint32_t calls[TUILARDER_MAX_WORDS], size_t *count);
 
 /* One Poseidon permutation of a field in place. Checks 18, then 10. Refused, it leaves the state as it was. */
 TUILARDER_ANSWER tuilarder_permute(uint32_t field, uint32_t state[TUILARDER_WIDTH]);

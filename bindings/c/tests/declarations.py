@@ -1,9 +1,9 @@
 #!/usr/bin/env python3
 """Whether the header and Rust's declarations name the parameters of each function as the library's source does, in its order.
 
-A list of the source is a pointer and a length here: the list's name; then `length`, or with several lists `NAME_length`. Two lengths that are
-exchanged have one type, so no compiler sees it. Also whether the version in the name of `tuilarder_layout_VERSION` is the one that it answers, and
-the guide's.
+A list of the source is a pointer and a length here: the list's name; then `length`, or with several lists, and of words everywhere, `NAME_length`.
+Two lengths that are exchanged have one type, so no compiler sees it. Also whether the version in the name of `tuilarder_layout_VERSION` is the one
+that it answers, and the guide's.
 """
 import re
 import sys
@@ -19,7 +19,7 @@ def expected(parameters):
     for name in re.findall(r"(\w+): ", parameters):
         yield name
         if name in lists:
-            yield f"{name}_length" if len(lists) > 1 else "length"
+            yield f"{name}_length" if len(lists) > 1 or name == "words" else "length"
 
 
 def source():

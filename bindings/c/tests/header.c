@@ -18,8 +18,10 @@ IS(TUILARDER_RATE, 8);
 IS(TUILARDER_CAPACITY, 16);
 IS(TUILARDER_WIDTH, 24);
 IS(TUILARDER_MAX_ROUND_CONSTANTS, 744);
-/* "A word has its top bit set for ABSORB"; the longest pattern, separator and tag string; FIPS 202's 256 bits */
+/* "A word has its top bit set for ABSORB"; "limits one declared call to 16,777,216 elements"; the longest pattern, separator and tag string; FIPS
+   202's 256 bits */
 IS(TUILARDER_ABSORB_BIT, 2147483648);
+IS(TUILARDER_MAX_CALL, 16777216);
 IS(TUILARDER_MAX_WORDS, 64);
 IS(TUILARDER_MAX_SEPARATOR, 256);
 IS(TUILARDER_MAX_TAG_STRING, 512);
@@ -36,6 +38,7 @@ HAS_TYPE(TUILARDER_KOALA_BEAR, uint32_t);
 HAS_TYPE(TUILARDER_BABY_BEAR_PRIME, uint32_t);
 HAS_TYPE(TUILARDER_KOALA_BEAR_PRIME, uint32_t);
 HAS_TYPE(TUILARDER_ABSORB_BIT, uint32_t);
+HAS_TYPE(TUILARDER_MAX_CALL, uint32_t);
 
 /* "Calls turned away", and the numbers that document 02 adds to them */
 IS(TUILARDER_ACCEPTED, 0);
@@ -56,6 +59,7 @@ IS(TUILARDER_OWNERS_ROW_INVALID, 15);
 IS(TUILARDER_OWNERS_GAP, 16);
 IS(TUILARDER_SEPARATOR_TOO_SHORT, 17);
 IS(TUILARDER_FIELD_UNKNOWN, 18);
+IS(TUILARDER_CALL_TOO_LONG, 19);
 
 #define RECORD ((struct tuilarder_session *)0)
 HAS_TYPE(RECORD->status, uint32_t);
@@ -78,6 +82,7 @@ HAS_TYPE(&tuilarder_finish, uint32_t (*)(record *));
 HAS_TYPE(&tuilarder_write_tag,
          uint32_t (*)(const uint32_t *, size_t, const uint8_t *, size_t, uint8_t *, size_t, size_t *));
 HAS_TYPE(&tuilarder_read_tag, uint32_t (*)(const uint8_t *, size_t, size_t, uint32_t *, size_t *));
+HAS_TYPE(&tuilarder_cut, uint32_t (*)(const uint32_t *, size_t, uint32_t *, size_t *));
 HAS_TYPE(&tuilarder_permute, uint32_t (*)(uint32_t, uint32_t *));
 HAS_TYPE(&tuilarder_generate, uint32_t (*)(uint32_t, uint32_t *, size_t *));
 HAS_TYPE(&tuilarder_layout_2, uint64_t (*)(void));

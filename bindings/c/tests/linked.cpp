@@ -45,6 +45,16 @@ static void test_tag_string()
     CHECK(count == 2 && merged[0] == 0x80000006 && merged[1] == 0x00000003 && merged[2] == 0);
 }
 
+// A word that is one longer than a declared call.
+static void test_cut()
+{
+    const uint32_t words[1] = {TUILARDER_ABSORB_BIT | (TUILARDER_MAX_CALL + 1)};
+    uint32_t calls[TUILARDER_MAX_WORDS];
+    std::size_t count = 0;
+    CHECK(tuilarder_cut(words, 1, calls, &count) == TUILARDER_ACCEPTED);
+    CHECK(count == 2 && calls[0] == 0x81000000 && calls[1] == 0x80000001 && calls[2] == 0);
+}
+
 // 18, and 10 for BabyBear's p, which is an element of KoalaBear; how many constants there are; and the first bytes of the digest of nothing that
 // NIST publishes.
 static void test_permutation_and_hash()
@@ -78,6 +88,7 @@ int main()
     test_session(TUILARDER_BABY_BEAR, 1413794352);
     test_session(TUILARDER_KOALA_BEAR, 660617525);
     test_tag_string();
+    test_cut();
     test_permutation_and_hash();
     test_owners();
     return failed;

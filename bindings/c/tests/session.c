@@ -1,6 +1,6 @@
 /*
- * Calls the static library through tuilarder.h: sessions of both fields, the record's members, an example of each number, empty lists, and bad
- * records. It is meant for valgrind: most of what is lent ends where its block ends.
+ * Calls the static library through tuilarder.h: sessions of both fields, the record's members, an example of each number, words cut into calls,
+ * empty lists, and bad records. It is meant for valgrind: most of what is lent ends where its block ends.
  */
 #include "tuilarder.h"
 
@@ -9,6 +9,8 @@
 #include <inttypes.h>
 
 #define A TUILARDER_ABSORB_BIT
+/* "limits one declared call to 16,777,216 elements" */
+#define LIMIT 16777216u
 #define BABY_BEAR TUILARDER_BABY_BEAR
 #define KOALA_BEAR TUILARDER_KOALA_BEAR
 /* below KoalaBear's prime and not below BabyBear's: an element of the one field alone */
@@ -230,7 +232,8 @@ static void test_members(uint32_t field)
 
 /* ---- an example of each number */
 
-/* Document 01's examples for 1 to 6, 65 words, and what is just accepted. */
+/* Document 01's examples for 1 to 6, of which that for 5 and the sample B3 now get 19; 65 words; 19 behind 2 and before 3, whichever word is at
+   fault; and what is just accepted. */
 static const struct start_example {
     uint32_t number;
     uint32_t words[4];
@@ -242,10 +245,19 @@ static const struct start_example {
     {TUILARDER_WORD_LENGTH_ZERO, {A | 3, 0}, 2, 0},
     {TUILARDER_FIRST_WORD_SQUEEZE, {1}, 1, 0},
     {TUILARDER_LAST_WORD_ABSORB, {A | 1}, 1, 0},
-    {TUILARDER_MERGED_LENGTH_TOO_LONG, {0xffffffffu, A | 1, 1}, 3, 0},
+    {TUILARDER_CALL_TOO_LONG, {0xffffffffu, A | 1, 1}, 3, 0},
+    {TUILARDER_CALL_TOO_LONG, {0xfffffffeu, A | 1, 1}, 3, 0},
     {TUILARDER_SEPARATOR_TOO_LONG, {A | 1, 1}, 2, 257},
     {TUILARDER_ACCEPTED, {A | 1, 1}, 2, 256},
-    {TUILARDER_ACCEPTED, {0xfffffffeu, A | 1, 1}, 3, 0},
+    {TUILARDER_WORD_COUNT_OUT_OF_RANGE, {LIMIT + 1}, 65, 257},
+    {TUILARDER_WORD_LENGTH_ZERO, {LIMIT + 1, A}, 2, 0},
+    {TUILARDER_CALL_TOO_LONG, {A | (LIMIT + 1), 1}, 2, 257},
+    {TUILARDER_CALL_TOO_LONG, {A | 1, LIMIT + 1}, 2, 0},
+    {TUILARDER_CALL_TOO_LONG, {1, A | (LIMIT + 1)}, 2, 0},
+    {TUILARDER_FIRST_WORD_SQUEEZE, {LIMIT, A | LIMIT}, 2, 0},
+    {TUILARDER_LAST_WORD_ABSORB, {A | LIMIT, A | LIMIT}, 2, 257},
+    {TUILARDER_ACCEPTED, {A | LIMIT, LIMIT}, 2, 0},
+    {TUILARDER_ACCEPTED, {A | LIMIT, A | LIMIT, LIMIT, 1}, 4, 256},
 };
 
 /* START into a record of any bytes, in each field; in an unknown one it gives 18, whatever else is wrong. */
@@ -388,7 +400,7 @@ static void test_element_and_finish(uint32_t field)
     give_back(&record);
 }
 
-/* ---- tag strings, the permutation, the generator and the hash */
+/* ---- tag strings, words cut, the permutation, the generator and the hash */
 
 /* Sample B1: its string, written into 10 bytes and 11, and not into 9. */
 static void test_write_tag(void)
@@ -438,8 +450,8 @@ static void test_longest_tag_string(void)
     uint32_t declared[64];
     uint8_t wanted[512];
     for (uint32_t k = 0; k < 64; k++) {
-        const uint8_t bytes[4] = {k % 2 ? 0x01 : 0x81, 0x02, 0x03, (uint8_t)k};
-        declared[k] = (k % 2 ? 0x01020300u : 0x81020300u) + k;
+        const uint8_t bytes[4] = {k % 2 ? 0x00 : 0x80, 0xf2, 0x03, (uint8_t)k};
+        declared[k] = (k % 2 ? 0x00f20300u : 0x80f20300u) + k;
         memcpy(wanted + 4 * k, bytes, 4);
     }
     for (size_t i = 0; i < 256; i++)
@@ -457,6 +469,108 @@ static void test_longest_tag_string(void)
     give_back(&string);
     give_back(&separator);
     give_back(&words);
+}
+
+/* Cuts words, which are only read, into calls and a count that nobody has set, and compares all of both. */
+static void check_cut(const struct lent *words, uint32_t number, const uint32_t wanted[TUILARDER_MAX_WORDS], size_t wanted_count)
+{
+    struct lent calls = lend(TUILARDER_MAX_WORDS * sizeof(uint32_t), 0), count = lend(sizeof(size_t), 0);
+    CHECK(tuilarder_cut(words->part, words->length / sizeof(uint32_t), calls.part, count.part) == number);
+    CHECK(holds(&calls, wanted) && holds(&count, &wanted_count) && same(words));
+    give_back(&count);
+    give_back(&calls);
+}
+
+/* No words, words within the limit, empty ones too, lengths about the limit and about a multiple of it, and several words in order. */
+static void test_cut(void)
+{
+    static const struct {
+        uint32_t words[4];
+        size_t count;
+        uint32_t calls[TUILARDER_MAX_WORDS];
+        size_t calls_count;
+    } examples[] = {
+        {{0}, 0, {0}, 0},
+        {{A, 0}, 2, {A, 0}, 2},
+        {{A | 1, LIMIT - 1, LIMIT, A | LIMIT}, 4, {A | 1, LIMIT - 1, LIMIT, A | LIMIT}, 4},
+        {{LIMIT + 1, A | (LIMIT + 1)}, 2, {LIMIT, 1, A | LIMIT, A | 1}, 4},
+        {{A | (2 * LIMIT - 1)}, 1, {A | LIMIT, A | (LIMIT - 1)}, 2},
+        {{2 * LIMIT, A | (3 * LIMIT)}, 2, {LIMIT, LIMIT, A | LIMIT, A | LIMIT, A | LIMIT}, 5},
+        {{A | (2 * LIMIT + 5), 0, LIMIT + 7, A}, 4, {A | LIMIT, A | LIMIT, A | 5, 0, LIMIT, 7, A}, 7},
+    };
+    for (size_t i = 0; i < sizeof examples / sizeof *examples; i++) {
+        struct lent words = lend_copy(examples[i].words, examples[i].count * sizeof(uint32_t));
+        check_cut(&words, TUILARDER_ACCEPTED, examples[i].calls, examples[i].calls_count);
+        give_back(&words);
+    }
+}
+
+/* Lists of one word, so many times: 64 calls suffice, and for one element or one word more they do not, however long the list is. */
+static void test_cut_of_copies(void)
+{
+    static const struct {
+        uint32_t word;
+        size_t copies;
+        uint32_t call;
+        size_t calls;
+    } examples[] = {
+        {7, 64, 7, 64}, {7, 65, 0, 0}, {0, 64, 0, 64}, {0, 65, 0, 0}, {0, 1000000, 0, 0},
+        {64 * LIMIT, 1, LIMIT, 64}, {64 * LIMIT + 1, 1, 0, 0}, {0x7fffffff, 1, 0, 0}, {0xffffffff, 1000000, 0, 0},
+        {A | (64 * LIMIT), 1, A | LIMIT, 64}, {A | (64 * LIMIT), 2, 0, 0}, {A | (2 * LIMIT), 32, A | LIMIT, 64},
+        {A | (2 * LIMIT), 33, 0, 0}, {A | LIMIT, 64, A | LIMIT, 64}, {A | LIMIT, 65, 0, 0}, {A | (LIMIT + 1), 33, 0, 0},
+    };
+    for (size_t i = 0; i < sizeof examples / sizeof *examples; i++) {
+        uint32_t wanted[TUILARDER_MAX_WORDS] = {0};
+        struct lent words = lend(examples[i].copies * sizeof(uint32_t), 0);
+        for (size_t k = 0; k < examples[i].copies; k++)
+            ((uint32_t *)words.part)[k] = examples[i].word;
+        for (size_t k = 0; k < examples[i].calls; k++)
+            wanted[k] = examples[i].call;
+        remember(&words);
+        check_cut(&words, examples[i].calls ? TUILARDER_ACCEPTED : TUILARDER_WORD_COUNT_OUT_OF_RANGE, wanted, examples[i].calls);
+        give_back(&words);
+    }
+}
+
+/* 64 calls of the longest length, of which all but the last absorb: START's merged words, the tag string, and that read and cut again. */
+static void test_longest_calls(void)
+{
+    const uint32_t merged[TUILARDER_MAX_WORDS] = {A | (63 * LIMIT), LIMIT};
+    const uint8_t string[8] = {0xbf, 0, 0, 0, 0x01, 0, 0, 0};
+    uint32_t declared[TUILARDER_MAX_WORDS], read[TUILARDER_MAX_WORDS];
+    struct tuilarder_session session;
+    struct lent written = lend(sizeof string, 0), words;
+    size_t length, count;
+    for (size_t k = 0; k < TUILARDER_MAX_WORDS; k++)
+        declared[k] = k < 63 ? A | LIMIT : LIMIT;
+    CHECK(tuilarder_start(&session, KOALA_BEAR, declared, 64, NULL, 0) == TUILARDER_ACCEPTED);
+    CHECK(session.count == 2 && memcmp(session.words, merged, sizeof merged) == 0);
+    CHECK(tuilarder_write_tag(declared, 64, NULL, 0, written.part, 8, &length) == TUILARDER_ACCEPTED);
+    CHECK(length == 8 && holds(&written, string));
+    CHECK(tuilarder_read_tag(written.part, 8, 0, read, &count) == TUILARDER_ACCEPTED);
+    CHECK(count == 2 && memcmp(read, merged, sizeof merged) == 0);
+    CHECK(tuilarder_start(&session, KOALA_BEAR, read, 2, NULL, 0) == TUILARDER_CALL_TOO_LONG);
+    words = lend_copy(read, 2 * sizeof(uint32_t));
+    check_cut(&words, TUILARDER_ACCEPTED, declared, 64);
+    give_back(&words);
+    give_back(&written);
+}
+
+/* The longest lengths, which are read, and for which 64 calls do not suffice; so with one element more than 64 calls have. */
+static void test_read_and_not_cut(void)
+{
+    static const uint8_t strings[2][8] = {{0xff, 0xff, 0xff, 0xff, 0x7f, 0xff, 0xff, 0xff}, {0xbf, 0, 0, 1, 0, 0, 0, 1}};
+    static const uint32_t wanted[2][TUILARDER_MAX_WORDS] = {{0xffffffff, 0x7fffffff}, {A | (63 * LIMIT + 1), 1}}, zeros[TUILARDER_MAX_WORDS];
+    for (size_t i = 0; i < 2; i++) {
+        struct lent words = lend(sizeof *wanted, 0), used;
+        size_t count = 0;
+        CHECK(tuilarder_read_tag(strings[i], 8, 0, words.part, &count) == TUILARDER_ACCEPTED);
+        CHECK(count == 2 && holds(&words, wanted[i]));
+        used = lend_copy(words.part, 2 * sizeof(uint32_t));
+        check_cut(&used, TUILARDER_WORD_COUNT_OUT_OF_RANGE, zeros, 0);
+        give_back(&used);
+        give_back(&words);
+    }
 }
 
 /* The permutation of 0 to 23 in either field, from the second implementation, in Python. */
@@ -582,6 +696,8 @@ static void test_empty(void *place)
     CHECK(tuilarder_read_tag(place, 0, 0, read, &number) == TUILARDER_NOT_TAG_STRING && number == 0);
     number = 1;
     CHECK(tuilarder_read_tag(place, 0, 5, read, &number) == TUILARDER_NOT_TAG_STRING && number == 0);
+    number = 1;
+    CHECK(tuilarder_cut(place, 0, read, &number) == TUILARDER_ACCEPTED && number == 0);
     test_sha3(place);
     give_back(&record);
 }
@@ -708,6 +824,10 @@ int main(void)
     test_write_tag();
     test_read_tag();
     test_longest_tag_string();
+    test_cut();
+    test_cut_of_copies();
+    test_longest_calls();
+    test_read_and_not_cut();
     test_empty(NULL);
     test_empty(empty.part);
     test_bad_records();
