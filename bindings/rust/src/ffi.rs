@@ -79,8 +79,8 @@ extern "C" {
     /// turns it away.
     pub fn tuilarder_layout_2() -> u64;
 
-    /// START: opens a session of a field in the record, whatever that held. Checks 18, then 1 to 6 in number order. Refused, it leaves a
-    /// wiped record.
+    /// START: opens a session of a field in the record, whatever that held. Checks 18, 1, 2, 19, 3, 4 and 6, in this order. Refused, it leaves
+    /// a wiped record.
     pub fn tuilarder_start(
         record: *mut Record,
         field: u32,
@@ -109,8 +109,8 @@ extern "C" {
     /// 744 zeros and count 0.
     pub fn tuilarder_generate(field: u32, constants: *mut [u32; 744], count: *mut usize) -> u32;
 
-    /// Writes a tag string, from the start of `out` and only the string's bytes, and its length to `written`. Checks 1 to 6 in number
-    /// order, then 12. Refused, it writes nothing to `out`, and 0 to `written`.
+    /// Writes a tag string, from the start of `out` and only the string's bytes, and its length to `written`. Checks 1, 2, 19, 3, 4, 6 and 12,
+    /// in this order. Refused, it writes nothing to `out`, and 0 to `written`.
     pub fn tuilarder_write_tag(
         words: *const u32,
         words_len: usize,
@@ -122,7 +122,8 @@ extern "C" {
     ) -> u32;
 
     /// Reads a tag string back, given the length of its separator: its merged words, with unused ones 0, and how many they are.
-    /// Checks 6 (of the length given), then 13. Refused, it gives 64 zero words and count 0.
+    /// Checks 6 (of the length given), then 13. Refused, it gives 64 zero words and count 0. Merged words may be longer than a declared call:
+    /// [`tuilarder_cut`] makes words of them that START takes.
     pub fn tuilarder_read_tag(
         string: *const u8,
         len: usize,
@@ -130,6 +131,13 @@ extern "C" {
         words: *mut [u32; 64],
         count: *mut usize,
     ) -> u32;
+
+    /// Cuts words into calls that a pattern may declare, in order: a word longer than [`Pattern::MAX_CALL`](crate::Pattern::MAX_CALL) becomes
+    /// calls of that length and any rest, of its kind; every other word stays, one of length 0 too. Gives the calls as words, with unused ones
+    /// 0, and how many they are. They merge to what the words merge to. Checks 1, and that only of too many calls. Refused, it gives 64 zero
+    /// words and count 0; where the words are those of a tag string, no pattern that START takes has it then. The list may have any length, and
+    /// no words are no calls.
+    pub fn tuilarder_cut(words: *const u32, words_len: usize, calls: *mut [u32; 64], count: *mut usize) -> u32;
 
     /// The SHA3-256 digest of a string of bytes. It turns nothing away.
     pub fn tuilarder_sha3_256(data: *const u8, len: usize, out: *mut [u8; 32]);

@@ -2,8 +2,7 @@
 //! KoalaBear (p = 2130706433), with the Poseidon permutation and SHA3-256.
 //!
 //! The work is done by a static library in Rattle, whose every function is proved to do what its specification, documents 01 and 02, says, on
-//! every input. This crate declares its functions ([`ffi`]) and puts types over them. It checks no rule of its own but that a length fits in a
-//! word.
+//! every input. This crate declares its functions ([`ffi`]) and puts types over them. It checks no rule of its own.
 //!
 //! # Separators
 //!

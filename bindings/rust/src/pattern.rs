@@ -19,17 +19,11 @@ pub enum Call {
 }
 
 impl Call {
-    /// The word of the call, with `MAX_LENGTH` in the place of a length that no word can hold.
+    /// The word of the call, with `MAX_LENGTH` in the place of a length that no word can hold: both are too long for a call.
     fn word(self) -> u32 {
         match self {
             Call::Absorb(length) => ABSORB_BIT | length.min(MAX_LENGTH),
             Call::Squeeze(length) => length.min(MAX_LENGTH),
-        }
-    }
-
-    fn length(self) -> u32 {
-        match self {
-            Call::Absorb(length) | Call::Squeeze(length) => length,
         }
     }
 
@@ -43,11 +37,11 @@ impl Call {
     }
 }
 
-/// A pattern that START accepts: the calls that a protocol declares.
+/// A pattern that START accepts: the calls that a protocol declares, at most [`Pattern::MAX_WORDS`] of at most [`Pattern::MAX_CALL`] elements.
 ///
 /// Two patterns are equal if they declare the same calls. The sponge sees merged patterns, in which neighbours of one kind are added
-/// together ([`Pattern::merged`]): with separators of one length, two protocols have the same tag string exactly if merged patterns and
-/// separators are both equal.
+/// together, so that a phase may be longer than a call: with separators of one length, two protocols have the same tag string exactly if
+/// merged patterns and separators are both equal. Patterns that merge to the same have the same [`Pattern::merged`].
 #[derive(Clone, PartialEq, Eq, Hash)]
 pub struct Pattern {
     // unused words are 0
@@ -59,6 +53,9 @@ impl Pattern {
     /// The most calls that a pattern declares.
     pub const MAX_WORDS: usize = 64;
 
+    /// The longest call that a pattern declares, in elements.
+    pub const MAX_CALL: u32 = 16_777_216;
+
     /// The longest separator, in bytes.
     pub const MAX_SEPARATOR: usize = 256;
 
@@ -69,25 +66,21 @@ impl Pattern {
     ///
     /// # Errors
     ///
-    /// [`Refusal`] 1 to 5, the first that applies. A length above 2147483647 gets 5 where none of 1 to 4 applies.
+    /// [`Refusal`] 1, 2, 19, 3 or 4, the first that applies, in this order.
     pub fn new(calls: &[Call]) -> Result<Pattern, Refusal> {
         // one more than a pattern can have, so that the library sees that there are too many
         let mut words = [0; Pattern::MAX_WORDS + 1];
         for (word, call) in words.iter_mut().zip(calls) {
             *word = call.word();
         }
-        let pattern = Pattern::from_words(&words[..calls.len().min(words.len())])?;
-        if calls.iter().any(|call| call.length() > MAX_LENGTH) {
-            return Err(Refusal::MergedLengthTooLong);
-        }
-        Ok(pattern)
+        Pattern::from_words(&words[..calls.len().min(words.len())])
     }
 
     /// The pattern of these words: a word has its top bit set for ABSORB and clear for SQUEEZE, and its low 31 bits are the length.
     ///
     /// # Errors
     ///
-    /// [`Refusal`] 1 to 5, the first that applies.
+    /// [`Refusal`] 1, 2, 19, 3 or 4, the first that applies, in this order.
     pub fn from_words(words: &[u32]) -> Result<Pattern, Refusal> {
         write_tag(words, &[], &mut [0; 4 * Pattern::MAX_WORDS])?;
         let mut pattern = Pattern {
@@ -98,29 +91,22 @@ impl Pattern {
         Ok(pattern)
     }
 
-    /// The pattern and the separator that a tag string was written from, given the separator's length; the pattern is a merged one, and the
-    /// separator is that part of the string.
+    /// The pattern and the separator that a tag string was written from, given the separator's length. The pattern is a merged one, with calls
+    /// longer than [`Pattern::MAX_CALL`] cut into calls of that length and any rest, and the separator is that part of the string. Together
+    /// they have this tag string.
     ///
     /// # Errors
     ///
-    /// [`Refusal::SeparatorTooLong`] (6, of the length given), then [`Refusal::NotTagString`] (13).
+    /// [`Refusal::SeparatorTooLong`] (6, of the length given), then [`Refusal::NotTagString`] (13), then [`Refusal::WordCountOutOfRange`] (1): the
+    /// string is read, but 64 calls do not suffice for its words, so no pattern and separator of that length have it. The words themselves are
+    /// then only given by [`ffi::tuilarder_read_tag`].
     pub fn read(string: &[u8], separator_length: usize) -> Result<(Pattern, &[u8]), Refusal> {
-        let mut pattern = Pattern {
-            words: [0; Pattern::MAX_WORDS],
-            count: 0,
-        };
+        let (mut words, mut count) = ([0; Pattern::MAX_WORDS], 0);
         // SAFETY: the string is valid for its length, and the words and the count are this function's own.
-        let number = unsafe {
-            ffi::tuilarder_read_tag(
-                string.as_ptr(),
-                string.len(),
-                separator_length,
-                &mut pattern.words,
-                &mut pattern.count,
-            )
-        };
+        let number =
+            unsafe { ffi::tuilarder_read_tag(string.as_ptr(), string.len(), separator_length, &mut words, &mut count) };
         result(number)?;
-        Ok((pattern, &string[string.len() - separator_length..]))
+        Ok((cut(&words[..count])?, &string[string.len() - separator_length..]))
     }
 
     /// The words as they were declared.
@@ -133,7 +119,8 @@ impl Pattern {
         self.words().iter().map(|&word| Call::of_word(word))
     }
 
-    /// The same pattern with neighbours of one kind added together.
+    /// The same pattern in the fewest calls: neighbours of one kind are added together, and what is then longer than [`Pattern::MAX_CALL`] is
+    /// cut into calls of that length and any rest.
     pub fn merged(&self) -> Pattern {
         let mut buffer = [0; 4 * Pattern::MAX_WORDS];
         let merged = self
@@ -160,6 +147,18 @@ impl fmt::Debug for Pattern {
         f.write_str("Pattern ")?;
         f.debug_list().entries(self.calls()).finish()
     }
+}
+
+/// The pattern of the words of a tag string, which are merged, and may be longer than a call.
+fn cut(words: &[u32]) -> Result<Pattern, Refusal> {
+    let mut pattern = Pattern {
+        words: [0; Pattern::MAX_WORDS],
+        count: 0,
+    };
+    // SAFETY: the slice is valid for its length, and the pattern is this function's own.
+    let number = unsafe { ffi::tuilarder_cut(words.as_ptr(), words.len(), &mut pattern.words, &mut pattern.count) };
+    result(number)?;
+    Ok(pattern)
 }
 
 /// Writes a tag string to the start of a buffer, and gives its length.

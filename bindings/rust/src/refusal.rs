@@ -44,12 +44,14 @@ macro_rules! refusals {
 }
 
 refusals! {
+    /// Given by [`Pattern::read`](crate::Pattern::read), it says that the string is read, but that 64 calls do not suffice for its words.
     1 WordCountOutOfRange "pattern of 0 or over 64 words",
     2 WordLengthZero "a word of length 0",
     /// Its first outputs would be bare zeros.
     3 FirstWordSqueeze "first word is SQUEEZE",
     4 LastWordAbsorb "last word is ABSORB",
-    5 MergedLengthTooLong "merged length above 2147483647",
+    /// Nothing gives it: 64 calls of [`Pattern::MAX_CALL`](crate::Pattern::MAX_CALL) elements add up to less.
+    5 MergedLengthTooLong "merged length above 2147483647 (unused)",
     6 SeparatorTooLong "separator over 256 bytes",
     7 RecordNotOpen "record not open",
     8 RecordNotSound "open record not sound",
@@ -68,6 +70,9 @@ refusals! {
     17 SeparatorTooShort "the separator asked about is under four bytes",
     /// Only functions of [`ffi`](crate::ffi) give it: a [`Field`](crate::Field) has a known number.
     18 FieldUnknown "field number neither 1 nor 2",
+    /// It is checked behind 2 and before 3. A longer phase is declared as several calls of one kind
+    /// ([`Pattern::MAX_CALL`](crate::Pattern::MAX_CALL)).
+    19 CallTooLong "a declared call above 16,777,216 elements",
 }
 
 impl core::error::Error for Refusal {}
