@@ -13,8 +13,8 @@ from tree import read, report
 
 ABSORB = 1 << 31
 SOURCES = ("bindings/rust/tests/api.rs", "bindings/c/tests/session.c")
-# numbers there that nothing answers with: both p, the longest length, and a word in hexadecimal digits
-OTHERS = {*oracle.PRIME.values(), 2147483647, 80000003}
+# numbers there that nothing answers with: both p, the longest length, the longest call, and a word in hexadecimal digits
+OTHERS = {*oracle.PRIME.values(), oracle.MAX_LENGTH, oracle.MAX_CALL, 80000003}
 
 
 def squeezed(field, lengths, separator, elements):

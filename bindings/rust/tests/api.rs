@@ -2,7 +2,7 @@
 //!
 //! Squeezed elements, permuted states and round constants are from the second implementation, in Python, of documents 01 and 02. The numbers
 //! and their conditions are those of docs/NUMBERS.md, the examples those of document 01's table, "Calls turned away"; B1 to B7 are its samples.
-//! What tables of owners give is worked out by hand from document 02.
+//! What tables of owners give, and how words are cut, is worked out by hand from document 02.
 
 use std::mem::{size_of, ManuallyDrop};
 use std::ptr;
@@ -17,18 +17,21 @@ use Field::{BabyBear, KoalaBear};
 
 const ABSORB_BIT: u32 = 1 << 31;
 const MAX_LENGTH: u32 = 2147483647;
+/// "limits one declared call to 16,777,216 elements".
+const LIMIT: u32 = 16777216;
 
 const NUMBERS: &str = include_str!("../../../docs/NUMBERS.md");
 
-/// Number, name and message of each refusal in the table of numbers that an exported function gives, or none.
-fn table() -> Vec<(u32, &'static str, &'static str)> {
+/// Number, name and message of each refusal in the table of numbers that an exported function gives, or no call: that is marked unused.
+fn table() -> Vec<(u32, &'static str, String)> {
     let exported = |call: &str| NUMBERS.contains(&format!("| {call} | `tuilarder_"));
     let rows = NUMBERS.lines().filter_map(|line| {
         let cells: Vec<&str> = line.split('|').map(str::trim).collect();
         let number = cells.get(1)?.parse().ok()?;
         let given = cells[7].is_empty() || cells[7].split(", ").any(exported);
         let message = if cells[4].is_empty() { cells[3] } else { cells[4] };
-        (number != 0 && given).then_some((number, cells[2], message))
+        let unused = if cells[7].is_empty() { " (unused)" } else { "" };
+        (number != 0 && given).then_some((number, cells[2], format!("{message}{unused}")))
     });
     rows.collect()
 }
@@ -36,7 +39,9 @@ fn table() -> Vec<(u32, &'static str, &'static str)> {
 /// Calls that get the number, of each place in the API that can give it.
 fn refused_with(number: u32) -> Vec<Result<(), Refusal>> {
     match number {
-        1..=5 => patterns_refused_with(number),
+        1..=4 | 19 => patterns_refused_with(number),
+        // it is unused
+        5 => vec![],
         6 | 12 | 13 => strings_refused_with(number),
         15..=17 => owners_refused_with(number),
         // a field's number is known
@@ -55,12 +60,19 @@ fn patterns_refused_with(number: u32) -> Vec<Result<(), Refusal>> {
             calls(&[]),
             calls(&[Squeeze(0); 65]),
             calls(&[Absorb(u32::MAX); 1000]),
+            // read, but 64 calls do not suffice
+            Pattern::read(&[0xff, 0xff, 0xff, 0xff, 0, 0, 0, 1], 0).map(drop),
+            Pattern::read(&[0xbf, 0, 0, 1, 0, 0, 0, 1], 0).map(drop),
         ],
         2 => vec![words(&[0x80000003, 0x00000000]), calls(&[Absorb(3), Squeeze(0)])],
         3 => vec![words(&[0x00000001]), calls(&[Squeeze(1)])],
         4 => vec![words(&[0x80000001]), calls(&[Absorb(1)])],
+        // the first two are number 5's former example and B3
         _ => vec![
             words(&[0xffffffff, 0x80000001, 0x00000001]),
+            words(&[0xfffffffe, 0x80000001, 0x00000001]),
+            words(&[0x81000001, 0x00000001]),
+            calls(&[Absorb(1), Squeeze(LIMIT + 1)]),
             calls(&[Absorb(MAX_LENGTH), Absorb(1), Squeeze(1)]),
             calls(&[Absorb(1), Squeeze(1 << 31)]),
         ],
@@ -190,15 +202,20 @@ fn no_other_number_is_a_refusal() {
 
 #[test]
 fn the_first_number_that_applies_is_given() {
-    let long = Absorb(u32::MAX);
     let number = |calls: &[Call]| Pattern::new(calls).map_err(Refusal::number).map(drop);
-    assert_eq!(number(&[Squeeze(1), long, Absorb(0)]), Err(2));
-    assert_eq!(number(&[Squeeze(1), long]), Err(3));
-    assert_eq!(number(&[long, Squeeze(1), Absorb(1)]), Err(4));
-    assert_eq!(number(&[long, Squeeze(1)]), Err(5));
-    assert_eq!(number(&[Absorb(1), Squeeze(u32::MAX)]), Err(5));
-    assert_eq!(number(&[Absorb(1 << 31), Squeeze(1)]), Err(5));
-    assert_eq!(number(&[Absorb(MAX_LENGTH), Squeeze(MAX_LENGTH)]), Ok(()));
+    for length in [LIMIT + 1, MAX_LENGTH, 1 << 31, u32::MAX] {
+        let long = Absorb(length);
+        assert_eq!(number(&[long; 65]), Err(1));
+        assert_eq!(number(&[Squeeze(1), long, Absorb(0)]), Err(2));
+        assert_eq!(number(&[Squeeze(1), long]), Err(19));
+        assert_eq!(number(&[Squeeze(length)]), Err(19));
+        assert_eq!(number(&[long, Squeeze(1), Absorb(1)]), Err(19));
+        assert_eq!(number(&[long, Squeeze(1)]), Err(19));
+        assert_eq!(number(&[Absorb(1), Squeeze(length)]), Err(19));
+    }
+    assert_eq!(number(&[Squeeze(LIMIT), Absorb(LIMIT)]), Err(3));
+    assert_eq!(number(&[Absorb(LIMIT), Absorb(LIMIT)]), Err(4));
+    assert_eq!(number(&[Absorb(LIMIT), Squeeze(LIMIT)]), Ok(()));
 }
 
 #[test]
@@ -221,8 +238,45 @@ fn merging_adds_neighbours_of_one_kind() {
     assert_eq!(b1().merged(), Pattern::new(&[Absorb(6), Squeeze(3)]).unwrap());
     assert_ne!(b1(), b1().merged());
     assert_eq!(format!("{:?}", b1()), "Pattern [Absorb(3), Absorb(3), Squeeze(3)]");
-    let b3 = Pattern::from_words(&[0xfffffffe, 0x80000001, 0x00000001]).unwrap();
-    assert_eq!(b3.merged().words(), [0xffffffff, 0x00000001]);
+}
+
+/// "cutting longer words into calls of 16,777,216 and any rest".
+#[test]
+fn what_merges_to_more_than_a_call_is_cut() {
+    let pattern = Pattern::new(&[Absorb(LIMIT - 1), Absorb(3), Squeeze(LIMIT), Squeeze(LIMIT)]).unwrap();
+    let merged = pattern.merged();
+    assert_eq!(
+        format!("{merged:?}"),
+        "Pattern [Absorb(16777216), Absorb(2), Squeeze(16777216), Squeeze(16777216)]"
+    );
+    assert_eq!(merged.merged(), merged);
+    let string = [0x81, 0, 0, 2, 0x02, 0, 0, 0, 7];
+    for pattern in [&pattern, &merged] {
+        assert_eq!(pattern.tag_string(&[7], &mut [0; 9]), Ok(&string[..]));
+    }
+    assert_eq!(Pattern::read(&string, 1), Ok((merged.clone(), &string[8..])));
+    let [first, second] = [pattern, merged].map(|pattern| Protocol::new(KoalaBear, &pattern, &[7]).unwrap());
+    assert_eq!(first.start().record(), second.start().record());
+    assert_eq!(first.start().record().words[..3], [0x81000002, 0x02000000, 0]);
+}
+
+/// Of 64 calls of the longest length, those that absorb or squeeze; for one element more there are not enough calls.
+#[test]
+fn merged_words_are_cut_into_at_most_64_calls() {
+    for absorbed in 1..64 {
+        let calls: Vec<Call> = (0..64)
+            .map(|k| if k < absorbed { Absorb(LIMIT) } else { Squeeze(LIMIT) })
+            .collect();
+        let pattern = Pattern::new(&calls).unwrap();
+        assert_eq!(pattern.merged(), pattern);
+        let words = [ABSORB_BIT | (absorbed * LIMIT), (64 - absorbed) * LIMIT];
+        let string = words.map(u32::to_be_bytes).concat();
+        assert_eq!(Pattern::read(&string, 0), Ok((pattern, &[][..])));
+        for longer in [[words[0] + 1, words[1]], [words[0], words[1] + 1]] {
+            let string = longer.map(u32::to_be_bytes).concat();
+            assert_eq!(Pattern::read(&string, 0), Err(Refusal::WordCountOutOfRange));
+        }
+    }
 }
 
 #[test]
@@ -586,6 +640,7 @@ fn a_fault_has_its_number_and_words() {
 #[test]
 fn the_figures_are_the_documents() {
     assert_eq!((RATE, CAPACITY, WIDTH, MAX_ROUND_CONSTANTS), (8, 16, 24, 744));
+    assert_eq!(Pattern::MAX_CALL, LIMIT);
     assert_eq!(BabyBear.prime(), 15 * (1 << 27) + 1);
     assert_eq!(KoalaBear.prime(), (1 << 31) - (1 << 24) + 1);
     assert_eq!((BabyBear.number(), KoalaBear.number()), (1, 2));

@@ -12,7 +12,7 @@ mod interfaces;
 mod run;
 
 use guarded::{Any, Random};
-use independent::{ABSORB, P_1, P_2};
+use independent::{length, ABSORB, LONGEST_CALL, P_1, P_2};
 use inputs::*;
 use interfaces::Interface;
 use run::Run;
@@ -55,6 +55,8 @@ by_both! {
     long_calls
     tags_written_and_read_back
     reading_of_any_string
+    words_cut_into_calls
+    long_words_read_cut_and_written
     hashes_of_any_bytes
     permutations_of_any_state
     constants_of_any_field
@@ -71,7 +73,7 @@ fn start_on_any_pattern_and_separator(library: &'static dyn Interface) {
         run.answered("field of a session", record.field);
         assert_eq!(record.field, if number == 0 { field } else { 0 });
     });
-    run.assert_numbers("START", &[0, 1, 2, 3, 4, 5, 6, 18]);
+    run.assert_numbers("START", &[0, 1, 2, 3, 4, 6, 18, 19]);
     run.assert_numbers("field of a session", &[0, 1, 2]);
     assert!(run.session_calls() >= START_CALLS);
 }
@@ -80,7 +82,7 @@ fn start_on_any_pattern_and_separator(library: &'static dyn Interface) {
 fn open(run: &mut Run, record: &mut Record) {
     let pairs = pairs(&mut run.random).min(4);
     let merged = merged_words(&mut run.random, pairs, short_length);
-    let words = cut_words(&mut run.random, &merged);
+    let words = split_words(&mut run.random, &merged);
     let (field, separator) = (known_field(&mut run.random), good_separator(&mut run.random));
     assert_eq!(run.call(record, Call::Start(field, words, separator)), 0);
 }
@@ -218,10 +220,15 @@ fn tags_written_and_read_back(library: &'static dyn Interface) {
         if number == 0 {
             let (number, merged) = run.read_tag(&string, separator.len());
             assert_eq!(number, 0);
-            assert_eq!(run.write_tag(&merged, &separator, size), (0, string));
+            let (number, calls) = run.cut(&merged);
+            assert_eq!(number, 0);
+            assert!(calls.len() <= words.len());
+            assert_eq!(run.write_tag(&calls, &separator, size), (0, string));
+            run.answered("cut further", u32::from(calls != merged));
         }
     });
-    run.assert_numbers("write_tag", &[0, 1, 2, 3, 4, 5, 6, 12]);
+    run.assert_numbers("write_tag", &[0, 1, 2, 3, 4, 6, 12, 19]);
+    run.assert_numbers("cut further", &[0, 1]);
     assert!(run.total(&["write_tag", "read_tag"]) >= 30_000);
 }
 
@@ -252,6 +259,46 @@ fn reading_of_any_string(library: &'static dyn Interface) {
         run.read_tag(&string, separator_length);
     });
     run.assert_numbers("read_tag", &[0, 6, 13]);
+}
+
+fn words_cut_into_calls(library: &'static dyn Interface) {
+    let run = Run::of("words_cut_into_calls", library, 20_000, |run| {
+        let words = any_words(&mut run.random);
+        let (number, calls) = run.cut(&words);
+        if number == 0 {
+            run.answered("calls", calls.len() as u32);
+        }
+    });
+    run.assert_numbers("cut", &[0, 1]);
+    run.assert_reached("calls", &[0, 1, 2, 62, 63, 64]);
+}
+
+/// A tag string whose words may be longer than a call. Its words are no pattern then; cut, where 64 calls suffice, they are one that has the string,
+/// and START's record has the words that were read.
+fn long_words_read_cut_and_written(library: &'static dyn Interface) {
+    let run = Run::of("long_words_read_cut_and_written", library, 10_000, |run| {
+        let pairs = pairs(&mut run.random);
+        let words = match run.random.below(2) {
+            0 => words_of_about_64_calls(&mut run.random),
+            _ => merged_words(&mut run.random, pairs, any_length),
+        };
+        let (field, separator) = (known_field(&mut run.random), good_separator(&mut run.random));
+        let mut string: Vec<u8> = words.iter().flat_map(|word| word.to_be_bytes()).collect();
+        string.extend(&separator);
+        assert_eq!(run.read_tag(&string, separator.len()), (0, words.clone()));
+        let (number, calls) = run.cut(&words);
+        let mut record = Record::any(&mut run.random);
+        if number == 0 {
+            assert_eq!(run.write_tag(&calls, &separator, string.len()), (0, string));
+            assert_eq!(run.call(&mut record, Call::Start(field, calls, separator.clone())), 0);
+            assert_eq!(record.words[..words.len()], words);
+        }
+        let longest = words.iter().map(|word| length(*word)).max();
+        let number = run.call(&mut record, Call::Start(field, words, separator));
+        assert_eq!(number, if longest > Some(LONGEST_CALL) { 19 } else { 0 });
+    });
+    run.assert_numbers("cut", &[0, 1]);
+    run.assert_numbers("START", &[0, 19]);
 }
 
 fn hashes_of_any_bytes(library: &'static dyn Interface) {

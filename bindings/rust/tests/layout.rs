@@ -29,6 +29,7 @@ const _: unsafe extern "C" fn(u32, *mut [u32; 744], *mut usize) -> u32 = ffi::tu
 const _: unsafe extern "C" fn(*const u32, usize, *const u8, usize, *mut u8, usize, *mut usize) -> u32 =
     ffi::tuilarder_write_tag;
 const _: unsafe extern "C" fn(*const u8, usize, usize, *mut [u32; 64], *mut usize) -> u32 = ffi::tuilarder_read_tag;
+const _: unsafe extern "C" fn(*const u32, usize, *mut [u32; 64], *mut usize) -> u32 = ffi::tuilarder_cut;
 const _: unsafe extern "C" fn(*const u8, usize, *mut [u8; 32]) = ffi::tuilarder_sha3_256;
 const _: unsafe extern "C" fn(*const u8, usize, *mut u32) -> u32 = ffi::tuilarder_check_owners;
 const _: unsafe extern "C" fn(*const u8, usize, *const u8, usize, *mut u32) -> u32 = ffi::tuilarder_owner;

@@ -146,6 +146,16 @@ fn string_of_more_than_32_bits_is_no_tag_string() {
     assert_eq!((number, words, count), (13, [0; 64], 0));
 }
 
+/// Zeros are words that stay, so that there are as many calls.
+#[test]
+fn words_of_more_than_32_bits_are_too_many_calls() {
+    let (mut words, mut calls, mut count) = (Zeros::<u32>::of((1 << 32) + 2), [77; 64], 77);
+    words[..2].copy_from_slice(&WORDS);
+    // SAFETY: the pointers are to that many cells, and the lists are apart.
+    let number = unsafe { ffi::tuilarder_cut(words.as_ptr(), words.len(), &mut calls, &mut count) };
+    assert_eq!((number, calls, count), (1, [0; 64], 0));
+}
+
 /// One row that holds every number, of product line 7.
 const WHOLE: [u8; 10] = [0, 0, 0, 0, 255, 255, 255, 255, 0, 7];
 

@@ -10,7 +10,7 @@ mod inputs;
 mod interfaces;
 mod run;
 
-use independent::{ABSORB, LONGEST};
+use independent::{ABSORB, LONGEST, LONGEST_CALL};
 use inputs::*;
 use interfaces::{
     check_protocol, field_of, number_and_place, number_of, perform, record_of, Independent, Interface, Types,
@@ -36,6 +36,7 @@ type Declared = tuilarder::Call;
 #[test]
 fn figures_are_those_of_the_documents() {
     assert_eq!((RATE, CAPACITY, WIDTH, MAX_ROUND_CONSTANTS), (8, 16, 24, 744));
+    assert_eq!(Pattern::MAX_CALL, LONGEST_CALL);
     assert_eq!(
         (Pattern::MAX_WORDS, Pattern::MAX_SEPARATOR, Pattern::MAX_TAG_STRING),
         (64, 256, 512)
@@ -68,13 +69,13 @@ const _: fn(Field) = |field| match field {
 };
 
 #[test]
-fn refusals_have_the_numbers_1_to_13_and_15_to_18() {
-    for number in (1..=13).chain(15..=18) {
+fn refusals_have_the_numbers_1_to_13_and_15_to_19() {
+    for number in (1..=13).chain(15..=19) {
         let refusal = Refusal::from_number(number).expect("a refusal");
         assert_eq!(number_of::<()>(&Err(refusal)), number);
     }
-    let others = (19..1 << 20)
-        .chain((5..32).map(|k| (1 << k) + 18))
+    let others = (20..1 << 20)
+        .chain((5..32).map(|k| (1 << k) + 19))
         .chain([0, 14, u32::MAX]);
     for number in others {
         assert_eq!(Refusal::from_number(number), None, "{number}");
@@ -94,7 +95,7 @@ fn others_are_possible(refusal: Refusal) -> bool {
         WordCountOutOfRange | WordLengthZero | FirstWordSqueeze | LastWordAbsorb | MergedLengthTooLong => false,
         SeparatorTooLong | RecordNotOpen | RecordNotSound | CallNotInPattern | ElementNotReduced => false,
         PatternNotDone | BufferTooShort | NotTagString | OwnersRowInvalid | OwnersGap | SeparatorTooShort => false,
-        FieldUnknown => false,
+        FieldUnknown | CallTooLong => false,
         _ => true,
     }
 }
@@ -126,13 +127,7 @@ const _: fn() = || {
 
 // Patterns
 
-fn length_of(call: Declared) -> u32 {
-    match call {
-        Absorb(length) | Squeeze(length) => length,
-    }
-}
-
-/// The word of a call, with the longest length in the place of one that no word can hold.
+/// The word of a call, with the longest length in the place of one that no word can hold: that one is above 16,777,216 too, and gets 19.
 fn word_of(call: Declared) -> u32 {
     match call {
         Absorb(length) => ABSORB + length.min(LONGEST),
@@ -148,23 +143,15 @@ fn call_of_kind(absorbing: bool, length: u32) -> Declared {
     }
 }
 
-/// The merged words, or the number.
+/// The merged words, cut into calls, or the number.
 fn merged(words: &[u32]) -> Result<Vec<u32>, u32> {
     let mut string = [0; 256];
     let size = independent::write_tag(words, &[], &mut string)?;
     let (number, merged, count) = independent::read_tag(&string[..size], 0);
     assert_eq!(number, 0);
-    Ok(merged[..count].to_vec())
-}
-
-/// The merged words of calls, or the number. A length that no word can hold is a merged length above the largest, so it is 5 after 1 to 4.
-fn merged_calls(calls: &[Declared]) -> Result<Vec<u32>, u32> {
-    let words: Vec<u32> = calls.iter().map(|call| word_of(*call)).collect();
-    let merged = merged(&words)?;
-    if calls.iter().any(|call| length_of(*call) > LONGEST) {
-        return Err(5);
-    }
-    Ok(merged)
+    let (number, calls, count) = independent::cut(&merged[..count]);
+    assert_eq!(number, 0);
+    Ok(calls[..count].to_vec())
 }
 
 fn hash_of(value: &impl Hash) -> u64 {
@@ -206,7 +193,8 @@ fn compare_accepted(pattern: &Pattern, calls: &[Declared], merged: &[u32]) {
 /// Makes a pattern of calls by both and compares all that it shows.
 fn compare_pattern(run: &mut Run, calls: &[Declared]) {
     run.last = Box::new(calls.to_vec());
-    let (answer, expected) = (Pattern::new(calls), merged_calls(calls));
+    let words: Vec<u32> = calls.iter().map(|call| word_of(*call)).collect();
+    let (answer, expected) = (Pattern::new(calls), merged(&words));
     let number = number_of(&answer);
     assert_eq!(number, expected.as_ref().err().copied().unwrap_or(0), "the number");
     if let (Ok(pattern), Ok(merged)) = (answer, expected) {
@@ -216,7 +204,16 @@ fn compare_pattern(run: &mut Run, calls: &[Declared]) {
 }
 
 /// Lengths at and above each limit of a call's.
-const LIMITS: [u32; 5] = [0, 1, 2147483647, 2147483648, u32::MAX];
+const LIMITS: [u32; 8] = [
+    0,
+    1,
+    LONGEST_CALL - 1,
+    LONGEST_CALL,
+    LONGEST_CALL + 1,
+    2147483647,
+    2147483648,
+    u32::MAX,
+];
 
 /// Whether call k of so many absorbs.
 const KINDS: [fn(usize, usize) -> bool; 5] = [
@@ -248,7 +245,7 @@ fn patterns_of_up_to_66_calls_with_each_limit_in_every_place() {
             }
         },
     );
-    run.assert_numbers("Pattern::new", &[0, 1, 2, 3, 4, 5]);
+    run.assert_numbers("Pattern::new", &[0, 1, 2, 3, 4, 19]);
 }
 
 #[test]
@@ -265,7 +262,7 @@ fn patterns_of_any_calls() {
         }
         compare_pattern(run, &calls);
     });
-    run.assert_numbers("Pattern::new", &[0, 1, 2, 3, 4, 5]);
+    run.assert_numbers("Pattern::new", &[0, 1, 2, 3, 4, 19]);
 }
 
 #[test]
@@ -295,7 +292,7 @@ fn separators_of_every_length() {
         let length = separator_length(run.case);
         for pairs in [1, 2, 32] {
             let merged = merged_words(&mut run.random, pairs, short_length);
-            let words = cut_words(&mut run.random, &merged);
+            let words = split_words(&mut run.random, &merged);
             let separator: Vec<u8> = run.random.list(length);
             let mut record = Record::WIPED;
             let field = known_field(&mut run.random);
@@ -330,9 +327,7 @@ fn hashes_of_every_length_up_to_2000() {
 
 /// A protocol of any pattern that is accepted, its parts, and the independent implementation's record.
 fn any_protocol(run: &mut Run) -> (Protocol, Field, Vec<u32>, Vec<u8>) {
-    let pairs = pairs(&mut run.random);
-    let merged = merged_words(&mut run.random, pairs, any_length);
-    let words = cut_words(&mut run.random, &merged);
+    let words = good_pattern(&mut run.random);
     let (number, separator) = (known_field(&mut run.random), good_separator(&mut run.random));
     let field = field_of(number).expect("a field");
     let pattern = Pattern::from_words(&words).expect("an accepted pattern");
@@ -482,7 +477,7 @@ impl Live {
 fn any_live(run: &mut Run) -> Live {
     let pairs = pairs(&mut run.random).min(4);
     let merged = merged_words(&mut run.random, pairs, short_length);
-    let words = cut_words(&mut run.random, &merged);
+    let words = split_words(&mut run.random, &merged);
     let size = run.random.below(257) as usize;
     let separator: Vec<u8> = run.random.list(size);
     let field = known_field(&mut run.random);

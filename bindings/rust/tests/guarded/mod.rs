@@ -267,6 +267,19 @@ pub fn read_tag(random: &mut Random, string: &[u8], separator_length: usize) -> 
     (number, words.returned()[0], count.returned()[0])
 }
 
+/// The number, the calls and their count.
+pub fn cut(random: &mut Random, words: &[u32]) -> (u32, [u32; 64], usize) {
+    let mut words = Lent::new(words, random);
+    let (mut calls, mut count) = (
+        Lent::new(&[<[u32; 64]>::any(random)], random),
+        Lent::new(&[usize::any(random)], random),
+    );
+    // SAFETY: the pointers are to that many cells, and the lists are apart.
+    let number = unsafe { ffi::tuilarder_cut(words.pointer(), words.len, calls.pointer(), count.pointer()) };
+    words.only_read();
+    (number, calls.returned()[0], count.returned()[0])
+}
+
 pub fn sha3_256(random: &mut Random, data: &[u8]) -> [u8; 32] {
     let (mut data, mut out) = (Lent::new(data, random), Lent::new(&[<[u8; 32]>::any(random)], random));
     // SAFETY: the pointers are to that many cells, and the lists are apart.

@@ -4,18 +4,30 @@
 #![allow(dead_code)]
 
 use crate::guarded::{Any, Random};
-use crate::independent::{self, length, ABSORB, LONGEST, MOST_WORDS, P_1, P_2};
+use crate::independent::{self, length, ABSORB, LONGEST, LONGEST_CALL, MOST_WORDS, P_1, P_2};
 use std::collections::BTreeSet;
 use tuilarder::ffi::Record;
 
 // Patterns and separators
 
+/// A length of 31 bits, as words of records and tag strings have: often one about a multiple of the longest call.
 pub fn any_length(random: &mut Random) -> u32 {
+    match random.below(8) {
+        0 => LONGEST - random.below(20) as u32,
+        1 => 1 + random.below(u64::from(LONGEST)) as u32,
+        2 => random.pick(&[1, 1, 2, 3, 64, 127]) * LONGEST_CALL - 1 + random.below(3) as u32,
+        _ => declared_length(random),
+    }
+}
+
+/// A length that a declared call may have, often the longest or one just below it.
+pub fn declared_length(random: &mut Random) -> u32 {
     match random.below(8) {
         0 => 1,
         1 => random.pick(&[7, 8, 9, 16, 17, 24]),
-        2 => LONGEST - random.below(20) as u32,
-        3 => 1 + random.below(u64::from(LONGEST)) as u32,
+        2 => LONGEST_CALL,
+        3 => LONGEST_CALL - random.below(20) as u32,
+        4 => 1 + random.below(u64::from(LONGEST_CALL)) as u32,
         _ => short_length(random),
     }
 }
@@ -31,12 +43,28 @@ pub fn merged_words(random: &mut Random, pairs: usize, length: fn(&mut Random) -
         .collect()
 }
 
+/// Words that alternate from ABSORB, for which it takes 64 calls, or one or two fewer or more: merged lengths add up to some 64 times the longest
+/// call.
+pub fn words_of_about_64_calls(random: &mut Random) -> Vec<u32> {
+    let mut calls = vec![1; 2 * pairs(random)];
+    for _ in calls.len()..random.pick(&[62, 63, 64, 64, 64, 65, 65, 66]) {
+        let k = random.below(calls.len() as u64) as usize;
+        calls[k] += 1;
+    }
+    let of_calls = |(k, calls): (usize, u32)| {
+        let any = random.below(u64::from(LONGEST_CALL)) as u32;
+        let less = random.pick(&[0, 0, 1, LONGEST_CALL - 1, any]);
+        calls * LONGEST_CALL - less + if k % 2 == 0 { ABSORB } else { 0 }
+    };
+    calls.into_iter().enumerate().map(of_calls).collect()
+}
+
 pub fn pairs(random: &mut Random) -> usize {
     random.pick(&[1, 1, 1, 2, 2, 3, 4, 8, 31, 32])
 }
 
-/// The words with some of them cut in two, up to 64 in all, which merge to the same.
-pub fn cut_words(random: &mut Random, merged: &[u32]) -> Vec<u32> {
+/// The words with some of them split in two, up to 64 in all, which merge to the same.
+pub fn split_words(random: &mut Random, merged: &[u32]) -> Vec<u32> {
     let mut words = merged.to_vec();
     for _ in 0..random.below(8) {
         let k = random.below(words.len() as u64) as usize;
@@ -49,14 +77,22 @@ pub fn cut_words(random: &mut Random, merged: &[u32]) -> Vec<u32> {
     words
 }
 
-/// Two words of a kind in the place of one, of a merged length at the largest or just over it.
-fn near_largest_sum(random: &mut Random, words: &mut Vec<u32>, k: usize) {
-    let first = 1 + random.below(u64::from(LONGEST)) as u32;
-    let second = LONGEST - first + random.pick(&[0, 0, 1, 2]);
-    if second > 0 {
-        words[k] = words[k] & ABSORB | first;
-        words.insert(k, words[k] & ABSORB | second.min(LONGEST));
+/// A pattern that is accepted. Merged, some of its words are longer than a call.
+pub fn good_pattern(random: &mut Random) -> Vec<u32> {
+    let (number, calls, count) = independent::cut(&words_of_about_64_calls(random));
+    if number == 0 && random.once_in(4) {
+        return split_words(random, &calls[..count]);
     }
+    let pairs = pairs(random);
+    let merged = merged_words(random, pairs, declared_length);
+    let mut words = split_words(random, &merged);
+    for _ in 0..random.below(6) {
+        let k = random.below(words.len() as u64) as usize;
+        if words.len() < MOST_WORDS {
+            words.insert(k, words[k] & ABSORB | declared_length(random));
+        }
+    }
+    words
 }
 
 fn damage_pattern(random: &mut Random, words: &mut Vec<u32>) {
@@ -69,7 +105,8 @@ fn damage_pattern(random: &mut Random, words: &mut Vec<u32>) {
         0 => words[k] &= ABSORB,
         1 => words[0] ^= ABSORB,
         2 => words[last] ^= ABSORB,
-        3 | 4 => near_largest_sum(random, words, k),
+        3 => words[k] = words[k] & ABSORB | LONGEST_CALL + random.pick(&[0, 1, 1, 2]),
+        4 => words[k] = words[k] & ABSORB | any_length(random),
         5 => words[k] = u32::any(random),
         6 => {
             *words = words
@@ -87,13 +124,29 @@ fn damage_pattern(random: &mut Random, words: &mut Vec<u32>) {
 
 /// Any pattern: most of them good, others damaged in one or several ways.
 pub fn any_pattern(random: &mut Random) -> Vec<u32> {
-    let pairs = pairs(random);
-    let merged = merged_words(random, pairs, any_length);
-    let mut words = cut_words(random, &merged);
+    let mut words = good_pattern(random);
     for _ in 0..random.pick(&[0, 0, 0, 1, 1, 2, 3]) {
         damage_pattern(random, &mut words);
     }
     words
+}
+
+/// Any list of words: patterns, words that are merged and long, and others, empty ones too.
+pub fn any_words(random: &mut Random) -> Vec<u32> {
+    match random.below(4) {
+        0 => any_pattern(random),
+        1 => words_of_about_64_calls(random),
+        2 => {
+            let pairs = pairs(random);
+            merged_words(random, pairs, any_length)
+        }
+        _ => {
+            let lengths: fn(&mut Random) -> u32 = random.pick(&[any_length, declared_length]);
+            let size = random.pick(&[0, 1, 2, 3, 5, 62, 63, 64, 65, 66, 1000]);
+            let length = |random: &mut Random| if random.once_in(4) { 0 } else { lengths(random) };
+            (0..size).map(|_| u32::any(random) & ABSORB | length(random)).collect()
+        }
+    }
 }
 
 pub fn any_separator(random: &mut Random) -> Vec<u8> {

@@ -23,6 +23,8 @@ pub trait Interface {
     fn write_tag(&self, noise: &mut Random, words: &[u32], separator: &[u8], out: &mut [u8]) -> (u32, usize);
     /// The number, the words and their count.
     fn read_tag(&self, noise: &mut Random, string: &[u8], separator_length: usize) -> (u32, [u32; 64], usize);
+    /// The number, the calls and their count.
+    fn cut(&self, noise: &mut Random, words: &[u32]) -> (u32, [u32; 64], usize);
     fn sha3_256(&self, noise: &mut Random, data: &[u8]) -> [u8; 32];
     /// The number, and the place that comes with it.
     fn check_owners(&self, noise: &mut Random, table: &[u8]) -> (u32, u32);
@@ -80,6 +82,9 @@ impl Interface for Functions {
     fn read_tag(&self, noise: &mut Random, string: &[u8], separator_length: usize) -> (u32, [u32; 64], usize) {
         guarded::read_tag(noise, string, separator_length)
     }
+    fn cut(&self, noise: &mut Random, words: &[u32]) -> (u32, [u32; 64], usize) {
+        guarded::cut(noise, words)
+    }
     fn sha3_256(&self, noise: &mut Random, data: &[u8]) -> [u8; 32] {
         guarded::sha3_256(noise, data)
     }
@@ -94,7 +99,7 @@ impl Interface for Functions {
 // The types
 
 /// The refusals, each with the number that documents 01 and 02 have for it; 14 belongs to cards.
-const REFUSALS: [(u32, Refusal); 17] = [
+const REFUSALS: [(u32, Refusal); 18] = [
     (1, Refusal::WordCountOutOfRange),
     (2, Refusal::WordLengthZero),
     (3, Refusal::FirstWordSqueeze),
@@ -112,6 +117,7 @@ const REFUSALS: [(u32, Refusal); 17] = [
     (16, Refusal::OwnersGap),
     (17, Refusal::SeparatorTooShort),
     (18, Refusal::FieldUnknown),
+    (19, Refusal::CallTooLong),
 ];
 
 /// The number of an answer by its variant, which has to be the one that the crate gives it.
@@ -178,11 +184,24 @@ pub fn check_protocol(protocol: &Protocol, field: Field, words: &[u32], separato
     assert_eq!(protocol.tag_string(), &string[..size], "the protocol's tag string");
 }
 
+/// Words with zeros behind them.
+fn in_64_places(words: &[u32]) -> [u32; 64] {
+    std::array::from_fn(|k| words.get(k).copied().unwrap_or(0))
+}
+
+/// The merged words of a pattern, by its tag string.
+fn merged_words(pattern: &Pattern) -> Vec<u32> {
+    let mut buffer = [0; 256];
+    let string = pattern.tag_string(&[], &mut buffer).expect("an accepted pattern");
+    let words = string.chunks(4).map(|four| four.try_into().expect("four bytes"));
+    words.map(u32::from_be_bytes).collect()
+}
+
 pub struct Types;
 
 impl Interface for Types {
-    /// No type holds an unknown field, so that 18 is not asked for. Numbers 1 to 5 are those of the pattern, 6 is the protocol's. Refused, it
-    /// gives no record.
+    /// No type holds an unknown field, so that 18 is not asked for. Numbers 1, 2, 19, 3 and 4 are those of the pattern, 6 is the protocol's.
+    /// Refused, it gives no record.
     fn start(&self, noise: &mut Random, record: &mut Record, field: u32, words: &[u32], separator: &[u8]) -> u32 {
         *record = Record::WIPED;
         let Some(field) = field_of(field) else {
@@ -245,7 +264,7 @@ impl Interface for Types {
         (0, lent.returned()[0], count)
     }
 
-    /// Numbers 1 to 5 are those of the pattern.
+    /// Numbers 1, 2, 19, 3 and 4 are those of the pattern.
     fn write_tag(&self, noise: &mut Random, words: &[u32], separator: &[u8], out: &mut [u8]) -> (u32, usize) {
         let mut lent = Lent::new(out, noise);
         let start = lent.part().as_ptr();
@@ -258,24 +277,48 @@ impl Interface for Types {
         (number_of(&answer), answer.unwrap_or(0))
     }
 
-    /// Refused, it gives no words.
+    /// What was read are the merged words, which the pattern's own tag string has; what it declares is compared with them cut. Refused, it gives
+    /// no words. With 1 they are read, and no type shows them: 64 calls must not suffice for those that the independent implementation reads.
     fn read_tag(&self, noise: &mut Random, string: &[u8], separator_length: usize) -> (u32, [u32; 64], usize) {
         let string = Lent::new(string, noise);
         let answer = Pattern::read(string.part(), separator_length);
         let number = number_of(&answer);
         string.only_read();
-        let Ok((pattern, separator)) = answer else {
-            return (number, [0; 64], 0);
+        let (pattern, separator) = match answer {
+            Ok(read) => read,
+            Err(Refusal::WordCountOutOfRange) => {
+                let (number, words, count) = independent::read_tag(string.part(), separator_length);
+                assert_eq!(
+                    (number, independent::cut(&words[..count]).0),
+                    (0, 1),
+                    "read, and not cut"
+                );
+                return (number, words, count);
+            }
+            Err(_) => return (number, [0; 64], 0),
         };
         let expected = independent::read_separator(string.part(), separator_length);
         assert!(ptr::eq(separator, expected), "not that part of the string");
-        let words = pattern.words();
-        assert_eq!(pattern, Pattern::from_words(words).expect("words of a tag string"));
-        (
-            number,
-            std::array::from_fn(|k| words.get(k).copied().unwrap_or(0)),
-            words.len(),
-        )
+        let calls = pattern.words();
+        assert_eq!(pattern, Pattern::from_words(calls).expect("calls of a tag string"));
+        let merged = merged_words(&pattern);
+        assert_eq!(
+            (0, in_64_places(calls), calls.len()),
+            independent::cut(&merged),
+            "the calls"
+        );
+        (number, in_64_places(&merged), merged.len())
+    }
+
+    /// Only a tag string's words are cut, as it is read; others are not asked for.
+    fn cut(&self, noise: &mut Random, words: &[u32]) -> (u32, [u32; 64], usize) {
+        let string: Vec<u8> = words.iter().flat_map(|word| word.to_be_bytes()).collect();
+        let string = Lent::new(&string, noise);
+        match Pattern::read(string.part(), 0) {
+            Ok((pattern, _)) => (0, in_64_places(pattern.words()), pattern.words().len()),
+            Err(Refusal::NotTagString) => independent::cut(words),
+            refused => (number_of(&refused), [0; 64], 0),
+        }
     }
 
     fn sha3_256(&self, noise: &mut Random, data: &[u8]) -> [u8; 32] {
@@ -345,6 +388,9 @@ impl Interface for Independent {
     }
     fn read_tag(&self, _: &mut Random, string: &[u8], separator_length: usize) -> (u32, [u32; 64], usize) {
         independent::read_tag(string, separator_length)
+    }
+    fn cut(&self, _: &mut Random, words: &[u32]) -> (u32, [u32; 64], usize) {
+        independent::cut(words)
     }
     fn sha3_256(&self, _: &mut Random, data: &[u8]) -> [u8; 32] {
         independent::sha3_256(data)

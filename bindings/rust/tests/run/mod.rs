@@ -161,6 +161,16 @@ impl Run {
         (answer.0, answer.1[..answer.2].to_vec())
     }
 
+    /// Words cut by both. Gives the number and the calls.
+    pub fn cut(&mut self, words: &[u32]) -> (u32, Vec<u32>) {
+        self.last = Box::new(("cut", words.to_vec()));
+        let expected = Independent.cut(&mut self.noise, words);
+        let answer = self.library.cut(&mut self.noise, words);
+        assert_eq!(answer, expected, "the number, the calls and their count");
+        self.answered("cut", answer.0);
+        (answer.0, answer.1[..answer.2].to_vec())
+    }
+
     /// Hashing by both.
     pub fn sha3_256(&mut self, data: &[u8]) {
         self.last = Box::new(("sha3_256", data.to_vec()));
