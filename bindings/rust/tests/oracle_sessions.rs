@@ -13,13 +13,13 @@ mod stored;
 
 use guarded::Random;
 use interfaces::{Functions, Independent, Interface, Types};
-use stored::{bytes_of, Line};
+use stored::{bytes_of, words_of, Line};
 use tuilarder::ffi::Record;
 
 const PROGRAM: &str = "session_vectors";
-const LINES: usize = 8679;
-const CALLS: usize = 7630;
-const RECORDS: usize = 1049;
+const LINES: usize = 8711;
+const CALLS: usize = 7650;
+const RECORDS: usize = 1061;
 
 /// A record as its three lists: the numbers with the permutations as two words, the state, and the pattern words.
 type Lists = [Vec<u32>; 3];
@@ -62,13 +62,6 @@ struct Replay {
     by: &'static dyn Interface,
     record: Record,
     noise: Random,
-}
-
-fn words_of(digits: &str) -> Vec<u32> {
-    assert_eq!(digits.len() % 8, 0);
-    (0..digits.len() / 8)
-        .map(|k| u32::from_str_radix(&digits[8 * k..8 * k + 8], 16).unwrap())
-        .collect()
 }
 
 fn word_of(digits: &str) -> u32 {

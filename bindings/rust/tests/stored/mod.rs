@@ -1,5 +1,8 @@
 //! What is stored for a program of `crates/`: its input and its output, line by line.
 
+// Each program that takes this file in uses only a part of it.
+#![allow(dead_code)]
+
 use std::path::PathBuf;
 
 /// The lines of `stdin` or `stdout`.
@@ -15,6 +18,13 @@ pub fn bytes_of(digits: &str) -> Vec<u8> {
     (0..digits.len() / 2)
         .map(|k| u8::from_str_radix(&digits[2 * k..2 * k + 2], 16).unwrap())
         .collect()
+}
+
+pub fn words_of(digits: &str) -> Vec<u32> {
+    let bytes = bytes_of(digits);
+    assert_eq!(bytes.len() % 4, 0);
+    let fours = bytes.chunks(4).map(|four| four.try_into().expect("four bytes"));
+    fours.map(u32::from_be_bytes).collect()
 }
 
 /// Says which line it was if any check fails while its call is replayed.
