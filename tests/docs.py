@@ -5,10 +5,10 @@
   tests/docs.py oracle
   tests/docs.py picture > docs/session.svg
 
-`test` runs every example and compares what it prints with the documents, looks for the code that they show in the examples, and draws
-docs/session.svg again. `oracle` does every example once more over the second implementation, in Python, written from the papers by other hands
-(tests/oracle), and compares the documents with what that gives; so it does with the figures of the fields in the guide, the header and the Rust
-crate's documentation. `picture` draws the picture from its states.
+`test` runs every example and compares what it prints with the documents, looks for the code that they show in the examples, and for what is C in its
+tests, and draws docs/session.svg again. `oracle` does every example once more over the second implementation, in Python, written from the papers by other hands
+(tests/oracle), and compares the documents with what that gives; so it does with the figures of the fields and of calls in the guide, the header and
+the Rust crate's documentation. `picture` draws the picture from its states.
 """
 import glob
 import os
@@ -62,6 +62,8 @@ def test():
         assert printed(example) == output, example
     for code in blocks("rust"):
         assert any(code in text for text in examples.values()), code
+    for code in blocks("c"):
+        assert code in read("bindings", "c", "tests", "session.c"), code
     assert drawn(printed("states")) == read("docs", "session.svg"), "docs/session.svg is not what docs/session_picture.py draws"
     print(f"docs: {len(outputs)} examples print what is shown")
 
@@ -115,6 +117,11 @@ def words(calls):
     return [(ABSORB if call[0] == "a" else 0) + int(call[1:]) for call in calls.split()]
 
 
+def declared_as(words):
+    """Words as Rust shows their calls."""
+    return ", ".join(f"{'Absorb' if word >= ABSORB else 'Squeeze'}({word % ABSORB})" for word in words)
+
+
 def opened(out, calls, separator, field=1):
     out.append(f"tag string {oracle.tag_string(words(calls), separator).hex()}")
     number, record = oracle.start(words(calls), separator, field)
@@ -158,8 +165,8 @@ def fields(out):
 def pattern(out):
     declared = words("a3 a3 s3")
     out += [f"{name} [{', '.join('%08x' % w for w in ws)}]" for name, ws in (("declared", declared), ("merged", oracle.merged(declared)))]
-    for calls, name in (("s1", "[Squeeze(1)]"), ("a1", "[Absorb(1)]"), ("a3 s0", "[Absorb(3), Squeeze(0)]")):
-        out.append(f"{name} is {Refused(oracle.start_number(words(calls), b''))}")
+    for calls in ("s1", "a1", "a3 s0", "a16777217 s1"):
+        out.append(f"[{declared_as(words(calls))}] is {Refused(oracle.start_number(words(calls), b''))}")
 
 
 def bytes_of(string):
@@ -169,9 +176,29 @@ def bytes_of(string):
 def tag_string(out):
     string = oracle.tag_string(words("a3 a3 s3"), b"AB")
     number, merged, count, separator = oracle.read_tag(string, 2)
-    assert (number, merged[:count]) == (0, words("a6 s3"))
-    out += [f"tag string {bytes_of(string)}", f"read with length 2: Pattern [Absorb(6), Squeeze(3)], separator {bytes_of(separator)}",
+    refuse(number)
+    out += [f"tag string {bytes_of(string)}", f"read with length 2: Pattern [{declared_as(merged[:count])}], separator {bytes_of(separator)}",
             f"read with length 3: {Refused(oracle.read_tag(string, 3)[0])}"]
+
+
+def long_phases(out):
+    out.append(f"one call is {Refused(oracle.start_number(words('a8 s20000000'), b'long'))}")
+    declared, firsts = words("a8 s10000000 s10000000"), []
+    string = oracle.tag_string(declared, b"long")
+    number, merged, count, separator = oracle.read_tag(string, 4)
+    refuse(number)
+    read = oracle.cut(merged[:count])
+    out += [f"tag string {bytes_of(string)}", f"read Pattern [{declared_as(read)}]", f"tag string {bytes_of(oracle.tag_string(read, separator))}"]
+    for calls in (declared, read):
+        number, record = oracle.start(calls, separator)
+        refuse(number)
+        taken = Session(record)
+        taken.absorb([*range(1, 9)])
+        firsts.append(taken.squeeze(2))
+    out.append(f"{firsts[0]} {firsts[1]}")
+    number, merged, count, separator = oracle.read_tag(bytes.fromhex("ffffffff00000001"), 0)
+    refuse(number)
+    out.append(f"ffffffff 00000001 is {Refused(oracle.start_number(oracle.cut(merged[:count]), separator))}")
 
 
 def session(out):
@@ -324,21 +351,23 @@ def states(out):
     session.finish()
 
 
-# ---- the figures of the fields
+# ---- the figures of the fields and of calls
 
 def of_both(text):
-    """A text with each field's prime p, power, partial rounds and number of constants c."""
+    """A text with each field's prime p, power, partial rounds and number of constants c; and with the most words and the longest call."""
     ordinals = {3: "third", 7: "seventh"}
     figures = {f"{name}{field}": figure for field in (1, 2) for name, figure in (
         ("p", oracle.PRIME[field]), ("power", ordinals[oracle.POWER[field]]), ("partial", oracle.PARTIAL[field]), ("c", oracle.generate(field)[2]))}
-    return text.format(full=oracle.FULL // 2, largest=oracle.PRIME[1] - 1, **figures)
+    return text.format(full=oracle.FULL // 2, largest=oracle.PRIME[1] - 1, words=oracle.MAX_WORDS, call=f"{oracle.MAX_CALL:,}", **figures)
 
 
-# of each source what it says of the fields
+# of each source what it says of them
 FIGURES = {
     "docs/GUIDE.md": ("| | BabyBear | KoalaBear |", "| number in C, Rattle and records | 1 | 2 |", "| p | {p1} = 15 × 2^27 + 1 | {p2} = 2^31 − 2^24 + 1 |",
                       "| power in a round | {power1} | {power2} |", "| round constants | {c1} | {c2} |", "from 0 to {largest} for BabyBear",
-                      "| rounds of a permutation: full, partial, full | {full}, {partial1}, {full} | {full}, {partial2}, {full} |"),
+                      "| rounds of a permutation: full, partial, full | {full}, {partial1}, {full} | {full}, {partial2}, {full} |",
+                      "at most {words} calls, of at most {call} elements each", "One declared call has at most {call} elements.",
+                      "calls of {call} elements and any rest"),
     "bindings/c/tuilarder.h": ("KoalaBear's. BabyBear has {c1}.", "{c1} of BabyBear, {c2} of KoalaBear"),
     "bindings/rust/src/lib.rs": ("BabyBear (p = {p1}) or KoalaBear (p = {p2})", "{c1} of BabyBear, {c2} of KoalaBear"),
     "bindings/rust/src/field.rs": ("Number 1, with p = {p1}. BabyBear = 1,", "Number 2, with p = {p2}. KoalaBear = 2,"),

@@ -514,8 +514,8 @@ static void test_cut_of_copies(void)
         uint32_t call;
         size_t calls;
     } examples[] = {
-        {7, 64, 7, 64}, {7, 65, 0, 0}, {0, 64, 0, 64}, {0, 65, 0, 0}, {0, 1000000, 0, 0},
-        {64 * LIMIT, 1, LIMIT, 64}, {64 * LIMIT + 1, 1, 0, 0}, {0x7fffffff, 1, 0, 0}, {0xffffffff, 1000000, 0, 0},
+        {7, 64, 7, 64}, {7, 65, 0, 0}, {0, 64, 0, 64}, {0, 65, 0, 0}, {0, 500000, 0, 0},
+        {64 * LIMIT, 1, LIMIT, 64}, {64 * LIMIT + 1, 1, 0, 0}, {0x7fffffff, 1, 0, 0}, {0xffffffff, 500000, 0, 0},
         {A | (64 * LIMIT), 1, A | LIMIT, 64}, {A | (64 * LIMIT), 2, 0, 0}, {A | (2 * LIMIT), 32, A | LIMIT, 64},
         {A | (2 * LIMIT), 33, 0, 0}, {A | LIMIT, 64, A | LIMIT, 64}, {A | LIMIT, 65, 0, 0}, {A | (LIMIT + 1), 33, 0, 0},
     };
@@ -556,11 +556,41 @@ static void test_longest_calls(void)
     give_back(&written);
 }
 
+/* START for a tag string, as the guide shows it. */
+static uint32_t start_of_string(struct tuilarder_session *session, const uint8_t *string, size_t length, size_t separator_length)
+{
+    uint32_t words[TUILARDER_MAX_WORDS], calls[TUILARDER_MAX_WORDS];
+    size_t word_count, call_count;
+    uint32_t number = tuilarder_read_tag(string, length, separator_length, words, &word_count);
+    if (number == TUILARDER_ACCEPTED)
+        number = tuilarder_cut(words, word_count, calls, &call_count);
+    if (number == TUILARDER_ACCEPTED)
+        number = tuilarder_start(session, TUILARDER_BABY_BEAR, calls, call_count, string + (length - separator_length), separator_length);
+    return number;
+}
+
+/* A phase of 20,000,000 elements, declared as two calls, and the session of its tag string. */
+static void test_start_of_string(void)
+{
+    const uint32_t declared[3] = {A | 8, 10000000u, 10000000u};
+    struct tuilarder_session first, second;
+    struct lent string = lend(12, 0);
+    size_t length;
+    CHECK(tuilarder_start(&first, BABY_BEAR, declared, 3, (const uint8_t *)"long", 4) == TUILARDER_ACCEPTED);
+    CHECK(tuilarder_write_tag(declared, 3, (const uint8_t *)"long", 4, string.part, 12, &length) == TUILARDER_ACCEPTED && length == 12);
+    remember(&string);
+    CHECK(start_of_string(&second, string.part, 12, 4) == TUILARDER_ACCEPTED && same(&string));
+    CHECK(same_members(&first, &second) && second.words[1] == 20000000u);
+    CHECK(start_of_string(&second, string.part, 12, 5) == TUILARDER_NOT_TAG_STRING);
+    give_back(&string);
+}
+
 /* The longest lengths, which are read, and for which 64 calls do not suffice; so with one element more than 64 calls have. */
 static void test_read_and_not_cut(void)
 {
     static const uint8_t strings[2][8] = {{0xff, 0xff, 0xff, 0xff, 0x7f, 0xff, 0xff, 0xff}, {0xbf, 0, 0, 1, 0, 0, 0, 1}};
     static const uint32_t wanted[2][TUILARDER_MAX_WORDS] = {{0xffffffff, 0x7fffffff}, {A | (63 * LIMIT + 1), 1}}, zeros[TUILARDER_MAX_WORDS];
+    struct tuilarder_session session;
     for (size_t i = 0; i < 2; i++) {
         struct lent words = lend(sizeof *wanted, 0), used;
         size_t count = 0;
@@ -568,6 +598,7 @@ static void test_read_and_not_cut(void)
         CHECK(count == 2 && holds(&words, wanted[i]));
         used = lend_copy(words.part, 2 * sizeof(uint32_t));
         check_cut(&used, TUILARDER_WORD_COUNT_OUT_OF_RANGE, zeros, 0);
+        CHECK(start_of_string(&session, strings[i], 8, 0) == TUILARDER_WORD_COUNT_OUT_OF_RANGE);
         give_back(&used);
         give_back(&words);
     }
@@ -827,6 +858,7 @@ int main(void)
     test_cut();
     test_cut_of_copies();
     test_longest_calls();
+    test_start_of_string();
     test_read_and_not_cut();
     test_empty(NULL);
     test_empty(empty.part);
