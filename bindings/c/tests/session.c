@@ -232,8 +232,8 @@ static void test_members(uint32_t field)
 
 /* ---- an example of each number */
 
-/* Document 01's examples for 1 to 6, of which that for 5 and the sample B3 now get 19; 65 words; 19 behind 2 and before 3, whichever word is at
-   fault; and what is just accepted. */
+/* Document 01's examples for 1 to 6, of which 5's gets 19, as sample B3 does; 65 words; 19 behind 2 and before 3, whichever word is at fault; and
+   what is just accepted. */
 static const struct start_example {
     uint32_t number;
     uint32_t words[4];

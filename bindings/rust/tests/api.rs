@@ -67,7 +67,7 @@ fn patterns_refused_with(number: u32) -> Vec<Result<(), Refusal>> {
         2 => vec![words(&[0x80000003, 0x00000000]), calls(&[Absorb(3), Squeeze(0)])],
         3 => vec![words(&[0x00000001]), calls(&[Squeeze(1)])],
         4 => vec![words(&[0x80000001]), calls(&[Absorb(1)])],
-        // the first two are number 5's former example and B3
+        // the first two are document 01's example for 5, and B3
         _ => vec![
             words(&[0xffffffff, 0x80000001, 0x00000001]),
             words(&[0xfffffffe, 0x80000001, 0x00000001]),
