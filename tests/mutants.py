@@ -404,7 +404,6 @@ CRATE = of(
     ("ffi_read_tag_const", "count: *mut usize,\n", "count: *const usize,\n", "the count is lent as read only"),
     ("ffi_cut_const", "words_len: usize, calls: *mut [u32; 64]", "words_len: usize, calls: *const [u32; 64]", "the calls are lent as read only"),
     ("ffi_cut_count", "calls: *mut [u32; 64], count: *mut usize", "calls: *mut [u32; 64], count: *const usize", "the count is lent as read only"),
-    ("ffi_cut_words", "tuilarder_cut(words: *const u32", "tuilarder_cut(words: *mut u32", "words that are only read are lent to be written"),
     ("ffi_cut_name", "words_len: usize, calls", "calls_len: usize, calls", "the length has another list's name"),
     ("ffi_cut_check_owners", *called_for("tuilarder_cut", "tuilarder_check_owners"), "cutting is the check of a table"),
     ("ffi_hash_answers", "out: *mut [u8; 32]);", "out: *mut [u8; 32]) -> u32;", "the hash has an answer"),
