@@ -21,8 +21,10 @@ use Rattle.field.proofs.Congruence as congruence
 use Rattle.field.proofs.Moduli as moduli
 use Rattle.poseidon_tables.specs.Tables.{constants, inverses}
 use Rattle.poseidon_tables.proofs.Entries.{inverses-rule}
-use Rattle.poseidon.specs.Permutation.{Parameters, addConstants, raiseAll, raiseFirst, raise, round, rounds, permutation, parameters, permuted}
+use Rattle.poseidon.specs.Permutation.{Parameters, addConstants, raiseAll, raiseFirst, raise, multiply, round, rounds, permutation, parameters, permuted}
+use Rattle.poseidon.specs.Steps.{plainSums}
 use Rattle.poseidon.proofs.Bounds.{multiplied}
+use Rattle.poseidon.proofs.PlainSums.{sums-below, round-of-plain-sums}
 use Rattle.poseidon.proofs.Remainders.{round-congruent}
 use Rattle.pattern.specs.Opening.{Opening, openingNumber}
 use Rattle.sponge.specs.Sponge.{readyToAbsorb, absorbElement, readyToSqueeze, squeezedElement, squeezeElement}
@@ -121,6 +123,19 @@ rounds-by-remainders F r s t h = round-congruent F r s t (λ k l. record { same 
 pub rounds-give-elements : (F : Parameters) → 0 < F .modulus → (r : ℕ) (s : List ℕ)
     → (length (round F r s) ≡ 24) × Below (F .modulus) (round F r s)
 rounds-give-elements F positive r s = let after = multiplied F positive _ in (after .long, after .reduced)
+
+-- Document 02, P5: "Let that sum be the plain sum of its two inputs, unreduced, so below 2p for inputs below p.": what the code adds a round's constants
+-- by, and that a round goes on from there as the definition's does, "since the products that follow reduce anyway".
+pub sums-are-plain : (constants : List ℕ) (r : ℕ) (s : List ℕ) (i : ℕ) → i < 24 → getD (plainSums constants r s) i 0 ≡ getD s i 0 + getD constants (24 * r + i) 0
+unfolding plainSums
+sums-are-plain constants r s i h = tabulate-at 24 _ i h
+
+pub plain-sums-are-below-2p : (F : Parameters) → 0 < F .modulus → (r : ℕ) (s : List ℕ) → Below (F .modulus) s → Below (F .modulus) (F .constants)
+    → Below (2 * F .modulus) (plainSums (F .constants) r s)
+plain-sums-are-below-2p = sums-below
+
+pub rounds-of-plain-sums : (F : Parameters) (r : ℕ) (s : List ℕ) → multiply F (raise F r (plainSums (F .constants) r s)) ≡ round F r s
+rounds-of-plain-sums = round-of-plain-sums
 
 -- "and each field cites them": its sums and products go by remainders, and are elements of it;
 pub arithmetic-of-each-field : (f : Field) (a b : ℕ)
