@@ -125,10 +125,11 @@ module _ (w : ℕ) (ws : List ℕ) (r : PassedWords (w ∷ ws)) where
       subst (λ (k : Bool). Alternating k (merge (map phaseOf (w ∷ ws)))) (not-false _ (r .e3))
       (merge-alternating (phaseOf w) (map phaseOf ws) (p .0) (p .1))
 
-  even-words : length ps % 2 ≡ 0
+  -- where the last word is SQUEEZE, they are even in number
+  pub even-words : isAbsorb (getD (w ∷ ws) (length (w ∷ ws) - 1) 0) ≡ false → length ps % 2 ≡ 0
   unfolding phases shift
-  even-words =
-      omega (arith, even-count true ps alternating (merge-last (map phaseOf (w ∷ ws)) false ∙ last-word w ws false ∙ r .e4))
+  even-words squeezes =
+      omega (arith, even-count true ps alternating (merge-last (map phaseOf (w ∷ ws)) false ∙ last-word w ws false ∙ squeezes))
 
   some-phases : 1 ≤ length ps
   unfolding phases merge
@@ -138,11 +139,10 @@ module _ (w : ℕ) (ws : List ℕ) (r : PassedWords (w ∷ ws)) where
   unfolding mergedWords
   rows-sound =
       let count = length-map ps wordOf in
-      let even = even-words in
       let few = merged-words-length (w ∷ ws) in
       let most = few-declared (w ∷ ws) (r .e1) in
       let words = words-alternate true ps alternating (merged-fit (w ∷ ws) r) in
-      right-count (map wordOf ps) (omega (arith, some-phases)) (omega arith) (omega arith) ∙ and-both _ _ (words .0) (words .1)
+      right-count (map wordOf ps) (omega (arith, some-phases)) (omega arith) ∙ and-both _ _ (words .0) (words .1)
 
 words-sound : (ws : List ℕ) → PassedWords ws → soundWords (mergedWords ws) ≡ true
 words-sound [] r = absurd (true≢false (or-false _ _ (r .e1) .0))
@@ -210,18 +210,6 @@ none-empty (w ∷ ws) e =
     let l = leb-true 1 (lengthOf w) (and-left _ _ e) in
     rw (ne-eqb (lengthOf w) 0 (λ z. omega arith), none-empty ws (and-right _ _ e))
 
--- the last of words that alternate
-last-alternate : (first : Bool) (ws : List ℕ) → alternate first ws ≡ true → (shift first + length ws) % 2 ≡ 0 → 0 < length ws
-    → isAbsorb (getD ws (length ws - 1) 0) ≡ false
-unfolding alternate shift
-last-alternate first [] e h p = absurd (omega arith)
-last-alternate true (w ∷ []) e h p = absurd (omega arith)
-last-alternate false (w ∷ []) e h p = sym (same-true false (isAbsorb w) (and-left _ _ e))
-last-alternate true (w ∷ v ∷ ws) e h p =
-    ap isAbsorb (last-behind w v ws) ∙ last-alternate false (v ∷ ws) (and-right _ _ e) (omega arith) (omega arith)
-last-alternate false (w ∷ v ∷ ws) e h p =
-    ap isAbsorb (last-behind w v ws) ∙ last-alternate true (v ∷ ws) (and-right _ _ e) (omega arith) (omega arith)
-
 -- the first of words that alternate
 pub first-kind : (first : Bool) (ws : List ℕ) → alternate first ws ≡ true → 0 < length ws → isAbsorb (getD ws 0 0) ≡ first
 unfolding alternate
@@ -242,40 +230,31 @@ first-word : (w : ℕ) (ws : List ℕ) → firstKind (map phaseOf (w ∷ ws)) �
 unfolding firstKind phaseOf
 first-word w ws = refl
 
--- what the merged words tell of the first word and the last
+-- what the merged words tell of the first word
 module _ (w : ℕ) (ws : List ℕ) (fine : any tooLong (phases (w ∷ ws)) ≡ false) (e : soundWords (mergedWords (w ∷ ws)) ≡ true) where
-  words-told : (vs : List ℕ) → map phaseOf vs ≡ phases (w ∷ ws) → Sound vs → (isAbsorb w ≡ true) × (isAbsorb (getD (w ∷ ws) (length (w ∷ ws) - 1) 0) ≡ false)
-  unfolding phases merge phaseOf shift
+  words-told : (vs : List ℕ) → map phaseOf vs ≡ phases (w ∷ ws) → Sound vs → isAbsorb w ≡ true
+  unfolding phases merge phaseOf
   words-told [] read s = absurd (let few = s .few in omega arith)
   words-told (v ∷ vs) read s =
-      let even = s .even in (
-        sym (join-first (phaseOf w) (merge (map phaseOf ws)))
-            ∙ sym (ap firstKind read)
-            ∙ first-word v vs
-            ∙ first-kind true (v ∷ vs) (s .turns) (omega arith),
-        sym (last-word w ws false)
-            ∙ sym (merge-last (map phaseOf (w ∷ ws)) false)
-            ∙ sym (ap (λ (ps : List Phase). lastKind ps false) read)
-            ∙ last-word v vs false
-            ∙ last-alternate true (v ∷ vs) (s .turns) (omega arith) (omega arith),
-      )
+      sym (join-first (phaseOf w) (merge (map phaseOf ws)))
+      ∙ sym (ap firstKind read)
+      ∙ first-word v vs
+      ∙ first-kind true (v ∷ vs) (s .turns) (omega arith)
 
-  pub ends-told : (isAbsorb w ≡ true) × (isAbsorb (getD (w ∷ ws) (length (w ∷ ws) - 1) 0) ≡ false)
+  first-told : isAbsorb w ≡ true
   unfolding mergedWords
-  ends-told = words-told (mergedWords (w ∷ ws)) (phases-of-words (phases (w ∷ ws)) fine .0) (sound _ e)
+  first-told = words-told (mergedWords (w ∷ ws)) (phases-of-words (phases (w ∷ ws)) fine .0) (sound _ e)
 
 -- words that are few enough and within the limits, and whose merged words are sound, are an accepted pattern
 words-accepted : (ws : List ℕ) → length ws ≤ maxWords → row2 ws ≡ false → row19 ws ≡ false → soundWords (mergedWords ws) ≡ true → PassedWords ws
 unfolding mergedWords phases merge
-words-accepted [] few some within e = absurd (let two = sound [] e .few in omega arith)
+words-accepted [] few some within e = absurd (let one = sound [] e .few in omega arith)
 words-accepted (w ∷ ws) few some within e =
-    let told = ends-told w ws (phases-fit (w ∷ ws) few within) e in
     record {
       e1 = some-words (w ∷ ws) (λ z. omega arith) few;
       e2 = some;
       e19 = within;
-      e3 = ap not (told .0);
-      e4 = told .1;
+      e3 = ap not (first-told w ws (phases-fit (w ∷ ws) few within) e);
     }
 
 pub accepts : (o : Opening) → length (o .words) ≤ maxWords → row2 (o .words) ≡ false → row19 (o .words) ≡ false

@@ -19,7 +19,7 @@ use Rattle.words.specs.Words.{isAbsorb, lengthOf, Phase, phaseOf, wordOf}
 use Rattle.pattern.specs.Pattern.{merge, phases, mergedWords, tooLong}
 use Rattle.pattern.specs.Opening.{wordRows, withWords, answerWith}
 use Rattle.pattern.specs.Steps.{Holds, holding}
-use Rattle.pattern.specs.Pass.{without, passNumber, passed, earned, rank, earlier, passStep, passFrom, heldAfter}
+use Rattle.pattern.specs.Pass.{passNumber, passed, earned, rank, earlier, passStep, passFrom, heldAfter}
 use Rattle.pattern.specs.declared.WordList.{WordList}
 use Rattle.pattern.proofs.Given.{answer-accepted, answer-refused}
 use Rattle.pattern.proofs.Answers.{words-used, holds-few, last-held}
@@ -52,7 +52,7 @@ abbrev numberOf : List ℕ → ℕ
 numberOf ws = numbers (over ws) (any isEmpty ws) (any isLong ws) (squeezes ws)
 
 pub pass-number : (w : ℕ) (ws : List ℕ) → passNumber (w ∷ ws) ≡ numberOf (w ∷ ws)
-unfolding passNumber without wordRows numbers if_then_else_ _or_
+unfolding passNumber wordRows numbers _or_
 pass-number w ws = rw (ne-eqb (suc (length ws)) 0 (λ e. omega arith))
 
 none-held : accepted ≡ numberOf []

@@ -82,20 +82,19 @@ even-kind i = kind-at-even true i ∙ cases (eqb (i % 2) 0) (λ e. rw e) (λ e. 
 
 pub sound-words : (ws : List ℕ)
     → (soundWords ws ≡ true)
-    ↔ ((2 ≤ length ws) × (length ws ≤ 64) × (length ws % 2 ≡ 0)
+    ↔ ((1 ≤ length ws) × (length ws ≤ 64)
     × ((i : ℕ) → i < length ws → (isAbsorb (getD ws i 0) ≡ eqb (i % 2) 0) × (1 ≤ lengthOf (getD ws i 0))))
 sound-words ws = (
   λ e.
       let s = sound ws e in (
         s .few,
         s .many,
-        s .even,
         λ i h. (
           alternate-at true ws (s .turns) i h ∙ even-kind i,
           leb-true 1 _ (all-at long ws 0 i (s .longs) (λ past. absurd (omega arith))),
         ),
       ),
   λ p.
-      right-count ws (p .0) (p .1) (p .2)
-      ∙ and-both _ _ (at-alternate true ws (λ i h. p .3 i h .0 ∙ sym (even-kind i))) (all-long ws (λ i h. p .3 i h .1)),
+      right-count ws (p .0) (p .1)
+      ∙ and-both _ _ (at-alternate true ws (λ i h. p .2 i h .0 ∙ sym (even-kind i))) (all-long ws (λ i h. p .2 i h .1)),
 )

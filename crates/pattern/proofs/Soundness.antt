@@ -3,9 +3,8 @@
 use mathlib.Core.Path.{_≡_}
 use mathlib.Core.Bool.{Bool, true, false, not}
 use mathlib.Core.List.{List, _∷_}
-use mathlib.Core.Logic.{_≢_}
-use Prim.Native.Nat.{ℕ, _%_, _≤_, _<_}
-use borrow.Author.Tests.{leb-true, eqb-true, le-leb, lt-leb, eq-eqb, ne-eqb}
+use Prim.Native.Nat.{ℕ, _≤_, _<_}
+use borrow.Author.Tests.{leb-true, le-leb, lt-leb}
 use lib.Dec.{leb}
 use lib.ListN.{length}
 use Rattle.basics.specs.Logic.{_and_, same, all}
@@ -35,27 +34,22 @@ module _ (first : Bool) (w : ℕ) (ws : List ℕ) where
   tests-length l = rw l (and-false (alternate first (w ∷ ws)))
 
 module _ (ws : List ℕ) where
-  pub too-few : length ws < 2 → soundWords ws ≡ false
+  pub too-few : length ws < 1 → soundWords ws ≡ false
   unfolding soundWords _and_
-  too-few h = rw (lt-leb 2 (length ws) h)
+  too-few h = rw (lt-leb 1 (length ws) h)
 
   pub too-many : 64 < length ws → soundWords ws ≡ false
   unfolding soundWords _and_
   too-many h = rw (lt-leb (length ws) 64 h, and-false)
 
-  pub odd-count : length ws % 2 ≢ 0 → soundWords ws ≡ false
+  pub right-count : 1 ≤ length ws → length ws ≤ 64 → soundWords ws ≡ tests true ws
   unfolding soundWords _and_
-  odd-count n = rw (ne-eqb (length ws % 2) 0 n, and-false (leb (length ws) 64), and-false (leb 2 (length ws)))
-
-  pub right-count : 2 ≤ length ws → length ws ≤ 64 → length ws % 2 ≡ 0 → soundWords ws ≡ tests true ws
-  unfolding soundWords _and_
-  right-count few many even = rw (le-leb 2 (length ws) few, le-leb (length ws) 64 many, eq-eqb (length ws % 2) 0 even)
+  right-count few many = rw (le-leb 1 (length ws) few, le-leb (length ws) 64 many)
 
   -- what sound words are
   pub record Sound : Type 0 where
-    pub few : 2 ≤ length ws
+    pub few : 1 ≤ length ws
     pub many : length ws ≤ 64
-    pub even : length ws % 2 ≡ 0
     pub turns : alternate true ws ≡ true
     pub longs : all long ws ≡ true
 
@@ -64,11 +58,9 @@ module _ (ws : List ℕ) where
   sound e =
       let r2 = and-right _ _ e in
       let r3 = and-right _ _ r2 in
-      let r4 = and-right _ _ r3 in
       record {
-        few = leb-true 2 (length ws) (and-left _ _ e);
+        few = leb-true 1 (length ws) (and-left _ _ e);
         many = leb-true (length ws) 64 (and-left _ _ r2);
-        even = eqb-true (length ws % 2) 0 (and-left _ _ r3);
-        turns = and-left _ _ r4;
-        longs = and-right _ _ r4;
+        turns = and-left _ _ r3;
+        longs = and-right _ _ r3;
       }

@@ -4,7 +4,7 @@ use mathlib.Core.Path.{_≡_, refl}
 use mathlib.Core.Bool.{Bool, true, false, not}
 use mathlib.Core.List.{List, []}
 use mathlib.Core.Logic.{_≢_}
-use Prim.Native.Nat.{ℕ, _-_, _≤_, _<_}
+use Prim.Native.Nat.{ℕ, _≤_, _<_}
 use native.Mathlib.Omega.{arith}
 use borrow.Author.Tests.{ltb-false, eq-eqb, ne-eqb, lt-ltb, le-ltb}
 use lib.Dec.{ltb, eqb}
@@ -34,9 +34,6 @@ module _ (ws : List ℕ) where
   abbrev pub row3 : Bool
   row3 = not (isAbsorb (getD ws 0 0))
 
-  abbrev pub row4 : Bool
-  row4 = isAbsorb (getD ws (length ws - 1) 0)
-
   pub no-words : length ws ≡ 0 → row1 ≡ true
   unfolding _or_
   no-words e = rw (eq-eqb (length ws) 0 e)
@@ -55,7 +52,6 @@ module _ (ws : List ℕ) where
     pub e2 : row2 ≡ false
     pub e19 : row19 ≡ false
     pub e3 : row3 ≡ false
-    pub e4 : row4 ≡ false
 
   pub few-declared : row1 ≡ false → length ws ≤ maxWords
   few-declared e = ltb-false maxWords (length ws) (or-false _ _ e .1)
@@ -77,17 +73,16 @@ module _ (o : Opening) where
       let a3 = or-false _ _ (a2 .1) in
       let a4 = or-false _ _ (a3 .1) in
       let a5 = or-false _ _ (a4 .1) in
-      let a6 = or-false _ _ (a5 .1) in
       record {
-        of-words = record { e1 = a1 .0; e2 = a2 .0; e19 = a3 .0; e3 = a4 .0; e4 = a5 .0 };
-        short = ltb-false maxSeparator (length (o .separator)) (a6 .0);
+        of-words = record { e1 = a1 .0; e2 = a2 .0; e19 = a3 .0; e3 = a4 .0 };
+        short = ltb-false maxSeparator (length (o .separator)) (a5 .0);
       }
 
   pub passes : PassedRows → openingNumber o ≡ accepted
   unfolding openingNumber openingRows wordRows any _or_
   passes t =
       let w = t .of-words in
-      none-applies (openingRows o) (rw (w .e1, w .e2, w .e19, w .e3, w .e4, le-ltb maxSeparator (length (o .separator)) (t .short)))
+      none-applies (openingRows o) (rw (w .e1, w .e2, w .e19, w .e3, le-ltb maxSeparator (length (o .separator)) (t .short)))
 
   pub checked-refused : (n : ℕ) → eqb n 0 ≡ false → openingNumber o ≡ n → checked o ≡ withWords n []
   unfolding checked

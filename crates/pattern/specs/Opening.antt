@@ -1,13 +1,13 @@
 -- What a tag string is made from, and the start check of document 01, "Calls turned away": "START checks 1 to 6 in number order, whichever word is
--- at fault"; and of document 02, P4, which adds 19 "after 2 and before 3" and takes 5 away.
+-- at fault"; and of document 02: P4 adds 19 "after 2 and before 3" and takes 5 away, P6 takes 4 away.
 use mathlib.Core.Bool.{not}
 use mathlib.Core.List.{List, [], _++_}
-use Prim.Native.Nat.{ℕ, _-_}
+use Prim.Native.Nat.{ℕ}
 use lib.Dec.{ltb, eqb}
 use lib.ListN.{length, getD}
 use Rattle.basics.specs.Logic.{if_then_else_, _or_, any}
 use Rattle.basics.specs.Lists.{zeroPadded}
-use Rattle.basics.specs.Numbers.{accepted, wordCountOutOfRange, wordLengthZero, callTooLong, firstWordSqueeze, lastWordAbsorb, separatorTooLong}
+use Rattle.basics.specs.Numbers.{accepted, wordCountOutOfRange, wordLengthZero, callTooLong, firstWordSqueeze, separatorTooLong}
 use Rattle.basics.specs.Refusals.{Row, _gets_⨾_, firstNumber}
 use Rattle.words.specs.Words.{isAbsorb, lengthOf}
 use Rattle.pattern.specs.Pattern.{maxWords, mergedWords}
@@ -38,7 +38,6 @@ wordRows ws =
     any (λ w. eqb (lengthOf w) 0) ws gets wordLengthZero ⨾
     any (λ w. ltb maxCall (lengthOf w)) ws gets callTooLong ⨾
     not (isAbsorb (getD ws 0 0)) gets firstWordSqueeze ⨾
-    isAbsorb (getD ws (length ws - 1) 0) gets lastWordAbsorb ⨾
     []
 
 -- all rows, in the order in which they count: behind those about words the one about the separator

@@ -1,4 +1,4 @@
--- START's pass over the declared words: what it holds after each word. From document 02, P2, and P4, "in P2's pass too". Private contracts cite
+-- START's pass over the declared words: what it holds after each word. From document 02, P2, P4 and P6. Private contracts cite
 -- these, and no public one.
 use mathlib.Core.Bool.{not}
 use mathlib.Core.List.{List, [], _∷_, _++_}
@@ -6,21 +6,17 @@ use Prim.Native.Nat.{ℕ, suc, _+_, _*_}
 use lib.Dec.{leb, ltb, eqb}
 use lib.ListN.{take}
 use Rattle.basics.specs.Logic.{if_then_else_, _and_}
-use Rattle.basics.specs.Numbers.{accepted, wordCountOutOfRange, wordLengthZero, callTooLong, firstWordSqueeze, lastWordAbsorb, separatorTooLong}
-use Rattle.basics.specs.Refusals.{Row, _gets_⨾_, firstNumber}
+use Rattle.basics.specs.Numbers.{accepted, wordCountOutOfRange, wordLengthZero, callTooLong, firstWordSqueeze, separatorTooLong}
+use Rattle.basics.specs.Refusals.{_gets_⨾_, firstNumber}
 use Rattle.words.specs.Words.{isAbsorb, lengthOf}
 use Rattle.pattern.specs.Pattern.{maxWords, mergedWords}
 use Rattle.pattern.specs.Opening.{maxCall, maxSeparator, wordRows, withWords, answerWith}
 use Rattle.pattern.specs.declared.WordList.{WordList}
 
--- the rows of a table but those of one number
-unfoldable pub without : ℕ → List Row → List Row
-without n [] = []
-without n (row ∷ rows) = if eqb (row .number) n then without n rows else row ∷ without n rows
-
--- "the lowest number that the words so far earn, number 4 aside", where 19 counts "after 2 and before 3": the rows about words stand in this order
+-- "the lowest number that the words so far earn, number 4 aside", where 19 counts "after 2 and before 3", and 4 is "no longer given": the rows about
+-- words stand in this order
 unfoldable pub passNumber : List ℕ → ℕ
-passNumber ws = firstNumber (without lastWordAbsorb (wordRows ws))
+passNumber ws = firstNumber (wordRows ws)
 
 -- "After each word the pass holds the lowest number that the words so far earn, number 4 aside, else their merged words"
 unfoldable pub passed : List ℕ → WordList
@@ -67,7 +63,6 @@ unfoldable pub heldAfter : List ℕ → WordList
 heldAfter [] = passBegin
 heldAfter (w ∷ ws) = passed (w ∷ ws)
 
--- what is left for the end: number 4, by the last word, and 6, by the separator's length
-unfoldable pub ending : ℕ → ℕ → ℕ
-ending last separator =
-    firstNumber (isAbsorb last gets lastWordAbsorb ⨾ ltb maxSeparator separator gets separatorTooLong ⨾ [])
+-- what is left for the end: number 6, by the separator's length
+unfoldable pub ending : ℕ → ℕ
+ending separator = firstNumber (ltb maxSeparator separator gets separatorTooLong ⨾ [])

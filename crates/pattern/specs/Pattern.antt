@@ -1,7 +1,7 @@
 -- Patterns (SAFE's IO patterns): merging, and sound lists of words. From document 01, "Tags" and "Session steps".
 use mathlib.Core.Bool.{Bool, true, not}
 use mathlib.Core.List.{List, [], _∷_, map}
-use Prim.Native.Nat.{ℕ, _+_, _%_}
+use Prim.Native.Nat.{ℕ, _+_}
 use lib.Dec.{leb, ltb, eqb}
 use lib.ListN.{length, take, drop}
 use Rattle.basics.specs.Logic.{if_then_else_, _and_, same, all}
@@ -40,12 +40,11 @@ unfoldable pub alternate : Bool → List ℕ → Bool
 alternate first [] = true
 alternate first (w ∷ ws) = same first (isAbsorb w) and alternate (not first) ws
 
--- "its words are 2 to 64, even in number, alternate from ABSORB, have lengths of at least 1"
+-- "alternate from ABSORB, have lengths of at least 1"; "record soundness and reading drop the even count and take 1 to 64 words" (document 02, P6)
 unfoldable pub soundWords : List ℕ → Bool
 soundWords ws =
-    leb 2 (length ws)
+    leb 1 (length ws)
     and leb (length ws) maxWords
-    and eqb (length ws % 2) 0
     and alternate true ws
     and all (λ w. leb 1 (lengthOf w)) ws
 

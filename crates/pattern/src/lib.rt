@@ -33,13 +33,10 @@ pub fn refused(number: u32) -> WordList
     }
 }
 
-// What is left for the end of the pass: number 4 by the last word, or 6 by the separator's length, or 0.
-fn ending_of(last: u32, separator_length: usize) -> u32
-    ensures { λ r. ⌜ r ≡ ending last «separator_length» ⌝ }
+// What is left for the end of the pass: number 6 by the separator's length, or 0.
+fn ending_of(separator_length: usize) -> u32
+    ensures { λ r. ⌜ r ≡ ending «separator_length» ⌝ }
 {
-    if words::is_absorb(last) {
-        return basics::LAST_WORD_ABSORB;
-    }
     if separator_length > MAX_SEPARATOR {
         return basics::SEPARATOR_TOO_LONG;
     }
@@ -56,7 +53,7 @@ pub fn check(words: &[u32], separator: &[u8]) -> WordList
     let mut list = [0u32; 64];
     let count = pass::looked_at(words.len());
     let passed = pass::pass(&words[..count], &mut list);
-    let number = pass::earlier_of(passed.number, ending_of(passed.last, separator.len()));
+    let number = pass::earlier_of(passed.number, ending_of(separator.len()));
     if number != basics::ACCEPTED {
         return refused(number);
     }

@@ -17,16 +17,9 @@ ghost use Rattle.pattern.specs.Pass.{heldAfter, earned, rank, earlier, p
 const BETWEEN_2_AND_3: u64 = 5;
 
 // What the pass holds beside the list of merged words: a number, or 0 and how many words the list has.
-struct Held {
-    number: u32,
-    count: usize,
-}
-
-// What it holds at the end, with the last word.
-pub(crate) struct Passed {
+pub(crate) struct Held {
     pub(crate) number: u32,
     pub(crate) count: usize,
-    pub(crate) last: u32,
 }
 
 // A word with so many elements more.
@@ -135,24 +128,17 @@ pub(crate) fn looked_at(count: usize) -> usize
 }
 
 // The pass over the words, of which there are 65 at most. The list has to be zeros.
-pub(crate) fn pass(words: &[u32], list: &mut [u32; 64]) -> Passed
+pub(crate) fn pass(words: &[u32], list: &mut [u32; 64]) -> Held
     requires { ⌜ (length (now words) ≤ 65) × (now list ≡ replicate 64 0) ⌝ }
-    ensures { λ r. ⌜ (holding (r .number) (now (list .exit)) (r .count) ≡ heldAfter (now (words .entry))) ×
-        (1 ≤ length (now (words .entry)) → r .last ≡ getD (now (words .entry)) (length (now (words .entry)) - 1) 0) ⌝ }
+    ensures { λ r. ⌜ holding (r .number) (now (list .exit)) (r .count) ≡ heldAfter (now (words .entry)) ⌝ }
 {
     let mut held = Held {
         number: basics::ACCEPTED,
         count: 0,
     };
-    let mut last: u32 = 0;
     for i in 0..words.len() {
-        last = words[i];
-        let next = pass_word(list, held, i, last);
+        let next = pass_word(list, held, i, words[i]);
         held = next;
     }
-    Passed {
-        number: held.number,
-        count: held.count,
-        last,
-    }
+    held
 }

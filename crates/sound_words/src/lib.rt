@@ -25,18 +25,15 @@ fn alternate(words: &[u32]) -> bool
     true
 }
 
-// Whether words are those of a sound record: 2 to 64, even in number, alternating from ABSORB, of lengths of at least 1.
+// Whether words are those of a sound record: 1 to 64, alternating from ABSORB, of lengths of at least 1.
 pub fn is_sound(words: &[u32]) -> bool
     ensures { λ r. ⌜ r ≡ soundWords (now (words .entry)) ⌝ }
 {
     let n = words.len();
-    if n < 2 {
+    if n < 1 {
         return false;
     }
     if n > pattern::MAX_WORDS {
-        return false;
-    }
-    if n % 2 != 0 {
         return false;
     }
     alternate(words)

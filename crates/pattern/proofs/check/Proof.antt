@@ -14,7 +14,7 @@ use Rattle.pattern.specs.Pass.{earlier, heldAfter}
 use Rattle.pattern.specs.declared.WordList.{WordList}
 use Rattle.pattern.proofs.StartCheck.{checked-refused, checked-accepted}
 use Rattle.pattern.proofs.PassStep.{held-65, holding-number, holding-words, earlier-zero}
-use Rattle.pattern.proofs.FromPass.{lastOf, start-none, start-by-pass, words-by-pass}
+use Rattle.pattern.proofs.FromPass.{start-none, start-by-pass, words-by-pass}
 use borrow.Author.Needs.{needs}
 use Rattle.pattern.proofs.check.Statement.{statement}
 use Rattle.pattern.proofs.check.Tie as tie
@@ -53,14 +53,7 @@ looked c = c .before .before .before .before .before .looked-at .ensures
 
 pass-held : (c : tie.After-earlier-of) → holding (c .before .before .pass .result .number) (c .before .before .pass .last .1 .0) (c .before .before .pass .result .count) ≡ heldAfter (words c)
 unfolding words
-pass-held c = c .before .before .pass .ensures .0 ∙ ap (λ (n : ℕ). heldAfter (take n (words c))) (looked c) ∙ held-65 (words c)
-
-last-held : (c : tie.After-earlier-of) → 1 ≤ length (words c) → length (words c) ≤ 64
-    → c .before .before .pass .result .last ≡ lastOf (words c)
-unfolding words
-last-held c some few =
-    let all = take-all (c .before .before .before .before .before .looked-at .result) (words c) (omega (arith, looked c)) in
-    c .before .before .pass .ensures .1 (rw all some) ∙ ap lastOf all
+pass-held c = c .before .before .pass .ensures ∙ ap (λ (n : ℕ). heldAfter (take n (words c))) (looked c) ∙ held-65 (words c)
 
 number-held : (c : tie.After-earlier-of) → c .before .before .pass .result .number ≡ heldAfter (words c) .number
 unfolding words
@@ -69,10 +62,9 @@ number-held c = sym (holding-number _ _ _) ∙ ap (λ (m : WordList). m .number)
 number-is : (c : tie.After-earlier-of) → c .earlier-of .result ≡ openingNumber (opening (words c) (separator c))
 unfolding words separator
 number-is c =
-    let last = c .before .before .pass .result .last in
     c .earlier-of .ensures
     ∙ ap₂ (λ (held end : ℕ). earlier held end) (number-held c) (c .before .ending-of .ensures)
-    ∙ start-by-pass (separator c) (words c) last (some c) (last-held c)
+    ∙ start-by-pass (separator c) (words c) (some c)
 
 returns-2 : tie.Need-returns-2
 unfolding words separator

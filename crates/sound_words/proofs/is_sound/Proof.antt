@@ -1,7 +1,7 @@
 -- `sound_words::is_sound` meets its contract.
 -- Assumes nothing.
 use mathlib.Core.Path.{sym, _∙_}
-use Rattle.pattern.proofs.Soundness.{too-few, too-many, odd-count, right-count}
+use Rattle.pattern.proofs.Soundness.{too-few, too-many, right-count}
 use borrow.Author.Needs.{needs}
 use Rattle.sound_words.proofs.is_sound.Statement.{statement}
 use Rattle.sound_words.proofs.is_sound.Tie as tie
@@ -13,10 +13,7 @@ returns-2 : tie.Need-returns-2
 returns-2 c = sym (too-many (c .before .before .before .args .words .now) (search needs))
 
 returns-3 : tie.Need-returns-3
-returns-3 c = sym (odd-count (c .before .before .before .before .args .words .now) (search needs))
-
-returns-4 : tie.Need-returns-4
-returns-4 c = c .alternate .ensures ∙ sym (right-count (c .before .before .before .before .before .args .words .now) (search needs) (search needs) (search needs))
+returns-3 c = c .alternate .ensures ∙ sym (right-count (c .before .before .before .before .args .words .now) (search needs) (search needs))
 
 pub is-sound-spec : {M : Type 1} → statement M
 is-sound-spec =
@@ -24,6 +21,5 @@ is-sound-spec =
     (tie.spec
     returns
     returns-2
-    returns-3
     (λ c κs. search needs)
-    returns-4)
+    returns-3)

@@ -14,20 +14,13 @@ use Rattle.pattern.proofs.pass.pass.Statement.{statement}
 use Rattle.pattern.proofs.pass.pass.Tie as tie
 
 abbrev Inv-loop : tie.InvT-loop
-Inv-loop words list₀ held₀ last₀ end i₀ list held last i =
-    (i ≤ length words)
-    × (holding (held .number) list (held .count) ≡ heldAfter (take i words))
-    × (1 ≤ i → last ≡ getD words (i - 1) 0)
+Inv-loop words list₀ held₀ end i₀ list held i = (i ≤ length words) × (holding (held .number) list (held .count) ≡ heldAfter (take i words))
 
 abbrev μ-loop : tie.MeasureT-loop
-μ-loop words list₀ held₀ last₀ end i₀ list held last i = length words - i
+μ-loop words list₀ held₀ end i₀ list held i = length words - i
 
 loop-holds : tie.Need-loop-holds Inv-loop μ-loop
-loop-holds c = (
-  search needs,
-  ap (λ (l : List ℕ). holding 0 l 0) (c .before .pre .1) ∙ begins,
-  λ h. absurd (omega arith),
-)
+loop-holds c = (search needs, ap (λ (l : List ℕ). holding 0 l 0) (c .before .pre .1) ∙ begins)
 
 pass-word-requires : tie.Need-pass-word-requires Inv-loop μ-loop
 pass-word-requires c κs =
@@ -44,20 +37,13 @@ loop-again c =
     let loop = c .before .before .before .before .loop in
     let words = c .before .before .before .before .before .before .args .words .now in
     let i = loop .i in
-    let place : i + 1 - 1 ≡ i = omega arith in (
-      search needs,
-      c .pass-word .ensures .0 (take i words) (length-take-le i words (omega arith)) (loop .inv .1) ∙ next-word words i (omega arith),
-      λ _. ap (λ (k : ℕ). getD words k 0) (sym place),
-    )
+    (search needs, c .pass-word .ensures .0 (take i words) (length-take-le i words (omega arith)) (loop .inv .1) ∙ next-word words i (omega arith))
 
 returns : tie.Need-returns Inv-loop μ-loop
 returns c =
     let loop = c .before .loop in
     let words = c .before .before .before .args .words .now in
-    let all : loop .i ≡ length words = omega arith in (
-      loop .inv .1 ∙ ap heldAfter (take-all (loop .i) words (omega arith)),
-      λ some. loop .inv .2 (omega arith) ∙ ap (λ (n : ℕ). getD words (n - 1) 0) all,
-    )
+    loop .inv .1 ∙ ap heldAfter (take-all (loop .i) words (omega arith))
 
 pub pass-spec : {M : Type 1} → statement M
 pass-spec =
