@@ -10,3 +10,4 @@ pub mod Owners
 pub mod Pass
 pub mod Unused
 pub mod Cutting
+pub mod Pairs

@@ -15,15 +15,15 @@ use Rattle.basics.specs.Refusals.{_gets_⨾_, firstNumber}
 use Rattle.words.specs.Words.{isAbsorb, lengthOf}
 use Rattle.pattern.specs.Pattern.{mergedWords}
 use Rattle.pattern.specs.Opening.{Opening, opening, maxCall, wordRows, openingRows, openingNumber, withWords, answerWith, checked}
-use Rattle.pattern.specs.Pass.{without, passNumber, passed, passBegin, rank, earlier, passStep, pass, heldAfter, ending}
+use Rattle.pattern.specs.Pass.{passNumber, passed, passBegin, rank, earlier, passStep, pass, heldAfter, ending}
 use Rattle.basics.proofs.Cases.{or-false}
 use Rattle.pattern.proofs.Given.{answer-accepted, answer-refused}
 use Rattle.pattern.proofs.StartCheck.{passed-rows, checked-accepted}
 use Rattle.pattern.proofs.PassStep.{step-holds, pass-from, held-over, earlier-zero}
 use Rattle.pattern.proofs.FromPass.{rank-other, earlier-left, earlier-right, earlier-of-none, start-by-pass}
 
--- "the lowest number that the words so far earn, number 4 aside", where 19 counts "after 2 and before 3, in P2's pass too": the first that applies
--- of 1, 2, 19 and 3.
+-- "the lowest number that the words so far earn, number 4 aside", where 19 counts "after 2 and before 3, in P2's pass too", and 4 is not given: the
+-- first that applies of 1, 2, 19 and 3.
 pub numbers-of-the-pass : (ws : List ℕ) → passNumber ws
     ≡ firstNumber
     (eqb (length ws) 0 or ltb 64 (length ws) gets wordCountOutOfRange ⨾
@@ -31,7 +31,7 @@ pub numbers-of-the-pass : (ws : List ℕ) → passNumber ws
     any (λ w. ltb maxCall (lengthOf w)) ws gets callTooLong ⨾
     not (isAbsorb (getD ws 0 0)) gets firstWordSqueeze ⨾
     [])
-unfolding passNumber without wordRows if_then_else_
+unfolding passNumber wordRows
 numbers-of-the-pass ws = refl
 
 -- START's own order, row by row: "19: .. after 2 and before 3".
@@ -41,7 +41,6 @@ pub numbers-of-an-opening : (ws separator : List ℕ) → openingNumber (opening
     any (λ w. eqb (lengthOf w) 0) ws gets 2 ⨾
     any (λ w. ltb 16777216 (lengthOf w)) ws gets 19 ⨾
     not (isAbsorb (getD ws 0 0)) gets 3 ⨾
-    isAbsorb (getD ws (length ws - 1) 0) gets 4 ⨾
     ltb 256 (length separator) gets 6 ⨾
     [])
 unfolding openingNumber openingRows wordRows
@@ -112,15 +111,15 @@ order-of-numbers = (
 )
 
 lowest : (separator ws : List ℕ) → length ws ≢ 0
-    → openingNumber (opening ws separator) ≡ earlier (passed ws .number) (ending (getD ws (length ws - 1) 0) (length separator))
+    → openingNumber (opening ws separator) ≡ earlier (passed ws .number) (ending (length separator))
 unfolding heldAfter
 lowest separator [] some = absurd (some refl)
-lowest separator (w ∷ ws) some = sym (start-by-pass separator (w ∷ ws) _ some (λ _ _. refl))
+lowest separator (w ∷ ws) some = sym (start-by-pass separator (w ∷ ws) some)
 
 -- "The lowest applicable number still wins, even when a later word is the one at fault.": the start check's number is the one that is checked first of
--- what the pass holds at the end and of 4, by the last word, or 6, by the separator.
+-- what the pass holds at the end and of 6, by the separator.
 pub lowest-number-wins : (o : Opening) → length (o .words) ≢ 0
-    → openingNumber o ≡ earlier (passed (o .words) .number) (ending (getD (o .words) (length (o .words) - 1) 0) (length (o .separator)))
+    → openingNumber o ≡ earlier (passed (o .words) .number) (ending (length (o .separator)))
 lowest-number-wins o = lowest (o .separator) (o .words)
 
 -- And an opening that START accepts gets what the pass holds.
@@ -137,5 +136,5 @@ pub later-words-at-fault :
     × (_≡_ {A = ℕ} (passNumber (3 ∷ 0x81000001 ∷ 0x80000000 ∷ [])) 2)
     × (_≡_ {A = ℕ} (passNumber (replicate 64 3)) 3)
     × (_≡_ {A = ℕ} (passNumber (replicate 65 3)) 1)
-unfolding without passNumber wordRows isAbsorb lengthOf firstNumber if_then_else_ _or_ any
+unfolding passNumber wordRows isAbsorb lengthOf firstNumber if_then_else_ _or_ any
 later-words-at-fault = (refl, refl, refl, refl, refl)

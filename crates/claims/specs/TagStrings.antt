@@ -54,10 +54,10 @@ pub reading-any-length : (ws separator : List ℕ) → soundWords ws ≡ true �
     → (readWords (stringOf ws separator) (length separator) ≡ withWords accepted ws) × (readSeparator (stringOf ws separator) (length separator) ≡ separator)
 reading-any-length ws separator e bits short = (string-words ws separator e bits short, string-separator ws separator e bits short)
 
--- "a sound record's word list": 2 to 64 words, even in number, that alternate from ABSORB and have lengths of at least 1, and nothing else.
+-- "a sound record's word list": 1 to 64 words that alternate from ABSORB and have lengths of at least 1, and nothing else.
 pub sound-word-lists : (ws : List ℕ)
     → (soundWords ws ≡ true)
-    ↔ ((2 ≤ length ws) × (length ws ≤ 64) × (length ws % 2 ≡ 0)
+    ↔ ((1 ≤ length ws) × (length ws ≤ 64)
     × ((i : ℕ) → i < length ws → (isAbsorb (getD ws i 0) ≡ eqb (i % 2) 0) × (1 ≤ lengthOf (getD ws i 0))))
 sound-word-lists = sound-words
 

@@ -1,5 +1,5 @@
 -- Numbers that are not given. From document 02, P4: "With 64 words no merged length can then pass 2147483647. Prove that number 5 can't be given
--- by START, the writer or the card program, and remove the check."
+-- by START, the writer or the card program, and remove the check."; P6: "Number 4 is no longer given"
 use mathlib.Core.Path.{_≡_, refl, sym, _∙_}
 use mathlib.Core.Bool.{false}
 use mathlib.Core.List.{List}
@@ -32,17 +32,29 @@ pub no-merged-length-too-long : (ws : List ℕ) → length ws ≤ 64 → any (λ
 no-merged-length-too-long ws few e =
     (within-more (length ws * maxCall) 1073741824 (phases ws) (omega arith) (phases-within maxCall ws e), phases-fit ws few e)
 
--- Number 5 is not given by START,
+-- Neither number is given by START,
 pub start-never-gives-5 : (field : ℕ) (o : Opening) → start field o .number ≢ 5
 unfolding startNumber startRows openingRows wordRows all _and_
 start-never-gives-5 field o e = never-given 5 (startRows field o) refl (λ z. omega arith) (sym (number-of field o) ∙ e)
+
+pub start-never-gives-4 : (field : ℕ) (o : Opening) → start field o .number ≢ 4
+unfolding startNumber startRows openingRows wordRows all _and_
+start-never-gives-4 field o e = never-given 4 (startRows field o) refl (λ z. omega arith) (sym (number-of field o) ∙ e)
 
 -- by writing,
 pub writing-never-gives-5 : (o : Opening) (buffer : List ℕ) → written o buffer .number ≢ 5
 unfolding written writtenWith writeNumber writeRows bufferRows openingRows wordRows all _and_
 writing-never-gives-5 o buffer = never-given 5 (writeRows o buffer) refl (λ z. omega arith)
 
+pub writing-never-gives-4 : (o : Opening) (buffer : List ℕ) → written o buffer .number ≢ 4
+unfolding written writtenWith writeNumber writeRows bufferRows openingRows wordRows all _and_
+writing-never-gives-4 o buffer = never-given 4 (writeRows o buffer) refl (λ z. omega arith)
+
 -- or in the answer to a line.
 pub cards-never-give-5 : (line : List ℕ) → answer line ≢ ascii "(no 5)"
 unfolding openingNumber openingRows wordRows all _and_ noText decimal decimalUpTo
 cards-never-give-5 line = line-gives 5 (lit< tt) (λ o. never-given 5 (openingRows o) refl (λ z. omega arith)) line
+
+pub cards-never-give-4 : (line : List ℕ) → answer line ≢ ascii "(no 4)"
+unfolding openingNumber openingRows wordRows all _and_ noText decimal decimalUpTo
+cards-never-give-4 line = line-gives 4 (lit< tt) (λ o. never-given 4 (openingRows o) refl (λ z. omega arith)) line

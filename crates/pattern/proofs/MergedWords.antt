@@ -131,7 +131,7 @@ module _ (w : ℕ) (ws : List ℕ) (r : PassedWords (w ∷ ws)) where
   even-words squeezes =
       omega (arith, even-count true ps alternating (merge-last (map phaseOf (w ∷ ws)) false ∙ last-word w ws false ∙ squeezes))
 
-  some-phases : 1 ≤ length ps
+  pub some-phases : 1 ≤ length ps
   unfolding phases merge
   some-phases = join-some (phaseOf w) (merge (map phaseOf ws))
 
