@@ -1,6 +1,6 @@
 //! The independent implementation, held to what is published: the samples B1 to B10 and the table of refused calls in document
-//! 01, document 02's sentences about tables of owners, fields and declared calls, and examples of SHA3-256 from NIST. What the library is
-//! compared with must itself be right.
+//! 01, document 02's sentences about tables of owners, fields, declared calls and sessions that end by absorbing, and examples of SHA3-256
+//! from NIST. What the library is compared with must itself be right.
 
 mod guarded;
 mod independent;
@@ -16,8 +16,8 @@ fn started(field: u32, words: &[u32], separator: &[u8]) -> Session {
     record
 }
 
-/// A whole session with each phase in one call. Gives the permutations in the record that FINISH gets.
-fn permutations(field: u32, words: &[u32]) -> u64 {
+/// A whole session with each word in one call. Gives the record that FINISH gets.
+fn fully_run(field: u32, words: &[u32]) -> Session {
     let mut record = started(field, words, &[]);
     for word in words {
         let size = length(*word) as usize;
@@ -28,9 +28,21 @@ fn permutations(field: u32, words: &[u32]) -> u64 {
         };
         assert_eq!(number, 0);
     }
-    let permutations = record.permutations;
+    let before = record.clone();
     assert_eq!((finish(&mut record), record), (0, WIPED));
-    permutations
+    before
+}
+
+fn permutations(field: u32, words: &[u32]) -> u64 {
+    fully_run(field, words).permutations
+}
+
+/// The number that START and writing give.
+fn pattern_number(words: &[u32], separator: &[u8]) -> u32 {
+    let number = start(1, words, separator).0;
+    let written = write_tag(words, separator, &mut [0; 512]);
+    assert_eq!(written.err().unwrap_or(0), number);
+    number
 }
 
 fn written(words: &[u32], separator: &[u8]) -> Vec<u8> {
@@ -128,14 +140,15 @@ fn figures_of_both_fields() {
     }
 }
 
-/// Of number 5, P4 of document 02: "Its row is marked unused; its example and B3 now get the new number."
+/// Of number 5, P4 of document 02: "Its row is marked unused; its example and B3 now get the new number." Of number 4, P6: it "is no longer
+/// given".
 #[test]
 fn patterns_turned_away_as_in_the_table() {
     for field in [1, 2] {
         assert_eq!(start(field, &[], &[]), (1, WIPED));
         assert_eq!(start(field, &[0x80000003, 0x00000000], &[]), (2, WIPED));
         assert_eq!(start(field, &[0x00000001], &[]), (3, WIPED));
-        assert_eq!(start(field, &[0x80000001], &[]), (4, WIPED));
+        assert_eq!(start(field, &[0x80000001], &[]).0, 0);
         assert_eq!(start(field, &[0xffffffff, 0x80000001, 0x00000001], &[]), (19, WIPED));
         assert_eq!(start(field, &[0x80000001, 0x00000001], &[0; 257]), (6, WIPED));
         assert_eq!(start(field, &[0x80000001, 0x00000001], &[0; 256]).0, 0);
@@ -145,12 +158,7 @@ fn patterns_turned_away_as_in_the_table() {
 /// "19: a declared call above 16,777,216 elements, after 2 and before 3"; "With 64 words no merged length can then pass 2147483647."
 #[test]
 fn declared_calls_turned_away_as_in_the_request() {
-    let number = |words: &[u32], separator: &[u8]| {
-        let number = start(1, words, separator).0;
-        let written = write_tag(words, separator, &mut [0; 512]);
-        assert_eq!(written.err().unwrap_or(0), number);
-        number
-    };
+    let number = pattern_number;
     assert_eq!(number(&[ABSORB + LIMIT, LIMIT], &[]), 0);
     assert_eq!(number(&[ABSORB + LIMIT + 1, 1], &[]), 19);
     assert_eq!(number(&[ABSORB + 1, LIMIT + 1], &[]), 19);
@@ -161,7 +169,7 @@ fn declared_calls_turned_away_as_in_the_request() {
     assert_eq!(number(&[1, ABSORB + LIMIT + 1], &[]), 19);
     assert_eq!(number(&[LIMIT], &[]), 3);
     assert_eq!(number(&[ABSORB + LIMIT + 1], &[]), 19);
-    assert_eq!(number(&[ABSORB + LIMIT; 64], &[]), 4);
+    assert_eq!(number(&[ABSORB + LIMIT; 64], &[]), 0);
     assert_eq!(number(&[ABSORB + LIMIT + 1, 1], &[0; 257]), 19);
     assert_eq!(number(&[ABSORB + LIMIT, 1], &[0; 257]), 6);
     for absorbed in [1, 32, 63] {
@@ -172,6 +180,8 @@ fn declared_calls_turned_away_as_in_the_request() {
         let record = started(2, &words, &[]);
         assert_eq!((record.count, &record.words[..3]), (2, &merged[..]));
     }
+    let record = started(2, &[ABSORB + LIMIT; 64], &[]);
+    assert_eq!((record.count, &record.words[..2]), (1, &[ABSORB + 64 * LIMIT, 0][..]));
 }
 
 /// "Reading still takes any 31-bit length", and so does a sound record.
@@ -224,8 +234,12 @@ fn words_cut_into_calls() {
 /// "what it reads is written again by cutting longer words .. where 64 calls suffice."
 #[test]
 fn what_is_read_is_written_again() {
-    let lists: [&[u32]; 5] = [
+    let lists: [&[u32]; 9] = [
+        &[ABSORB + 3],
+        &[ABSORB + 64 * LIMIT],
         &[ABSORB + 6, 3],
+        &[ABSORB + 6, 3, ABSORB + 1],
+        &[ABSORB + LIMIT + 1, LIMIT, ABSORB + 61 * LIMIT],
         &[ABSORB + LIMIT + 1, 2 * LIMIT],
         &[ABSORB + 63 * LIMIT, 1],
         &[ABSORB + 1, 63 * LIMIT - 1],
@@ -307,6 +321,7 @@ fn numbers_9_and_11_wipe_the_record() {
     assert_eq!((finish(&mut record), record), (11, WIPED));
 }
 
+/// Of number 13, P6 of document 02: its "example in 01 now reads, and 00000001 with length 0 takes its place".
 #[test]
 fn tags_turned_away_as_in_the_table() {
     let mut out = [77; 9];
@@ -315,7 +330,9 @@ fn tags_turned_away_as_in_the_table() {
         Err(12)
     );
     assert_eq!(out, [77; 9]);
-    assert_eq!(read_tag(&[0x80, 0, 0, 3], 0), (13, [0; 64], 0));
+    assert_eq!(read_tag(&[0, 0, 0, 1], 0), (13, [0; 64], 0));
+    let (number, words, count) = read_tag(&[0x80, 0, 0, 3], 0);
+    assert_eq!((number, &words[..2], count), (0, &[0x80000003, 0][..], 1));
 }
 
 /// "The 696 round constants"; "so 744 constants from the same generator".
@@ -344,21 +361,23 @@ fn step(record: &mut Session) {
 fn formula_gives_what_the_steps_give() {
     for (first, second, third) in [(1, 1, 1), (7, 8, 9), (8, 9, 7), (9, 16, 8), (17, 7, 25), (24, 33, 16)] {
         let words = [ABSORB + first, second, ABSORB + third, 1];
-        let mut record = started(2, &words, &[]);
-        for _ in 0..=first + second + third {
-            step(&mut record);
-            let here = place(&words, record.phase as usize, record.done);
-            let (absorb_position, squeeze_position) = (record.absorb_position, record.squeeze_position);
-            assert_eq!(
-                here,
-                Place {
-                    absorb_position,
-                    squeeze_position,
-                    permutations: record.permutations
-                }
-            );
+        for words in (1..=4).map(|count| &words[..count]) {
+            let mut record = started(2, words, &[]);
+            for _ in 0..words.iter().map(|word| length(*word)).sum() {
+                step(&mut record);
+                let here = place(words, record.phase as usize, record.done);
+                let (absorb_position, squeeze_position) = (record.absorb_position, record.squeeze_position);
+                assert_eq!(
+                    here,
+                    Place {
+                        absorb_position,
+                        squeeze_position,
+                        permutations: record.permutations
+                    }
+                );
+            }
+            assert_eq!(finish(&mut record), 0);
         }
-        assert_eq!(finish(&mut record), 0);
     }
 }
 

@@ -1,7 +1,7 @@
-//! An independent implementation of the challenge sponge, written from document 01 and P3 and P4 of document 02 alone, and
-//! of the owners of separators, written from P1 of document 02 alone (`owners.rs`). It shares no code with the library, which
-//! the tests compare with it, and is plain rather than fast. Quotations here are from document 01 unless another source is
-//! named.
+//! An independent implementation of the challenge sponge, written from document 01 and P3, P4 and P6 of document 02 alone,
+//! and of the owners of separators, written from P1 of document 02 alone (`owners.rs`). It shares no code with the library,
+//! which the tests compare with it, and is plain rather than fast. Quotations here are from document 01 unless another source
+//! is named.
 
 // Each program that takes this file in uses only a part of it.
 #![allow(dead_code, unused_imports)]
@@ -383,7 +383,8 @@ fn merge(words: &[u32]) -> Vec<u32> {
 }
 
 /// "START checks 1 to 6 in number order, whichever word is at fault". P4: "19: a declared call above 16,777,216 elements, after
-/// 2 and before 3", and 5 is not given. Gives the merged words or the number.
+/// 2 and before 3", and 5 is not given. P6: "Accept a pattern whose last word is ABSORB, a pattern of ABSORB words alone
+/// included. Number 4 is no longer given". Gives the merged words or the number.
 fn check_pattern(words: &[u32], separator: &[u8]) -> Result<Vec<u32>, u32> {
     if words.is_empty() || words.len() > MOST_WORDS {
         return Err(1);
@@ -396,9 +397,6 @@ fn check_pattern(words: &[u32], separator: &[u8]) -> Result<Vec<u32>, u32> {
     }
     if !is_absorb(words[0]) {
         return Err(3);
-    }
-    if is_absorb(words[words.len() - 1]) {
-        return Err(4);
     }
     if separator.len() > LONGEST_SEPARATOR {
         return Err(6);
@@ -580,20 +578,19 @@ pub fn place(words: &[u32], phase: usize, done: u32) -> Place {
     words.get(phase).map_or(whole, |word| whole.after(*word, done))
 }
 
-/// "its words are 2 to 64, even in number, alternate from ABSORB, have lengths of at least 1".
+/// "alternate from ABSORB, have lengths of at least 1". P6: "record soundness and reading drop the even count and take 1 to 64
+/// words."
 fn is_word_list(words: &[u32]) -> bool {
-    (2..=MOST_WORDS).contains(&words.len())
-        && words.len() % 2 == 0
+    (1..=MOST_WORDS).contains(&words.len())
         && words
             .iter()
             .enumerate()
             .all(|(k, word)| is_absorb(*word) == (k % 2 == 0) && length(*word) >= 1)
 }
 
-/// "An open record is sound if its words are 2 to 64, even in number, alternate from ABSORB, have lengths of at least 1,
-/// and unused words are 0; the phase number is at most the word count; elements done are below the phase's length, or 0
-/// after the last phase; all state elements are below p; and count and positions are those the steps give at that
-/// place."
+/// "An open record is sound if its words" are a word list "and unused words are 0; the phase number is at most the word
+/// count; elements done are below the phase's length, or 0 after the last phase; all state elements are below p; and count
+/// and positions are those the steps give at that place."
 fn is_sound(field: &Field, record: &Session) -> bool {
     if record.count > MOST_WORDS as u32 || record.phase > record.count {
         return false;
