@@ -37,6 +37,11 @@ fn permutations(field: u32, words: &[u32]) -> u64 {
     fully_run(field, words).permutations
 }
 
+/// Words of length 1 that alternate from ABSORB.
+fn alternating_ones(count: usize) -> Vec<u32> {
+    [ABSORB + 1, 1].into_iter().cycle().take(count).collect()
+}
+
 /// The number that START and writing give.
 fn pattern_number(words: &[u32], separator: &[u8]) -> u32 {
     let number = start(1, words, separator).0;
@@ -182,6 +187,149 @@ fn declared_calls_turned_away_as_in_the_request() {
     }
     let record = started(2, &[ABSORB + LIMIT; 64], &[]);
     assert_eq!((record.count, &record.words[..2]), (1, &[ABSORB + 64 * LIMIT, 0][..]));
+}
+
+/// "Accept a pattern whose last word is ABSORB, a pattern of ABSORB words alone included. Number 4 is no longer given".
+#[test]
+fn patterns_that_end_by_absorbing() {
+    for count in 1..=64 {
+        let words = alternating_ones(count);
+        let record = started(1, &words, &[]);
+        assert_eq!((record.count, &record.words[..count]), (count as u32, &words[..]));
+        assert!(record.words[count..].iter().all(|word| *word == 0));
+        let record = started(2, &vec![ABSORB + 2; count], &[]);
+        assert_eq!(
+            (record.count, &record.words[..2]),
+            (1, &[ABSORB + 2 * count as u32, 0][..])
+        );
+    }
+    let record = started(1, &[ABSORB + 1, 2, 3, ABSORB + 4, ABSORB + 5], &[]);
+    assert_eq!(
+        (record.count, &record.words[..4]),
+        (3, &[ABSORB + 1, 5, ABSORB + 9, 0][..])
+    );
+    assert_eq!(written(&[0x80000003], b"AB"), [0x80, 0, 0, 3, 0x41, 0x42]);
+    assert_eq!(
+        written(&[0x80000001, 0x00000002, 0x80000003], &[]),
+        [0x80, 0, 0, 1, 0, 0, 0, 2, 0x80, 0, 0, 3]
+    );
+    assert_eq!(write_tag(&[0x80000003], b"AB", &mut [0; 5]), Err(12));
+}
+
+/// The numbers that a last ABSORB leaves as they are. START "checks 1 to 6 in number order", with 19 "after 2 and before 3".
+#[test]
+fn patterns_that_end_by_absorbing_and_are_turned_away() {
+    assert_eq!(pattern_number(&alternating_ones(65), &[]), 1);
+    assert_eq!(pattern_number(&[ABSORB + 1; 65], &[]), 1);
+    assert_eq!(pattern_number(&[ABSORB], &[]), 2);
+    assert_eq!(pattern_number(&[1, LIMIT + 1, ABSORB], &[0; 257]), 2);
+    assert_eq!(pattern_number(&[1, ABSORB + LIMIT + 1], &[0; 257]), 19);
+    assert_eq!(pattern_number(&[1, ABSORB + 1], &[0; 257]), 3);
+    assert_eq!(pattern_number(&[ABSORB + 1], &[0; 257]), 6);
+    assert_eq!(pattern_number(&[ABSORB + 1, 1, ABSORB + 1], &[0; 257]), 6);
+    assert_eq!(pattern_number(&[ABSORB + 1], &[0; 256]), 0);
+    assert_eq!(start(0, &[ABSORB + 1], &[]), (18, WIPED));
+}
+
+/// "A finished session's permutations follow the same per-phase formula": "absorb, 0 if d = 0, else ceil(d/8) − 1; squeeze, ceil(d/8)."
+#[test]
+fn permutations_of_sessions_that_end_by_absorbing() {
+    for field in [1, 2] {
+        assert_eq!(permutations(field, &[ABSORB + 1]), 0);
+        assert_eq!(permutations(field, &[ABSORB + 8]), 0);
+        assert_eq!(permutations(field, &[ABSORB + 9]), 1);
+        assert_eq!(permutations(field, &[ABSORB + 1; 64]), 7);
+        assert_eq!(permutations(field, &[ABSORB + 8, 1, ABSORB + 8]), 1);
+        assert_eq!(permutations(field, &[ABSORB + 1, 9, ABSORB + 9]), 3);
+        assert_eq!(permutations(field, &alternating_ones(63)), 31);
+    }
+}
+
+/// "ABSORB adds each element at the absorb position. If that is 8, it permutes and goes to 0 first", so nothing permutes after a last ABSORB.
+#[test]
+fn last_block_is_absorbed_and_not_permuted() {
+    for field in [1, 2] {
+        let fresh = started(field, &[ABSORB + 8], &[]);
+        let mut record = fresh.clone();
+        assert_eq!(absorb(&mut record, &[11, 12, 13, 14, 15, 16, 17, 18]), 0);
+        let mut state = fresh.state;
+        state[..8].copy_from_slice(&[11, 12, 13, 14, 15, 16, 17, 18]);
+        assert_eq!(
+            record,
+            Session {
+                state,
+                phase: 1,
+                absorb_position: 8,
+                squeeze_position: 8,
+                ..fresh
+            }
+        );
+        let mut record = started(field, &[ABSORB + 9], &[]);
+        assert_eq!(absorb(&mut record, &[5; 8]), 0);
+        let mut state = record.state;
+        assert_eq!((absorb(&mut record, &[0]), permute(field, &mut state)), (0, 0));
+        assert_eq!((record.state, record.absorb_position), (state, 1));
+    }
+}
+
+/// "wrong kind, past the phase's end, or after the last phase"; "FINISH before the last phase's end"; "Length 0 on an open sound record is
+/// accepted and changes nothing."
+#[test]
+fn calls_after_a_last_absorb() {
+    for words in [&[ABSORB + 8][..], &[ABSORB + 1; 64], &[ABSORB + 3, 9, ABSORB + 9]] {
+        let done = fully_run(1, words);
+        assert_eq!((done.phase, done.done), (done.count, 0));
+        let (mut record, mut buffer) = (done.clone(), [77]);
+        assert_eq!((squeeze(&mut record, &mut buffer), record, buffer), (9, WIPED, [77]));
+        let mut record = done.clone();
+        assert_eq!((absorb(&mut record, &[1]), record), (9, WIPED));
+        let mut record = done.clone();
+        assert_eq!((absorb(&mut record, &[]), squeeze(&mut record, &mut [])), (0, 0));
+        assert_eq!(record, done);
+    }
+    let mut record = started(1, &[ABSORB + 8], &[]);
+    assert_eq!(absorb(&mut record, &[1; 7]), 0);
+    let mut past = record.clone();
+    assert_eq!((absorb(&mut past, &[1, 1]), past), (9, WIPED));
+    assert_eq!((finish(&mut record), record), (11, WIPED));
+}
+
+/// "record soundness and reading drop the even count and take 1 to 64 words."
+#[test]
+fn word_lists_that_are_read_and_sound() {
+    let number = |words: &[u32]| {
+        let string: Vec<u8> = words.iter().flat_map(|word| word.to_be_bytes()).collect();
+        let (number, read, count) = read_tag(&string, 0);
+        assert_eq!(&read[..count], if number == 0 { words } else { &[] });
+        assert!(read[count..].iter().all(|word| *word == 0));
+        if words.len() <= 64 {
+            let mut record = Session {
+                words: [0; 64],
+                count: words.len() as u32,
+                ..started(1, &[ABSORB + 1], &[])
+            };
+            record.words[..words.len()].copy_from_slice(words);
+            assert_eq!(absorb(&mut record, &[]), if number == 0 { 0 } else { 8 });
+        }
+        number
+    };
+    for count in 1..=64 {
+        let words = alternating_ones(count);
+        assert_eq!(number(&words), 0);
+        for k in 0..count {
+            for wrong in [0, ABSORB, words[k] ^ ABSORB] {
+                let mut words = words.clone();
+                words[k] = wrong;
+                assert_eq!(number(&words), 13);
+            }
+        }
+    }
+    assert_eq!(number(&[]), 13);
+    assert_eq!(number(&alternating_ones(65)), 13);
+    assert_eq!(number(&[ABSORB + LONGEST]), 0);
+    assert_eq!(number(&[0x80000003]), 0);
+    assert_eq!(number(&[0x00000001]), 13);
+    assert_eq!(read_separator(&[0x80, 0, 0, 3, 0x41, 0x42], 2), [0x41, 0x42]);
 }
 
 /// "Reading still takes any 31-bit length", and so does a sound record.
