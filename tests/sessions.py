@@ -167,6 +167,8 @@ def random_pattern(source):
     """One that START accepts, or that with one word of another kind or length."""
     words = [top + source.choice([1, 2, 7, 8, 9, source.randint(1, 30)])
              for _ in range(source.randint(1, 5)) for top in (ABSORB, 0) for _ in range(source.randint(1, 3))]
+    if source.random() < 0.3:
+        words = words[:source.randint(1, len(words))]
     if source.random() < 0.15:
         words[source.randrange(len(words))] ^= source.choice([ABSORB, LONGEST])
     return words
@@ -227,7 +229,7 @@ def random_sessions(calls):
 
 def document_examples(calls):
     """Document 01's examples of numbers 1 to 11, each with a call behind it that tells a wiped record from one that is left."""
-    for words, length in (([], 0), ([ABSORB + 3, 0], 0), ([1], 0), ([ABSORB + 1], 0), ([LARGEST, ABSORB + 1, 1], 0),
+    for words, length in (([], 0), ([ABSORB + 3, 0], 0), ([1], 0), ([LARGEST, ABSORB + 1, 1], 0),
                           ([ABSORB + 1, 1], 257)):
         calls.start(words, separator(length))
         calls.absorb([1])
@@ -254,7 +256,7 @@ def document_examples(calls):
 
 
 # what a pattern and a separator can be turned away for
-FAULTS = (1, 2, 19, 3, 4, 6)
+FAULTS = (1, 2, 19, 3, 6)
 
 
 def faulty(faults):
@@ -264,12 +266,12 @@ def faulty(faults):
         words[2:2] = [ABSORB + LIMIT + 1, ABSORB + 1]
     if 1 in faults:
         words[2:2] = [ABSORB + 1, 1] * 32
-    return [7] * (3 in faults) + words + [ABSORB + 9] * (4 in faults), separator(257 if 6 in faults else 2)
+    return [7] * (3 in faults) + words, separator(257 if 6 in faults else 2)
 
 
 def refused_starts(calls):
     """Every set of faults, each START after one that opened a session, and a call on the record that it leaves."""
-    for bits in range(1, 64):
+    for bits in range(1, 32):
         calls.field = 1 + bin(bits).count("1") % 2
         calls.start([ABSORB + 1, 1])
         calls.start(*faulty({number for k, number in enumerate(FAULTS) if bits >> k & 1}))
@@ -335,6 +337,28 @@ def shapes(calls):
         calls.absorb(elements(2, calls.prime()))
         calls.squeeze(buffer(2))
         calls.finish()
+
+
+def absorbing_ends(calls):
+    """Sessions whose last phase is ABSORB: run to the end, finished early and late, with a call behind the end, and records at the end with another
+    count."""
+    for words in ([ABSORB + 8], [ABSORB + 9], [ABSORB + 1], [ABSORB + 1] * 64, [ABSORB + 3, 2, ABSORB + 8], [ABSORB + 8, 8, ABSORB + 17],
+                  ([ABSORB + 1, 2] * 32)[:63]):
+        calls.turn()
+        calls.start(words, separator(3))
+        opened = calls.record
+        calls.follow()
+        for after in (lambda: calls.squeeze(buffer(1)), lambda: calls.absorb([1]), lambda: calls.absorb([]), calls.finish):
+            calls.put(calls.placed(opened, opened["count"], 0))
+            after()
+            calls.finish()
+        last = opened["words"][opened["count"] - 1] % ABSORB
+        calls.put(calls.placed(opened, opened["count"] - 1, last - 1))
+        calls.finish()
+        for change in (1, -1, 1 << 20):
+            end = calls.placed(opened, opened["count"], 0)
+            calls.put(dict(end, permutations=(end["permutations"] + change) % (1 << 64)))
+            calls.finish()
 
 
 def long_phases(calls):
@@ -527,7 +551,7 @@ def cases():
         for calls.field in (1, 2):
             part(calls)
     # these open sessions of both fields themselves
-    for part in (random_sessions, refused_starts, unknown_fields, changed_records, long_phases, empty_calls, out_of_pattern):
+    for part in (random_sessions, refused_starts, unknown_fields, changed_records, absorbing_ends, long_phases, empty_calls, out_of_pattern):
         part(calls)
 
 

@@ -111,7 +111,7 @@ def write_cases():
         if number % 7 == 0:
             words[random.randrange(len(words))] &= ABSORB
         yield words, separator(random.choice([0, 1, 2, 8, 31])), random.choice([-1, 0, 0, 0, 1, 4])
-    # words behind which another number counts, word by word: 19 then 2, 3 then 2, 3 then 19 then 2, 4 and not, and 1 behind each
+    # words behind which another number counts, word by word: 19 then 2, 3 then 2, 3 then 19 then 2, and 1 behind each
     for words in (long + [0], [1, 0], [1, ABSORB + LIMIT + 1, 2, 0], long + [1, ABSORB + 1, ABSORB], [1] + long + [0, 1], [ABSORB + 1, 1, ABSORB + 1] + long + [2, ABSORB + 3, 0]):
         for end in range(1, len(words)):
             yield words[:end], b"", 4
@@ -125,8 +125,9 @@ def read_cases():
     """A string, and the separator's length."""
     def string(words, bytes_behind):
         return b"".join(w.to_bytes(4, "big") for w in words) + bytes_behind
-    # document 01's example, its samples
+    # document 01's example of 13, that of document 02 in its place, samples
     yield string([ABSORB + 3], b""), 0
+    yield string([1], b""), 0
     yield bytes.fromhex("80000006000000034142"), 2
     both = bytes.fromhex("80000001000000018000000200000002")
     for length in range(18):
@@ -138,7 +139,7 @@ def read_cases():
         yield whole[:length], max(0, length - 16)
     for length in (0, 7, 8, 9, 12, 23, 24, 25, 255, 256, 257, 1 << 31, (1 << 32) + 8, (1 << 64) - 1):
         yield whole, length
-    # words that are not sound: unmerged, of length 0, of the wrong kind, odd, too many
+    # words that are sound, in any number up to 64, and words that are not: unmerged, of length 0, of the wrong kind, none, too many
     for words in ([], [ABSORB + 1, ABSORB + 1], [ABSORB + 1, 1, 1], [1, ABSORB + 1], [ABSORB, 1], [ABSORB + 1, 0], [ABSORB + 1, 1, ABSORB + 1],
                   [ABSORB + 1, 1, ABSORB + 1, 0], [ABSORB + 1, 1, ABSORB, 1], [ABSORB + 1, 1, ABSORB + 1, ABSORB + 1], [ABSORB + 1, 1] * 31,
                   ([ABSORB + 1, 1] * 32)[:63], [ABSORB + 1, 1] * 32, ([ABSORB + 1, 1] * 33)[:65], [ABSORB + 1, 1] * 33, [ABSORB + 1, 1] * 60,
