@@ -105,7 +105,7 @@ fn damage_pattern(random: &mut Random, words: &mut Vec<u32>) {
         0 => words[k] &= ABSORB,
         1 => words[0] ^= ABSORB,
         2 => words[last] ^= ABSORB,
-        3 => words[k] = words[k] & ABSORB | LONGEST_CALL + random.pick(&[0, 1, 1, 2]),
+        3 => words[k] = words[k] & ABSORB | (LONGEST_CALL + random.pick(&[0, 1, 1, 2])),
         4 => words[k] = words[k] & ABSORB | any_length(random),
         5 => words[k] = u32::any(random),
         6 => {
