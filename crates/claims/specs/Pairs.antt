@@ -11,14 +11,18 @@ use native.Mathlib.Omega.{arith}
 use borrow.Author.Tests.{le-leb, eq-eqb, eqb-true, ltb-false, le-ltb, not-false}
 use lib.Dec.{leb, ltb, eqb}
 use lib.ListN.{length, getD, length-map}
-use Rattle.basics.specs.Logic.{if_then_else_, _and_, _or_, all, any}
+use Rattle.basics.specs.Logic.{if_then_else_, _and_, _or_, same, all, any}
+use Rattle.basics.specs.Digits.{number, numberAfter}
+use Rattle.basics.specs.Lists.{tabulate, sum}
+use Rattle.counters.specs.Permutations.{blockCount, phasePermutations, permutationsAt, fullPermutations}
+use Rattle.tag.specs.TagString.{wordAt, wordsOf, wordsPart, soundBytes, readRows, readNumber}
 use Rattle.basics.specs.Numbers.{accepted, lastWordAbsorb, separatorTooLong, recordNotSound, fieldUnknown}
 use Rattle.basics.specs.Refusals.{Row, _gets_⨾_, firstNumber}
 use Rattle.basics.proofs.Cases.{by, cases, if-true, if-false, or-false, and-stop, and-false}
 use Rattle.basics.proofs.FirstRow.{accepted-none, none-applies}
 use Rattle.field.specs.Field.{isField}
-use Rattle.words.specs.Words.{isAbsorb, wordOf}
-use Rattle.pattern.specs.Pattern.{phases, mergedWords}
+use Rattle.words.specs.Words.{isAbsorb, lengthOf, phaseOf, wordOf}
+use Rattle.pattern.specs.Pattern.{join, merge, phases, mergedWords, alternate, soundWords}
 use Rattle.pattern.specs.Opening.{Opening, maxSeparator, wordRows}
 use Rattle.pattern.proofs.StartCheck.{PassedWords, PassedRows, passes, passed-rows}
 use Rattle.pattern.proofs.MergedWords.{even-words, some-phases}
@@ -237,3 +241,17 @@ rules-of-pairs r c = (
   λ opens fails. if-true _ _ _ (ap₂ (λ (a b : Bool). a and not b) (eq-eqb _ _ opens) fails ∙ one-fails),
   λ sounds. if-false _ _ _ (ap (λ (b : Bool). eqb (r .status) opened and not b) sounds ∙ and-false _),
 )
+
+-- "So number 13's example in 01 now reads, and 00000001 with length 0 takes its place."
+pub examples-read :
+    (_≡_ {A = ℕ} (readNumber (0x80 ∷ 0 ∷ 0 ∷ 3 ∷ []) 0) 0)
+    × (_≡_ {A = ℕ} (readNumber (0 ∷ 0 ∷ 0 ∷ 1 ∷ []) 0) 13)
+    × (_≡_ {A = ℕ} (readNumber [] 0) 13)
+unfolding readNumber readRows soundBytes wordsPart wordsOf wordAt firstNumber soundWords alternate isAbsorb lengthOf number numberAfter tabulate
+    if_then_else_ _and_ same all
+examples-read = (refl, refl, refl)
+
+-- The last block of a session that ends by absorbing is absorbed and not permuted: 8 elements take no permutation, and 9 take one.
+pub last-block-stays : (fullPermutations (0x80000008 ∷ []) ≡ 0) × (fullPermutations (0x80000009 ∷ []) ≡ 1)
+unfolding fullPermutations permutationsAt phasePermutations blockCount sum mergedWords phases merge join phaseOf wordOf isAbsorb lengthOf if_then_else_
+last-block-stays = (refl, refl)
