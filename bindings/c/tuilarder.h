@@ -89,7 +89,7 @@ enum tuilarder_number {
     TUILARDER_WORD_LENGTH_ZERO = 2,
     /* first word is SQUEEZE */
     TUILARDER_FIRST_WORD_SQUEEZE = 3,
-    /* last word is ABSORB */
+    /* last word is ABSORB (unused) */
     TUILARDER_LAST_WORD_ABSORB = 4,
     /* merged length above 2147483647 (unused) */
     TUILARDER_MERGED_LENGTH_TOO_LONG = 5,
@@ -178,9 +178,9 @@ TUILARDER_ASSERT(sizeof(size_t) == 8 && sizeof(void *) == 8);
 uint64_t tuilarder_layout_2(void);
 
 /*
- * START: opens a session for a field, a pattern and a separator in the record, whatever that held. Checks 18, 1, 2, 19, 3, 4 and 6, in this
- * order, whichever word is at fault. Refused, it leaves a wiped record. The separator names the protocol: no two of a verifier have the same,
- * and all of them have one length.
+ * START: opens a session for a field, a pattern and a separator in the record, whatever that held. Checks 18, 1, 2, 19, 3 and 6, in this
+ * order, whichever word is at fault. Refused, it leaves a wiped record. The last word may be of either kind; a last ABSORB bears on no element
+ * that the session squeezes. The separator names the protocol: no two of a verifier have the same, and all of them have one length.
  */
 TUILARDER_ANSWER tuilarder_start(struct tuilarder_session *record, uint32_t field, const uint32_t *words, size_t words_length,
                                  const uint8_t *separator, size_t separator_length);
@@ -205,7 +205,7 @@ TUILARDER_ANSWER tuilarder_finish(struct tuilarder_session *record);
 
 /*
  * Writes the tag string of a pattern and a separator, from out's start and only the string's bytes, and its length to written.
- * Checks 1, 2, 19, 3, 4, 6 and 12, in this order. Refused, it writes nothing to out, and 0 to written.
+ * Checks 1, 2, 19, 3, 6 and 12, in this order. Refused, it writes nothing to out, and 0 to written.
  */
 TUILARDER_ANSWER tuilarder_write_tag(const uint32_t *words, size_t words_length, const uint8_t *separator,
                                      size_t separator_length, uint8_t *out, size_t out_length, size_t *written);
