@@ -1,6 +1,7 @@
 #!/usr/bin/env python3
 """Whether the elements that the tests in C and Rust expect are those of the second implementation (tests/oracle): what the samples B4 to B7 squeeze in
-either field, and the protocol of two rounds; a permuted state of either field; the state that a session begins with; round constants and their sums.
+either field, a pattern that ends with ABSORB, and the protocol of two rounds; a permuted state of either field; the state that a session begins with;
+round constants and their sums.
 
   tests/known_values.py test
 """
@@ -13,8 +14,8 @@ from tree import read, report
 
 ABSORB = 1 << 31
 SOURCES = ("bindings/rust/tests/api.rs", "bindings/c/tests/session.c")
-# numbers there that nothing answers with: both p, the longest length, the longest call, and a word in hexadecimal digits
-OTHERS = {*oracle.PRIME.values(), oracle.MAX_LENGTH, oracle.MAX_CALL, 80000003}
+# numbers there that nothing answers with: both p, the longest length, the longest call, and two words in hexadecimal digits
+OTHERS = {*oracle.PRIME.values(), oracle.MAX_LENGTH, oracle.MAX_CALL, 80000003, 1}
 
 
 def squeezed(field, lengths, separator, elements):
@@ -32,7 +33,7 @@ def squeezed(field, lengths, separator, elements):
 
 
 def of_field(field):
-    for lengths, separator in (((8, 1), b""), ((9, 1), b""), ((1, 9), b""), ((8, 8, 1, 1), b""), ((8, 8, 1, 1), b"AB")):
+    for lengths, separator in (((8, 1), b""), ((9, 1), b""), ((1, 9), b""), ((8, 8, 1, 1), b""), ((8, 8, 1, 1), b"AB"), ((8, 8, 9), b"")):
         yield from squeezed(field, lengths, separator, itertools.count(1))
     yield from oracle.permute(list(range(24)), field)[1]
     constants = oracle.found(field)

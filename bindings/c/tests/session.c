@@ -1,6 +1,6 @@
 /*
- * Calls the static library through tuilarder.h: sessions of both fields, the record's members, an example of each number, words cut into calls,
- * empty lists, and bad records. It is meant for valgrind: most of what is lent ends where its block ends.
+ * Calls the static library through tuilarder.h: sessions of both fields, those that end with ABSORB too, the record's members, an example of each
+ * number, words cut into calls, empty lists, and bad records. It is meant for valgrind: most of what is lent ends where its block ends.
  */
 #include "tuilarder.h"
 
@@ -84,8 +84,8 @@ static int wiped_record(const struct lent *record)
 
 /* ---- sessions */
 
-/* Document 01's samples B4 to B7, and B7 with a separator, in both fields: permutations before FINISH, and the last element squeezed where the
-   numbers from first on are absorbed. That element is from the second implementation, in Python. */
+/* Document 01's samples B4 to B7, B7 with a separator, and patterns that end with ABSORB, in both fields: permutations before FINISH, and the last
+   element squeezed where the numbers from first on are absorbed, 0 if none is. That element is from the second implementation, in Python. */
 static const struct sample {
     uint32_t field;
     uint32_t words[4];
@@ -100,12 +100,18 @@ static const struct sample {
     {BABY_BEAR, {A | 1, 9}, 2, "", 1, 2, 669881811},
     {BABY_BEAR, {A | 8, 8, A | 1, 1}, 4, "", 1, 2, 19357506},
     {BABY_BEAR, {A | 8, 8, A | 1, 1}, 4, "AB", 1, 2, 1610560294},
+    {BABY_BEAR, {A | 8}, 1, "", 1, 0, 0},
+    {BABY_BEAR, {A | 9}, 1, "", 1, 1, 0},
+    {BABY_BEAR, {A | 8, 8, A | 9}, 3, "", 1, 2, 1386593099},
     {KOALA_BEAR, {A | 8, 1}, 2, "", 1, 1, 660617525},
     {KOALA_BEAR, {A | 9, 1}, 2, "", 1, 2, 340153162},
     {KOALA_BEAR, {A | 1, 9}, 2, "", 1, 2, 992041210},
     {KOALA_BEAR, {A | 8, 8, A | 1, 1}, 4, "", 1, 2, 1420244152},
     {KOALA_BEAR, {A | 8, 8, A | 1, 1}, 4, "AB", 1, 2, 71205172},
     {KOALA_BEAR, {A | 8, 1}, 2, "", BETWEEN, 1, 2112122197},
+    {KOALA_BEAR, {A | 8}, 1, "", BETWEEN, 0, 0},
+    {KOALA_BEAR, {A | 9}, 1, "", BETWEEN, 1, 0},
+    {KOALA_BEAR, {A | 8, 8, A | 9}, 3, "", 1, 2, 1473928020},
 };
 
 /* One phase of a sample: absorbs the numbers from first on, or squeezes. Gives the last element. */
@@ -232,8 +238,8 @@ static void test_members(uint32_t field)
 
 /* ---- an example of each number */
 
-/* Document 01's examples for 1 to 6, of which 5's gets 19, as sample B3 does; 65 words; 19 behind 2 and before 3, whichever word is at fault; and
-   what is just accepted. */
+/* Document 01's examples for 1 to 6, of which 4's is accepted, and 5's gets 19, as sample B3 does; 65 words; 19 behind 2 and before 3, whichever
+   word is at fault; and what is just accepted, with a last word of either kind. */
 static const struct start_example {
     uint32_t number;
     uint32_t words[4];
@@ -244,7 +250,7 @@ static const struct start_example {
     {TUILARDER_WORD_COUNT_OUT_OF_RANGE, {0}, 65, 257},
     {TUILARDER_WORD_LENGTH_ZERO, {A | 3, 0}, 2, 0},
     {TUILARDER_FIRST_WORD_SQUEEZE, {1}, 1, 0},
-    {TUILARDER_LAST_WORD_ABSORB, {A | 1}, 1, 0},
+    {TUILARDER_ACCEPTED, {A | 1}, 1, 0},
     {TUILARDER_CALL_TOO_LONG, {0xffffffffu, A | 1, 1}, 3, 0},
     {TUILARDER_CALL_TOO_LONG, {0xfffffffeu, A | 1, 1}, 3, 0},
     {TUILARDER_SEPARATOR_TOO_LONG, {A | 1, 1}, 2, 257},
@@ -255,7 +261,13 @@ static const struct start_example {
     {TUILARDER_CALL_TOO_LONG, {A | 1, LIMIT + 1}, 2, 0},
     {TUILARDER_CALL_TOO_LONG, {1, A | (LIMIT + 1)}, 2, 0},
     {TUILARDER_FIRST_WORD_SQUEEZE, {LIMIT, A | LIMIT}, 2, 0},
-    {TUILARDER_LAST_WORD_ABSORB, {A | LIMIT, A | LIMIT}, 2, 257},
+    {TUILARDER_FIRST_WORD_SQUEEZE, {1, A | 1}, 2, 257},
+    {TUILARDER_WORD_LENGTH_ZERO, {A | 1, 1, A}, 3, 257},
+    {TUILARDER_CALL_TOO_LONG, {A | 1, 1, A | (LIMIT + 1)}, 3, 257},
+    {TUILARDER_SEPARATOR_TOO_LONG, {A | LIMIT, A | LIMIT}, 2, 257},
+    {TUILARDER_SEPARATOR_TOO_LONG, {A | 1, 1, A | LIMIT}, 3, 257},
+    {TUILARDER_ACCEPTED, {A | LIMIT, A | LIMIT}, 2, 256},
+    {TUILARDER_ACCEPTED, {A | 1, 1, A | LIMIT, A | LIMIT}, 4, 0},
     {TUILARDER_ACCEPTED, {A | LIMIT, LIMIT}, 2, 0},
     {TUILARDER_ACCEPTED, {A | LIMIT, A | LIMIT, LIMIT, 1}, 4, 256},
 };
@@ -280,6 +292,15 @@ static void start_in_fields(uint32_t number, const struct lent *words, const str
     give_back(&record);
 }
 
+/* How many words a pattern has when it is merged. */
+static size_t merged_count(const uint32_t *words, size_t count)
+{
+    size_t merged = count != 0;
+    for (size_t k = 1; k < count; k++)
+        merged += (words[k] & A) != (words[k - 1] & A);
+    return merged;
+}
+
 /* START, and the same of writing, which takes no field. */
 static void test_start(const struct start_example *example)
 {
@@ -295,7 +316,10 @@ static void test_start(const struct start_example *example)
     start_in_fields(example->number, &words, &separator);
     CHECK(tuilarder_write_tag(words.part, example->count, separator.part, separator.length, out.part, out.length, &written)
           == example->number);
-    CHECK(example->number == TUILARDER_ACCEPTED ? written == 8 + separator.length : written == 0 && same(&out));
+    if (example->number == TUILARDER_ACCEPTED)
+        CHECK(written == 4 * merged_count(words.part, example->count) + separator.length);
+    else
+        CHECK(written == 0 && same(&out));
     give_back(&out);
     give_back(&separator);
     give_back(&words);
@@ -400,6 +424,109 @@ static void test_element_and_finish(uint32_t field)
     give_back(&record);
 }
 
+/* ---- sessions that end with ABSORB */
+
+/* Patterns whose last word is ABSORB, the permutations of the whole session, and the absorb position that its last element leaves. */
+static const struct ending {
+    uint32_t words[3];
+    size_t count;
+    uint64_t permutations;
+    uint32_t absorb_position;
+} endings[] = {
+    {{A | 1}, 1, 0, 1},
+    {{A | 8}, 1, 0, 8},
+    {{A | 9}, 1, 1, 1},
+    {{A | 16}, 1, 1, 8},
+    {{A | 1, 1, A | 1}, 3, 1, 1},
+    {{A | 8, 8, A | 8}, 3, 1, 8},
+    {{A | 9, 9, A | 9}, 3, 4, 1},
+};
+
+/* A copy of the record as it is. */
+static struct lent fork_of(const struct lent *record)
+{
+    return lend_copy(record->part, record->length);
+}
+
+/* A place from which neither kind of call goes on: each gets 9, wipes its record, and leaves the list or the buffer. */
+static void check_no_call(const struct lent *record)
+{
+    const uint32_t one = 1;
+    struct lent buffer = lend_copy(&one, sizeof one), absorbing = fork_of(record), squeezing = fork_of(record);
+    CHECK(tuilarder_absorb(absorbing.part, buffer.part, 1) == TUILARDER_CALL_NOT_IN_PATTERN);
+    CHECK(wiped_record(&absorbing) && same(&buffer));
+    CHECK(tuilarder_squeeze(squeezing.part, buffer.part, 1) == TUILARDER_CALL_NOT_IN_PATTERN);
+    CHECK(wiped_record(&squeezing) && same(&buffer));
+    give_back(&squeezing);
+    give_back(&absorbing);
+    give_back(&buffer);
+}
+
+/* Before the last element: FINISH gets 11, and SQUEEZE 9, with the buffer as it was. */
+static void check_not_done(const struct lent *record)
+{
+    const uint32_t one = 1;
+    struct lent buffer = lend_copy(&one, sizeof one), finishing = fork_of(record), squeezing = fork_of(record);
+    CHECK(tuilarder_finish(finishing.part) == TUILARDER_PATTERN_NOT_DONE && wiped_record(&finishing));
+    CHECK(tuilarder_squeeze(squeezing.part, buffer.part, 1) == TUILARDER_CALL_NOT_IN_PATTERN);
+    CHECK(wiped_record(&squeezing) && same(&buffer));
+    give_back(&squeezing);
+    give_back(&finishing);
+    give_back(&buffer);
+}
+
+/* After the last element, which is added to the state and not permuted. Empty calls are accepted, others are not, and FINISH is. */
+static void check_done(struct lent *record, const struct ending *ending)
+{
+    const struct tuilarder_session *session = record->part;
+    CHECK(session->status == 1 && session->count == ending->count && session->phase == ending->count && session->done == 0);
+    CHECK(session->absorb_position == ending->absorb_position && session->squeeze_position == 8);
+    CHECK(session->permutations == ending->permutations);
+    remember(record);
+    CHECK(tuilarder_absorb(record->part, NULL, 0) == TUILARDER_ACCEPTED && same_record(record));
+    CHECK(tuilarder_squeeze(record->part, NULL, 0) == TUILARDER_ACCEPTED && same_record(record));
+    check_no_call(record);
+    CHECK(tuilarder_finish(record->part) == TUILARDER_ACCEPTED && wiped_record(record));
+}
+
+static void test_ending(uint32_t field, const struct ending *ending)
+{
+    struct lent words = lend_copy(ending->words, ending->count * sizeof(uint32_t));
+    struct lent record = lend(sizeof(struct tuilarder_session), 0);
+    struct tuilarder_session *session = record.part;
+    uint32_t last = ending->words[ending->count - 1], before;
+    CHECK(tuilarder_start(session, field, words.part, ending->count, (const uint8_t *)"ending", 6) == TUILARDER_ACCEPTED);
+    for (size_t k = 0; k + 1 < ending->count; k++)
+        run_phase(session, ending->words[k], 1);
+    if ((last & ~A) > 1)
+        run_phase(session, last - 1, 1);
+    check_not_done(&record);
+    before = session->state[ending->absorb_position - 1];
+    run_phase(session, A | 1, 7);
+    CHECK(ending->absorb_position == 1 || session->state[ending->absorb_position - 1] == (before + 7) % prime(field));
+    check_done(&record, ending);
+    give_back(&record);
+    give_back(&words);
+}
+
+/* Words taken away by hand from the record of ABSORB 1, SQUEEZE 1: without the last one it is sound, and without any it is not. */
+static void test_words_of_record(uint32_t field)
+{
+    const uint32_t one = 1;
+    struct lent record = open_record(field), none = open_record(field), buffer = lend_copy(&one, sizeof one);
+    struct tuilarder_session *session = record.part, *empty = none.part;
+    session->words[1] = 0;
+    session->count = 1;
+    CHECK(tuilarder_absorb(session, &one, 1) == TUILARDER_ACCEPTED && session->phase == 1);
+    CHECK(tuilarder_finish(session) == TUILARDER_ACCEPTED && wiped_record(&record));
+    empty->words[0] = empty->words[1] = 0;
+    empty->count = 0;
+    check_all_refuse(&none, &buffer, TUILARDER_RECORD_NOT_SOUND);
+    give_back(&buffer);
+    give_back(&none);
+    give_back(&record);
+}
+
 /* ---- tag strings, words cut, the permutation, the generator and the hash */
 
 /* Sample B1: its string, written into 10 bytes and 11, and not into 9. */
@@ -422,16 +549,18 @@ static void test_write_tag(void)
     give_back(&exact);
 }
 
-/* B1's string read back; 80000003 with length 0, which is no tag string; and a separator that is too long. */
+/* B1's string read back; with length 0, 80000003, which is a tag string, and 00000001, which is none; and a separator that is too long. */
 static void test_read_tag(void)
 {
-    const uint32_t merged[TUILARDER_MAX_WORDS] = {A | 6, 3};
-    const uint8_t string[10] = {0x80, 0, 0, 6, 0, 0, 0, 3, 0x41, 0x42}, cut[4] = {0x80, 0, 0, 3};
-    struct lent whole = lend_copy(string, sizeof string), part = lend_copy(cut, sizeof cut);
+    const uint32_t merged[TUILARDER_MAX_WORDS] = {A | 6, 3}, absorbing[TUILARDER_MAX_WORDS] = {A | 3};
+    const uint8_t string[10] = {0x80, 0, 0, 6, 0, 0, 0, 3, 0x41, 0x42}, absorb[4] = {0x80, 0, 0, 3}, squeeze[4] = {0, 0, 0, 1};
+    struct lent whole = lend_copy(string, sizeof string), one = lend_copy(absorb, sizeof absorb), part = lend_copy(squeeze, sizeof squeeze);
     struct lent words = lend(sizeof merged, 0), number = lend(sizeof(size_t), 0);
     size_t *count = number.part;
     CHECK(tuilarder_read_tag(whole.part, 10, 2, words.part, count) == TUILARDER_ACCEPTED);
     CHECK(*count == 2 && holds(&words, merged) && same(&whole));
+    CHECK(tuilarder_read_tag(one.part, 4, 0, words.part, count) == TUILARDER_ACCEPTED);
+    CHECK(*count == 1 && holds(&words, absorbing) && same(&one));
     CHECK(tuilarder_read_tag(part.part, 4, 0, words.part, count) == TUILARDER_NOT_TAG_STRING);
     CHECK(wiped(&number) && wiped(&words) && same(&part));
     fill_random(words.part, words.length);
@@ -441,6 +570,7 @@ static void test_read_tag(void)
     give_back(&number);
     give_back(&words);
     give_back(&part);
+    give_back(&one);
     give_back(&whole);
 }
 
@@ -532,25 +662,26 @@ static void test_cut_of_copies(void)
     }
 }
 
-/* 64 calls of the longest length, of which all but the last absorb: START's merged words, the tag string, and that read and cut again. */
-static void test_longest_calls(void)
+/* 64 calls of the longest length, of which all absorb or all but the last: START's merged words, the tag string, and that read and cut again. */
+static void test_longest_calls(size_t absorbing)
 {
-    const uint32_t merged[TUILARDER_MAX_WORDS] = {A | (63 * LIMIT), LIMIT};
-    const uint8_t string[8] = {0xbf, 0, 0, 0, 0x01, 0, 0, 0};
+    const uint32_t merged[TUILARDER_MAX_WORDS] = {A | ((uint32_t)absorbing * LIMIT), absorbing < 64 ? LIMIT : 0};
+    const uint8_t string[8] = {(uint8_t)(0x80 + absorbing), 0, 0, 0, 0x01, 0, 0, 0};
+    const size_t phases = absorbing < 64 ? 2 : 1;
     uint32_t declared[TUILARDER_MAX_WORDS], read[TUILARDER_MAX_WORDS];
     struct tuilarder_session session;
-    struct lent written = lend(sizeof string, 0), words;
+    struct lent written = lend(4 * phases, 0), words;
     size_t length, count;
     for (size_t k = 0; k < TUILARDER_MAX_WORDS; k++)
-        declared[k] = k < 63 ? A | LIMIT : LIMIT;
+        declared[k] = k < absorbing ? A | LIMIT : LIMIT;
     CHECK(tuilarder_start(&session, KOALA_BEAR, declared, 64, NULL, 0) == TUILARDER_ACCEPTED);
-    CHECK(session.count == 2 && memcmp(session.words, merged, sizeof merged) == 0);
-    CHECK(tuilarder_write_tag(declared, 64, NULL, 0, written.part, 8, &length) == TUILARDER_ACCEPTED);
-    CHECK(length == 8 && holds(&written, string));
-    CHECK(tuilarder_read_tag(written.part, 8, 0, read, &count) == TUILARDER_ACCEPTED);
-    CHECK(count == 2 && memcmp(read, merged, sizeof merged) == 0);
-    CHECK(tuilarder_start(&session, KOALA_BEAR, read, 2, NULL, 0) == TUILARDER_CALL_TOO_LONG);
-    words = lend_copy(read, 2 * sizeof(uint32_t));
+    CHECK(session.count == phases && memcmp(session.words, merged, sizeof merged) == 0);
+    CHECK(tuilarder_write_tag(declared, 64, NULL, 0, written.part, written.length, &length) == TUILARDER_ACCEPTED);
+    CHECK(length == written.length && holds(&written, string));
+    CHECK(tuilarder_read_tag(written.part, written.length, 0, read, &count) == TUILARDER_ACCEPTED);
+    CHECK(count == phases && memcmp(read, merged, sizeof merged) == 0);
+    CHECK(tuilarder_start(&session, KOALA_BEAR, read, phases, NULL, 0) == TUILARDER_CALL_TOO_LONG);
+    words = lend_copy(read, phases * sizeof(uint32_t));
     check_cut(&words, TUILARDER_ACCEPTED, declared, 64);
     give_back(&words);
     give_back(&written);
@@ -585,20 +716,22 @@ static void test_start_of_string(void)
     give_back(&string);
 }
 
-/* The longest lengths, which are read, and for which 64 calls do not suffice; so with one element more than 64 calls have. */
+/* The longest lengths, which are read, and for which 64 calls do not suffice; so with one element more than 64 calls have, in two words or one. */
 static void test_read_and_not_cut(void)
 {
-    static const uint8_t strings[2][8] = {{0xff, 0xff, 0xff, 0xff, 0x7f, 0xff, 0xff, 0xff}, {0xbf, 0, 0, 1, 0, 0, 0, 1}};
-    static const uint32_t wanted[2][TUILARDER_MAX_WORDS] = {{0xffffffff, 0x7fffffff}, {A | (63 * LIMIT + 1), 1}}, zeros[TUILARDER_MAX_WORDS];
+    static const uint8_t strings[3][8] = {{0xff, 0xff, 0xff, 0xff, 0x7f, 0xff, 0xff, 0xff}, {0xbf, 0, 0, 1, 0, 0, 0, 1}, {0xc0, 0, 0, 1}};
+    static const uint32_t wanted[3][TUILARDER_MAX_WORDS] = {{0xffffffff, 0x7fffffff}, {A | (63 * LIMIT + 1), 1}, {A | (64 * LIMIT + 1)}};
+    static const uint32_t zeros[TUILARDER_MAX_WORDS];
     struct tuilarder_session session;
-    for (size_t i = 0; i < 2; i++) {
+    for (size_t i = 0; i < 3; i++) {
+        const size_t phases = i < 2 ? 2 : 1;
         struct lent words = lend(sizeof *wanted, 0), used;
         size_t count = 0;
-        CHECK(tuilarder_read_tag(strings[i], 8, 0, words.part, &count) == TUILARDER_ACCEPTED);
-        CHECK(count == 2 && holds(&words, wanted[i]));
-        used = lend_copy(words.part, 2 * sizeof(uint32_t));
+        CHECK(tuilarder_read_tag(strings[i], 4 * phases, 0, words.part, &count) == TUILARDER_ACCEPTED);
+        CHECK(count == phases && holds(&words, wanted[i]));
+        used = lend_copy(words.part, phases * sizeof(uint32_t));
         check_cut(&used, TUILARDER_WORD_COUNT_OUT_OF_RANGE, zeros, 0);
-        CHECK(start_of_string(&session, strings[i], 8, 0) == TUILARDER_WORD_COUNT_OUT_OF_RANGE);
+        CHECK(start_of_string(&session, strings[i], 4 * phases, 0) == TUILARDER_WORD_COUNT_OUT_OF_RANGE);
         give_back(&used);
         give_back(&words);
     }
@@ -761,11 +894,11 @@ static void make_small(struct tuilarder_session *record)
     record->state[below(TUILARDER_WIDTH)] = bad_element(record->field);
 }
 
-/* A record that some calls have left at any place of its pattern. */
+/* A record that some calls have left at any place of its pattern, which ends with either kind. */
 static void make_sound(struct tuilarder_session *record)
 {
     uint32_t words[8], list[20] = {0};
-    size_t count = 2 + 2 * below(4), phases = below(count + 1);
+    size_t count = 1 + below(8), phases = below(count + 1);
     for (size_t k = 0; k < count; k++)
         words[k] = (k % 2 ? 0 : A) + 1 + below(20);
     CHECK(tuilarder_start(record, fields[below(2)], words, count, NULL, 0) == TUILARDER_ACCEPTED);
@@ -834,6 +967,9 @@ static void test_field(uint32_t field)
     test_record_of_another_field(field);
     test_call_not_in_pattern(field);
     test_element_and_finish(field);
+    for (size_t i = 0; i < sizeof endings / sizeof *endings; i++)
+        test_ending(field, &endings[i]);
+    test_words_of_record(field);
     test_permute(field);
     test_generate(field);
 }
@@ -857,7 +993,8 @@ int main(void)
     test_longest_tag_string();
     test_cut();
     test_cut_of_copies();
-    test_longest_calls();
+    test_longest_calls(63);
+    test_longest_calls(64);
     test_start_of_string();
     test_read_and_not_cut();
     test_empty(NULL);
