@@ -79,7 +79,7 @@ extern "C" {
     /// turns it away.
     pub fn tuilarder_layout_2() -> u64;
 
-    /// START: opens a session of a field in the record, whatever that held. Checks 18, 1, 2, 19, 3, 4 and 6, in this order. Refused, it leaves
+    /// START: opens a session of a field in the record, whatever that held. Checks 18, 1, 2, 19, 3 and 6, in this order. Refused, it leaves
     /// a wiped record.
     pub fn tuilarder_start(
         record: *mut Record,
@@ -109,7 +109,7 @@ extern "C" {
     /// 744 zeros and count 0.
     pub fn tuilarder_generate(field: u32, constants: *mut [u32; 744], count: *mut usize) -> u32;
 
-    /// Writes a tag string, from the start of `out` and only the string's bytes, and its length to `written`. Checks 1, 2, 19, 3, 4, 6 and 12,
+    /// Writes a tag string, from the start of `out` and only the string's bytes, and its length to `written`. Checks 1, 2, 19, 3, 6 and 12,
     /// in this order. Refused, it writes nothing to `out`, and 0 to `written`.
     pub fn tuilarder_write_tag(
         words: *const u32,

@@ -38,10 +38,29 @@ impl Call {
 }
 
 /// A pattern that START accepts: the calls that a protocol declares, at most [`Pattern::MAX_WORDS`] of at most [`Pattern::MAX_CALL`] elements.
+/// The first is an ABSORB; the last may be of either kind.
 ///
 /// Two patterns are equal if they declare the same calls. The sponge sees merged patterns, in which neighbours of one kind are added
 /// together, so that a phase may be longer than a call: with separators of one length, two protocols have the same tag string exactly if
 /// merged patterns and separators are both equal. Patterns that merge to the same have the same [`Pattern::merged`].
+///
+/// Where a transcript ends on a message, so does its pattern. Its session ends only when all of that message is absorbed; but what is absorbed
+/// last bears on no challenge, since none is squeezed after it.
+///
+/// ```
+/// use tuilarder::{Call, Field, Pattern, Protocol, Refusal};
+///
+/// let pattern = Pattern::new(&[Call::Absorb(4), Call::Squeeze(1), Call::Absorb(2)])?;
+/// let mut session = Protocol::new(Field::BabyBear, &pattern, b"last message")?.start();
+/// session.absorb(&[11, 22, 33, 44])?;
+/// let [_challenge] = session.challenge()?;
+/// session.absorb(&[55])?;
+/// // one element of the last message is missing
+/// assert_eq!(session.fork().finish(), Err(Refusal::PatternNotDone));
+/// session.absorb(&[66])?;
+/// session.finish()?;
+/// # Ok::<(), Refusal>(())
+/// ```
 #[derive(Clone, PartialEq, Eq, Hash)]
 pub struct Pattern {
     // unused words are 0
@@ -66,7 +85,7 @@ impl Pattern {
     ///
     /// # Errors
     ///
-    /// [`Refusal`] 1, 2, 19, 3 or 4, the first that applies, in this order.
+    /// [`Refusal`] 1, 2, 19 or 3, the first that applies, in this order.
     pub fn new(calls: &[Call]) -> Result<Pattern, Refusal> {
         // one more than a pattern can have, so that the library sees that there are too many
         let mut words = [0; Pattern::MAX_WORDS + 1];
@@ -80,7 +99,7 @@ impl Pattern {
     ///
     /// # Errors
     ///
-    /// [`Refusal`] 1, 2, 19, 3 or 4, the first that applies, in this order.
+    /// [`Refusal`] 1, 2, 19 or 3, the first that applies, in this order.
     pub fn from_words(words: &[u32]) -> Result<Pattern, Refusal> {
         write_tag(words, &[], &mut [0; 4 * Pattern::MAX_WORDS])?;
         let mut pattern = Pattern {

@@ -26,7 +26,7 @@ impl Protocol {
     ///
     /// # Errors
     ///
-    /// [`Refusal::SeparatorTooLong`] (6); an accepted pattern has none of 1, 2, 19, 3 and 4.
+    /// [`Refusal::SeparatorTooLong`] (6); an accepted pattern has none of 1, 2, 19 and 3.
     pub fn new(field: Field, pattern: &Pattern, separator: &[u8]) -> Result<Protocol, Refusal> {
         let mut tag_string = [0; Pattern::MAX_TAG_STRING];
         let length = pattern.tag_string(separator, &mut tag_string)?.len();

@@ -49,7 +49,8 @@ refusals! {
     2 WordLengthZero "a word of length 0",
     /// Its first outputs would be bare zeros.
     3 FirstWordSqueeze "first word is SQUEEZE",
-    4 LastWordAbsorb "last word is ABSORB",
+    /// Nothing gives it: a pattern may end with ABSORB.
+    4 LastWordAbsorb "last word is ABSORB (unused)",
     /// Nothing gives it: 64 calls of [`Pattern::MAX_CALL`](crate::Pattern::MAX_CALL) elements add up to less.
     5 MergedLengthTooLong "merged length above 2147483647 (unused)",
     6 SeparatorTooLong "separator over 256 bytes",
