@@ -39,9 +39,9 @@ fn table() -> Vec<(u32, &'static str, String)> {
 /// Calls that get the number, of each place in the API that can give it.
 fn refused_with(number: u32) -> Vec<Result<(), Refusal>> {
     match number {
-        1..=4 | 19 => patterns_refused_with(number),
-        // it is unused
-        5 => vec![],
+        1..=3 | 19 => patterns_refused_with(number),
+        // they are unused
+        4 | 5 => vec![],
         6 | 12 | 13 => strings_refused_with(number),
         15..=17 => owners_refused_with(number),
         // a field's number is known
@@ -63,10 +63,10 @@ fn patterns_refused_with(number: u32) -> Vec<Result<(), Refusal>> {
             // read, but 64 calls do not suffice
             Pattern::read(&[0xff, 0xff, 0xff, 0xff, 0, 0, 0, 1], 0).map(drop),
             Pattern::read(&[0xbf, 0, 0, 1, 0, 0, 0, 1], 0).map(drop),
+            Pattern::read(&[0xc0, 0, 0, 1], 0).map(drop),
         ],
         2 => vec![words(&[0x80000003, 0x00000000]), calls(&[Absorb(3), Squeeze(0)])],
         3 => vec![words(&[0x00000001]), calls(&[Squeeze(1)])],
-        4 => vec![words(&[0x80000001]), calls(&[Absorb(1)])],
         // the first two are document 01's example for 5, and B3
         _ => vec![
             words(&[0xffffffff, 0x80000001, 0x00000001]),
@@ -90,7 +90,8 @@ fn strings_refused_with(number: u32) -> Vec<Result<(), Refusal>> {
         ],
         12 => vec![b1().tag_string(b"AB", &mut [0; 9]).map(drop)],
         _ => vec![
-            Pattern::read(&[0x80, 0, 0, 3], 0).map(drop),
+            Pattern::read(&[0, 0, 0, 1], 0).map(drop),
+            Pattern::read(&[], 0).map(drop),
             Pattern::read(&[], 1).map(drop),
         ],
     }
@@ -214,7 +215,7 @@ fn the_first_number_that_applies_is_given() {
         assert_eq!(number(&[Absorb(1), Squeeze(length)]), Err(19));
     }
     assert_eq!(number(&[Squeeze(LIMIT), Absorb(LIMIT)]), Err(3));
-    assert_eq!(number(&[Absorb(LIMIT), Absorb(LIMIT)]), Err(4));
+    assert_eq!(number(&[Absorb(LIMIT), Absorb(LIMIT)]), Ok(()));
     assert_eq!(number(&[Absorb(LIMIT), Squeeze(LIMIT)]), Ok(()));
 }
 
@@ -230,6 +231,27 @@ fn a_pattern_has_at_most_64_words() {
     assert_eq!(pattern.merged(), pattern);
     let mut buffer = [0; Pattern::MAX_TAG_STRING];
     assert_eq!(pattern.tag_string(&[7; 256], &mut buffer).unwrap().len(), 512);
+}
+
+/// 80000001 is document 01's example for 4, and 80000003 with length 0 its example for 13.
+#[test]
+fn a_pattern_may_end_with_absorb() {
+    let one = Pattern::from_words(&[0x80000001]).unwrap();
+    assert_eq!(one, Pattern::new(&[Absorb(1)]).unwrap());
+    assert_eq!(one.merged(), one);
+    let three = Pattern::new(&[Absorb(1), Absorb(2)]).unwrap();
+    assert_eq!(three.merged(), Pattern::new(&[Absorb(3)]).unwrap());
+    assert_eq!(three.tag_string(&[], &mut [7; 5]), Ok(&[0x80, 0, 0, 3][..]));
+    assert_eq!(Pattern::read(&[0x80, 0, 0, 3], 0), Ok((three.merged(), &[][..])));
+    let last = Pattern::new(&[Absorb(1), Squeeze(1), Absorb(1)]).unwrap();
+    let string = [0x80, 0, 0, 1, 0, 0, 0, 1, 0x80, 0, 0, 1];
+    assert_eq!(Pattern::read(&string, 0), Ok((last.clone(), &[][..])));
+    assert_eq!(Pattern::read(&string, 4), Ok((one_and_one(), &string[8..])));
+    assert_eq!(
+        Protocol::new(BabyBear, &last, &[7; 257]),
+        Err(Refusal::SeparatorTooLong)
+    );
+    assert_eq!(last.tag_string(&[], &mut [0; 11]), Err(Refusal::BufferTooShort));
 }
 
 #[test]
@@ -277,6 +299,10 @@ fn merged_words_are_cut_into_at_most_64_calls() {
             assert_eq!(Pattern::read(&string, 0), Err(Refusal::WordCountOutOfRange));
         }
     }
+    let pattern = Pattern::new(&[Absorb(LIMIT); 64]).unwrap();
+    assert_eq!(pattern.merged(), pattern);
+    assert_eq!(Pattern::read(&[0xc0, 0, 0, 0], 0), Ok((pattern, &[][..])));
+    assert_eq!(Pattern::read(&[0xc0, 0, 0, 1], 0), Err(Refusal::WordCountOutOfRange));
 }
 
 #[test]
@@ -294,14 +320,19 @@ fn a_tag_string_is_written_and_read_back() {
     assert_eq!(short, [7; 9]);
 }
 
-/// B2: one string for two patterns, with separators of unequal length.
+/// B2's string: one for four patterns, with separators of unequal length.
 #[test]
 fn a_string_is_read_by_the_length_of_its_separator() {
     let string = [0x80, 0, 0, 1, 0, 0, 0, 1, 0x80, 0, 0, 2, 0, 0, 0, 2];
     let longer = Pattern::new(&[Absorb(1), Squeeze(1), Absorb(2), Squeeze(2)]).unwrap();
+    let between = Pattern::new(&[Absorb(1), Squeeze(1), Absorb(2)]).unwrap();
+    let first = Pattern::new(&[Absorb(1)]).unwrap();
+    assert_eq!(Pattern::read(&string, 12), Ok((first, &string[4..])));
     assert_eq!(Pattern::read(&string, 8), Ok((one_and_one(), &string[8..])));
+    assert_eq!(Pattern::read(&string, 4), Ok((between, &string[12..])));
     assert_eq!(Pattern::read(&string, 0), Ok((longer, &string[16..])));
-    assert_eq!(Pattern::read(&string, 4), Err(Refusal::NotTagString));
+    assert_eq!(Pattern::read(&string, 16), Err(Refusal::NotTagString));
+    assert_eq!(Pattern::read(&string, 2), Err(Refusal::NotTagString));
     assert_eq!(Pattern::read(&string, 17), Err(Refusal::NotTagString));
 }
 
@@ -361,6 +392,46 @@ fn sessions_of_koala_bear_squeeze_what_the_second_implementation_does() {
     assert_eq!(run(KoalaBear, &[1, 9], 1), (b6.to_vec(), 2));
     assert_eq!(run(KoalaBear, &[8, 8, 1, 1], 1), (b7.to_vec(), 2));
     assert_eq!(run(KoalaBear, &[8, 1], 2013265921), (vec![2112122197], 1));
+}
+
+/// The last block is absorbed, and not permuted.
+#[test]
+fn sessions_that_end_with_absorb_squeeze_what_the_second_implementation_does() {
+    let of_baby_bear = [
+        787698267, 1505782181, 629115947, 35341899, 1524413022, 22211499, 1824941362, 1386593099,
+    ];
+    let of_koala_bear = [
+        426001217, 1044007661, 191050567, 571829692, 1425985953, 919152717, 1113841010, 1473928020,
+    ];
+    for (field, squeezed) in [(BabyBear, of_baby_bear), (KoalaBear, of_koala_bear)] {
+        for (length, permutations) in [(1, 0), (8, 0), (9, 1), (16, 1), (17, 2)] {
+            assert_eq!(run(field, &[length], 1), (vec![], permutations));
+        }
+        assert_eq!(run(field, &[8, 8, 9], 1), (squeezed.to_vec(), 2));
+    }
+}
+
+/// All of what is absorbed last comes before FINISH, and no challenge comes after it.
+#[test]
+fn a_last_message_is_absorbed_before_finish() {
+    let pattern = Pattern::new(&[Absorb(4), Squeeze(1), Absorb(2)]).unwrap();
+    let protocol = Protocol::new(KoalaBear, &pattern, b"last message").unwrap();
+    let mut session = protocol.start();
+    session.absorb(&[11, 22, 33, 44]).unwrap();
+    session.challenge::<1>().unwrap();
+    assert_eq!(session.fork().finish(), Err(Refusal::PatternNotDone));
+    session.absorb(&[55]).unwrap();
+    assert_eq!(session.fork().finish(), Err(Refusal::PatternNotDone));
+    assert_eq!(session.fork().challenge::<1>(), Err(Refusal::CallNotInPattern));
+    session.absorb(&[66]).unwrap();
+    assert_eq!(session.permutations(), 1);
+    let (mut squeezing, mut absorbing, mut buffer) = (session.fork(), session.fork(), [7]);
+    assert_eq!(squeezing.squeeze(&mut buffer), Err(Refusal::CallNotInPattern));
+    assert_eq!((buffer, *squeezing.record()), ([7], Record::WIPED));
+    assert_eq!(absorbing.absorb(&[77]), Err(Refusal::CallNotInPattern));
+    session.absorb(&[]).unwrap();
+    session.squeeze(&mut []).unwrap();
+    assert_eq!(session.finish(), Ok(()));
 }
 
 fn two_rounds() -> Protocol {

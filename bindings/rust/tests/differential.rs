@@ -72,16 +72,20 @@ fn start_on_any_pattern_and_separator(library: &'static dyn Interface) {
         let number = run.call(&mut record, Call::Start(field, words, separator));
         run.answered("field of a session", record.field);
         assert_eq!(record.field, if number == 0 { field } else { 0 });
+        if number == 0 {
+            run.answered("ends with ABSORB", record.count % 2);
+        }
     });
-    run.assert_numbers("START", &[0, 1, 2, 3, 4, 6, 18, 19]);
+    run.assert_numbers("START", &[0, 1, 2, 3, 6, 18, 19]);
+    run.assert_numbers("ends with ABSORB", &[0, 1]);
     run.assert_numbers("field of a session", &[0, 1, 2]);
     assert!(run.session_calls() >= START_CALLS);
 }
 
 /// START on a short pattern, as a protocol has it.
 fn open(run: &mut Run, record: &mut Record) {
-    let pairs = pairs(&mut run.random).min(4);
-    let merged = merged_words(&mut run.random, pairs, short_length);
+    let count = phases(&mut run.random).min(9);
+    let merged = merged_words(&mut run.random, count, short_length);
     let words = split_words(&mut run.random, &merged);
     let (field, separator) = (known_field(&mut run.random), good_separator(&mut run.random));
     assert_eq!(run.call(record, Call::Start(field, words, separator)), 0);
@@ -106,7 +110,10 @@ fn session_step(run: &mut Run, records: &mut Vec<Record>, any_once_in: u64) {
         _ if copy.status == 0 && run.random.once_in(2) => open(run, &mut records[k]),
         _ => {
             let call = next_call(&mut run.random, &copy, any_once_in);
-            run.call(&mut records[k], call);
+            let finishing = matches!(call, Call::Finish);
+            if run.call(&mut records[k], call) == 0 && finishing {
+                run.answered("finished after ABSORB", copy.count % 2);
+            }
         }
     }
 }
@@ -129,6 +136,7 @@ fn sessions_with_forks_and_refused_calls(library: &'static dyn Interface) {
     run.assert_numbers("ABSORB", &[0, 7, 8, 9, 10]);
     run.assert_numbers("SQUEEZE", &[0, 7, 8, 9]);
     run.assert_numbers("FINISH", &[0, 7, 8, 11]);
+    run.assert_numbers("finished after ABSORB", &[0, 1]);
     run.assert_reached("fork", &[0]);
     assert!(run.session_calls() >= SESSION_CALLS, "{}", run.session_calls());
 }
@@ -197,15 +205,20 @@ fn long_calls(library: &'static dyn Interface) {
     let run = Run::of("long_calls", library, 10, |run| {
         let mut record = Record::any(&mut run.random);
         let (absorbed, squeezed) = (run.random.below(3000) as usize + 1, run.random.below(3000) as usize + 1);
-        let (field, words) = (1 + run.case as u32 % 2, vec![ABSORB + absorbed as u32, squeezed as u32]);
+        let (field, ends_with_absorb) = (1 + run.case as u32 % 2, run.case / 2 % 2 == 1);
+        let mut words = vec![ABSORB + absorbed as u32, squeezed as u32];
+        words.extend(ends_with_absorb.then_some(ABSORB + absorbed as u32));
         run.call(&mut record, Call::Start(field, words, vec![]));
         let elements: Vec<u32> = (0..absorbed).map(|_| good_element(&mut run.random, field)).collect();
-        assert_eq!(run.call(&mut record, Call::Absorb(elements)), 0);
+        assert_eq!(run.call(&mut record, Call::Absorb(elements.clone())), 0);
         let buffer = run.random.list(squeezed);
         assert_eq!(run.call(&mut record, Call::Squeeze(buffer)), 0);
+        if ends_with_absorb {
+            assert_eq!(run.call(&mut record, Call::Absorb(elements)), 0);
+        }
         assert_eq!(run.call(&mut record, Call::Finish), 0);
     });
-    assert_eq!(run.session_calls(), 40);
+    assert_eq!(run.session_calls(), 44);
 }
 
 fn tags_written_and_read_back(library: &'static dyn Interface) {
@@ -227,7 +240,7 @@ fn tags_written_and_read_back(library: &'static dyn Interface) {
             run.answered("cut further", u32::from(calls != merged));
         }
     });
-    run.assert_numbers("write_tag", &[0, 1, 2, 3, 4, 6, 12, 19]);
+    run.assert_numbers("write_tag", &[0, 1, 2, 3, 6, 12, 19]);
     run.assert_numbers("cut further", &[0, 1]);
     assert!(run.total(&["write_tag", "read_tag"]) >= 30_000);
 }
@@ -235,7 +248,7 @@ fn tags_written_and_read_back(library: &'static dyn Interface) {
 fn reading_of_any_string(library: &'static dyn Interface) {
     let run = Run::of("reading_of_any_string", library, 30_000, |run| {
         let random = &mut run.random;
-        let mut words = merged_words(random, 34, any_length);
+        let mut words = merged_words(random, 68, any_length);
         words.truncate(random.pick(&[0, 1, 2, 2, 3, 4, 6, 62, 63, 64, 64, 65, 66, 68]));
         let separator = any_separator(random);
         let mut string: Vec<u8> = words.iter().flat_map(|word| word.to_be_bytes()).collect();
@@ -277,10 +290,10 @@ fn words_cut_into_calls(library: &'static dyn Interface) {
 /// and START's record has the words that were read.
 fn long_words_read_cut_and_written(library: &'static dyn Interface) {
     let run = Run::of("long_words_read_cut_and_written", library, 10_000, |run| {
-        let pairs = pairs(&mut run.random);
+        let count = phases(&mut run.random);
         let words = match run.random.below(2) {
             0 => words_of_about_64_calls(&mut run.random),
-            _ => merged_words(&mut run.random, pairs, any_length),
+            _ => merged_words(&mut run.random, count, any_length),
         };
         let (field, separator) = (known_field(&mut run.random), good_separator(&mut run.random));
         let mut string: Vec<u8> = words.iter().flat_map(|word| word.to_be_bytes()).collect();

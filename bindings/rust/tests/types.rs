@@ -245,7 +245,7 @@ fn patterns_of_up_to_66_calls_with_each_limit_in_every_place() {
             }
         },
     );
-    run.assert_numbers("Pattern::new", &[0, 1, 2, 3, 4, 19]);
+    run.assert_numbers("Pattern::new", &[0, 1, 2, 3, 19]);
 }
 
 #[test]
@@ -262,7 +262,7 @@ fn patterns_of_any_calls() {
         }
         compare_pattern(run, &calls);
     });
-    run.assert_numbers("Pattern::new", &[0, 1, 2, 3, 4, 19]);
+    run.assert_numbers("Pattern::new", &[0, 1, 2, 3, 19]);
 }
 
 #[test]
@@ -290,15 +290,15 @@ fn separator_length(case: u64) -> usize {
 fn separators_of_every_length() {
     let run = Run::of("separators_of_every_length", &Types, 264, |run| {
         let length = separator_length(run.case);
-        for pairs in [1, 2, 32] {
-            let merged = merged_words(&mut run.random, pairs, short_length);
+        for count in [1, 2, 3, 63, 64] {
+            let merged = merged_words(&mut run.random, count, short_length);
             let words = split_words(&mut run.random, &merged);
             let separator: Vec<u8> = run.random.list(length);
             let mut record = Record::WIPED;
             let field = known_field(&mut run.random);
             let number = run.call(&mut record, Call::Start(field, words.clone(), separator.clone()));
             assert_eq!(number, if length <= 256 { 0 } else { 6 });
-            let needed = 8 * pairs + length;
+            let needed = 4 * count + length;
             for size in [needed, needed - 1, needed + 3, 0] {
                 run.write_tag(&words, &separator, size);
             }
@@ -475,8 +475,8 @@ impl Live {
 
 /// START on a short pattern.
 fn any_live(run: &mut Run) -> Live {
-    let pairs = pairs(&mut run.random).min(4);
-    let merged = merged_words(&mut run.random, pairs, short_length);
+    let count = phases(&mut run.random).min(9);
+    let merged = merged_words(&mut run.random, count, short_length);
     let words = split_words(&mut run.random, &merged);
     let size = run.random.below(257) as usize;
     let separator: Vec<u8> = run.random.list(size);
@@ -516,7 +516,7 @@ fn sessions_of_all_calls_with_forks_in_each_phase() {
             lives.iter().for_each(Live::compare);
         }
     });
-    run.assert_reached("fork", &[0, 1, 2, 3, 4, 5, 6, 7, 8]);
+    run.assert_reached("fork", &[0, 1, 2, 3, 4, 5, 6, 7, 8, 9]);
     run.assert_reached("fork of a wiped one", &[0]);
     run.assert_numbers("ABSORB", &[0, 7, 9, 10]);
     run.assert_numbers("SQUEEZE", &[0, 7, 9]);
@@ -536,8 +536,8 @@ fn to_the_end(run: &mut Run, mut live: Live) {
 
 #[test]
 fn forks_at_every_element() {
-    let words = [ABSORB + 9, 17, ABSORB + 1, 1, ABSORB + 8, 8];
-    let elements: u32 = 9 + 17 + 1 + 1 + 8 + 8;
+    let words = [ABSORB + 9, 17, ABSORB + 1, 1, ABSORB + 8, 8, ABSORB + 9];
+    let elements: u32 = 9 + 17 + 1 + 1 + 8 + 8 + 9;
     let run = Run::of("forks_at_every_element", &Types, 4, |run| {
         let field = 1 + run.case as u32 % 2;
         let mut live = Live::start(run, field, &words, b"forked");

@@ -36,9 +36,9 @@ pub fn short_length(random: &mut Random) -> u32 {
     1 + random.below(20) as u32
 }
 
-/// Words that alternate from ABSORB, `pairs` of each kind.
-pub fn merged_words(random: &mut Random, pairs: usize, length: fn(&mut Random) -> u32) -> Vec<u32> {
-    (0..2 * pairs)
+/// So many words that alternate from ABSORB: the last is of either kind.
+pub fn merged_words(random: &mut Random, count: usize, length: fn(&mut Random) -> u32) -> Vec<u32> {
+    (0..count)
         .map(|k| length(random) + if k % 2 == 0 { ABSORB } else { 0 })
         .collect()
 }
@@ -46,7 +46,7 @@ pub fn merged_words(random: &mut Random, pairs: usize, length: fn(&mut Random) -
 /// Words that alternate from ABSORB, for which it takes 64 calls, or one or two fewer or more: merged lengths add up to some 64 times the longest
 /// call.
 pub fn words_of_about_64_calls(random: &mut Random) -> Vec<u32> {
-    let mut calls = vec![1; 2 * pairs(random)];
+    let mut calls = vec![1; phases(random)];
     for _ in calls.len()..random.pick(&[62, 63, 64, 64, 64, 65, 65, 66]) {
         let k = random.below(calls.len() as u64) as usize;
         calls[k] += 1;
@@ -59,8 +59,9 @@ pub fn words_of_about_64_calls(random: &mut Random) -> Vec<u32> {
     calls.into_iter().enumerate().map(of_calls).collect()
 }
 
-pub fn pairs(random: &mut Random) -> usize {
-    random.pick(&[1, 1, 1, 2, 2, 3, 4, 8, 31, 32])
+/// How many words a merged pattern has.
+pub fn phases(random: &mut Random) -> usize {
+    random.pick(&[1, 1, 2, 2, 2, 3, 3, 4, 4, 5, 6, 7, 8, 16, 61, 62, 63, 63, 64, 64])
 }
 
 /// The words with some of them split in two, up to 64 in all, which merge to the same.
@@ -83,8 +84,8 @@ pub fn good_pattern(random: &mut Random) -> Vec<u32> {
     if number == 0 && random.once_in(4) {
         return split_words(random, &calls[..count]);
     }
-    let pairs = pairs(random);
-    let merged = merged_words(random, pairs, declared_length);
+    let count = phases(random);
+    let merged = merged_words(random, count, declared_length);
     let mut words = split_words(random, &merged);
     for _ in 0..random.below(6) {
         let k = random.below(words.len() as u64) as usize;
@@ -137,8 +138,8 @@ pub fn any_words(random: &mut Random) -> Vec<u32> {
         0 => any_pattern(random),
         1 => words_of_about_64_calls(random),
         2 => {
-            let pairs = pairs(random);
-            merged_words(random, pairs, any_length)
+            let count = phases(random);
+            merged_words(random, count, any_length)
         }
         _ => {
             let lengths: fn(&mut Random) -> u32 = random.pick(&[any_length, declared_length]);
@@ -323,8 +324,8 @@ fn any_place(random: &mut Random, words: &[u32]) -> (usize, u32) {
 }
 
 pub fn sound_record(random: &mut Random) -> Record {
-    let pairs = pairs(random);
-    let words = merged_words(random, pairs, any_length);
+    let count = phases(random);
+    let words = merged_words(random, count, any_length);
     let (phase, done) = any_place(random, &words);
     let field = known_field(random);
     record_at(random, field, &words, phase, done)
@@ -414,8 +415,11 @@ pub const CONDITION_DAMAGES: [Damage; 11] = [
     ("first word missing", |random, record| {
         put_at(random, record, &used_words(record)[1..])
     }),
-    ("last word missing", |random, record| {
-        put_at(random, record, &used_words(record)[..record.count as usize - 1])
+    ("last kind twice", |random, record| {
+        let mut words = used_words(record);
+        words.truncate(MOST_WORDS - 1);
+        words.extend(words.last().copied());
+        put_at(random, record, &words);
     }),
     ("all kinds exchanged", |random, record| {
         let words: Vec<u32> = used_words(record).iter().map(|word| word ^ ABSORB).collect();
@@ -461,7 +465,7 @@ pub fn any_record(random: &mut Random) -> Record {
     if random.once_in(2) {
         record.field = any_field(random);
         record.state = std::array::from_fn(|_| good_element(random, record.field));
-        record.count = 2 + random.below(64) as u32;
+        record.count = 1 + random.below(65) as u32;
         record.phase = random.below(u64::from(record.count)) as u32;
         record.absorb_position = random.below(10) as u32;
         record.squeeze_position = random.below(10) as u32;

@@ -200,7 +200,7 @@ fn merged_words(pattern: &Pattern) -> Vec<u32> {
 pub struct Types;
 
 impl Interface for Types {
-    /// No type holds an unknown field, so that 18 is not asked for. Numbers 1, 2, 19, 3 and 4 are those of the pattern, 6 is the protocol's.
+    /// No type holds an unknown field, so that 18 is not asked for. Numbers 1, 2, 19 and 3 are those of the pattern, 6 is the protocol's.
     /// Refused, it gives no record.
     fn start(&self, noise: &mut Random, record: &mut Record, field: u32, words: &[u32], separator: &[u8]) -> u32 {
         *record = Record::WIPED;
@@ -264,7 +264,7 @@ impl Interface for Types {
         (0, lent.returned()[0], count)
     }
 
-    /// Numbers 1, 2, 19, 3 and 4 are those of the pattern.
+    /// Numbers 1, 2, 19 and 3 are those of the pattern.
     fn write_tag(&self, noise: &mut Random, words: &[u32], separator: &[u8], out: &mut [u8]) -> (u32, usize) {
         let mut lent = Lent::new(out, noise);
         let start = lent.part().as_ptr();
