@@ -165,7 +165,7 @@ def fields(out):
 def pattern(out):
     declared = words("a3 a3 s3")
     out += [f"{name} [{', '.join('%08x' % w for w in ws)}]" for name, ws in (("declared", declared), ("merged", oracle.merged(declared)))]
-    for calls in ("s1", "a1", "a3 s0", "a16777217 s1"):
+    for calls in ("s1", "a3 s0", "a16777217 s1"):
         out.append(f"[{declared_as(words(calls))}] is {Refused(oracle.start_number(words(calls), b''))}")
 
 
@@ -199,6 +199,27 @@ def long_phases(out):
     number, merged, count, separator = oracle.read_tag(bytes.fromhex("ffffffff00000001"), 0)
     refuse(number)
     out.append(f"ffffffff 00000001 is {Refused(oracle.start_number(oracle.cut(merged[:count]), separator))}")
+
+
+def last_message(out):
+    def challenged(calls):
+        taken = opened(out, calls, b"last")
+        taken.absorb([11, 22, 33, 44])
+        return taken, taken.squeeze(1)[0]
+    for response in ([55, 66], [55, 67]):
+        taken, challenge = challenged("a4 s1 a2")
+        taken.absorb(response)
+        taken.finish()
+        out.append(f"response {response}, challenge {challenge}")
+    short, _ = challenged("a4 s1 a2")
+    short.absorb([55])
+    out.append(f"response [55] is {refusal(short.finish)}")
+    taken, _ = challenged("a4 s1 a2")
+    taken.absorb([55, 66])
+    out.append(f"SQUEEZE after it is {refusal(taken.squeeze, 1)}")
+    without, challenge = challenged("a4 s1")
+    without.finish()
+    out.append(f"no response declared, challenge {challenge}")
 
 
 def session(out):

@@ -7,12 +7,7 @@ fn main() -> Result<(), Refusal> {
     println!("declared {:08x?}", pattern.words());
     println!("merged {:08x?}", pattern.merged().words());
     let long = Absorb(Pattern::MAX_CALL + 1);
-    for calls in [
-        &[Squeeze(1)][..],
-        &[Absorb(1)],
-        &[Absorb(3), Squeeze(0)],
-        &[long, Squeeze(1)],
-    ] {
+    for calls in [&[Squeeze(1)][..], &[Absorb(3), Squeeze(0)], &[long, Squeeze(1)]] {
         let refusal = Pattern::new(calls).unwrap_err();
         println!("{calls:?} is refused with {}: {refusal}", refusal.number());
     }
