@@ -132,6 +132,8 @@ CRATE = of(
     ("row_call_limit", "above 16,777,216 elements", "of 16,777,216 elements or more", "a message refuses the longest call"),
     ("row_not_unused", "merged length above 2147483647 (unused)", "merged length above 2147483647", "the message of 5 does not say that nothing gives it"),
     ("row_unused_gone", "    5 MergedLengthTooLong \"merged length above 2147483647 (unused)\",\n", "", "5 is no refusal"),
+    ("row_4_not_unused", "last word is ABSORB (unused)", "last word is ABSORB", "the message of 4 does not say that nothing gives it"),
+    ("row_4_gone", "    4 LastWordAbsorb \"last word is ABSORB (unused)\",\n", "", "4 is no refusal"),
     ("result_19_as_5", *before("    if number == 0 {", "    if number == 19 { return Err(Refusal::MergedLengthTooLong); }"), "19 is given as 5"),
     ("row_prime", "of the field's prime or more", "of 2013265921 or more", "a message names a prime that may be the other field's"),
 ) + of(
@@ -190,9 +192,16 @@ CRATE = of(
     ("new_long_before", *before("        // one more than a pattern can have", "        if calls.iter().any(|call| call.word() & MAX_LENGTH > Pattern::MAX_CALL) {\n"
      "            return Err(Refusal::CallTooLong);\n        }"), "19 is given before 1 and 2"),
     ("new_long_behind", *before("        Pattern::from_words(&words[..calls.len()", "        let shorter = words.map(|word| word & ABSORB_BIT | (word & MAX_LENGTH).min("
-     "Pattern::MAX_CALL));\n        Pattern::from_words(&shorter[..if calls.len() < 65 { calls.len() } else { 65 }])?;"), "19 is given behind 3 and 4"),
+     "Pattern::MAX_CALL));\n        Pattern::from_words(&shorter[..if calls.len() < 65 { calls.len() } else { 65 }])?;"), "19 is given behind 3"),
     ("new_long_as_5", "calls.len().min(words.len())])", "calls.len().min(words.len())]).map_err(|refusal| match refusal {\n"
      "            Refusal::CallTooLong => Refusal::MergedLengthTooLong,\n            other => other,\n        })", "5 is given in the place of 19"),
+    ("new_last_absorb", *before("        // one more than a pattern can have", "        if let Some(Call::Absorb(_)) = calls.last() {\n"
+     "            return Err(Refusal::LastWordAbsorb);\n        }"), "4 is given, before all others"),
+    ("new_last_absorb_behind", "calls.len().min(words.len())])", "calls.len().min(words.len())]).and_then(|pattern| match calls.last() {\n"
+     "            Some(Call::Absorb(_)) => Err(Refusal::LastWordAbsorb),\n            _ => Ok(pattern),\n        })", "4 is given behind the others"),
+    ("new_absorb_alone", "calls.len().min(words.len())])", "calls.len().min(words.len())]).and_then(|pattern| {\n"
+     "            let squeezes = calls.iter().any(|call| matches!(call, Call::Squeeze(_)));\n"
+     "            if squeezes { Ok(pattern) } else { Err(Refusal::LastWordAbsorb) }\n        })", "4 is given for ABSORB calls alone"),
     ("new_cut", "calls.len().min(words.len())", "calls.len().min(Pattern::MAX_WORDS)", "calls past the 64th are passed over"),
     ("new_16_bits", "calls.len().min(words.len())", "(calls.len() as u16 as usize).min(words.len())", "65537 calls are one"),
     ("new_32_bits", "calls.len().min(words.len())", "(calls.len() as u32 as usize).min(words.len())", "4294967297 calls are one"),
@@ -202,6 +211,13 @@ CRATE = of(
     ("from_words_limit_more", "        write_tag(words, &[], &mut [0; 4 * Pattern::MAX_WORDS])?;", "        let mut checked = [0; Pattern::MAX_WORDS + 1];\n"
      "        for (to, word) in checked.iter_mut().zip(words) {\n            *to = *word - u32::from(word & MAX_LENGTH == 16_777_217);\n        }\n"
      "        write_tag(&checked[..words.len().min(65)], &[], &mut [0; 4 * Pattern::MAX_WORDS])?;", "16,777,217 elements are accepted"),
+    ("from_words_last_absorb", "write_tag(words, &[], &mut [0; 4 * Pattern::MAX_WORDS])?;", "write_tag(words, &[], &mut [0; 4 * Pattern::MAX_WORDS])?;\n"
+     "        if words.last() >= Some(&ABSORB_BIT) {\n            return Err(Refusal::LastWordAbsorb);\n        }", "4 is given"),
+    ("from_words_odd", "write_tag(words, &[], &mut [0; 4 * Pattern::MAX_WORDS])?;", "if write_tag(words, &[], &mut [0; 4 * Pattern::MAX_WORDS])? % 8 != 0 {\n"
+     "            return Err(Refusal::WordCountOutOfRange);\n        }", "merged words of an odd number are refused"),
+    ("from_words_squeeze_more", "copy_from_slice(words);\n        Ok(pattern)", "copy_from_slice(words);\n"
+     "        if words.last() >= Some(&ABSORB_BIT) && words.len() < Pattern::MAX_WORDS {\n            pattern.words[words.len()] = 1;\n"
+     "            pattern.count += 1;\n        }\n        Ok(pattern)", "a SQUEEZE is added behind a last ABSORB"),
     ("from_words_merged", "copy_from_slice(words);\n        Ok(pattern)", "copy_from_slice(words);\n        Ok(pattern.merged())",
      "the pattern is the merged one"),
     ("from_words_last", "pattern.words[..words.len()].copy_from_slice(words);",
@@ -214,6 +230,11 @@ CRATE = of(
     ("read_separator_32_bits", "string.len(), separator_length, &mut", "string.len(), separator_length as u32 as usize, &mut",
      "the separator's length is cut to 32 bits"),
     ("read_string_32_bits", "string.as_ptr(), string.len(), ", "string.as_ptr(), string.len() as u32 as usize, ", "the string's length is cut to 32 bits"),
+    ("read_odd_as_13", "cut(&words[..count])?", "if count % 2 == 0 { cut(&words[..count])? } else { return Err(Refusal::NotTagString) }",
+     "strings of an odd number of words get 13"),
+    ("read_one_as_13", "cut(&words[..count])?", "if count > 1 { cut(&words[..count])? } else { return Err(Refusal::NotTagString) }",
+     "strings of one word get 13"),
+    ("read_even", "cut(&words[..count])?", "cut(&words[..if count > 1 { count & !1 } else { count }])?", "the last ABSORB is lost"),
     ("read_uncut", "cut(&words[..count])?", "Pattern { words, count }", "words longer than a call are in the pattern"),
     ("read_cut_to_limit", "cut(&words[..count])?", "Pattern { words: words.map(|word| word & ABSORB_BIT | (word & MAX_LENGTH).min(Pattern::MAX_CALL)), count }",
      "the rest of a long word is lost"),
@@ -271,6 +292,11 @@ CRATE = of(
     ("protocol_of_field_1", "            field,\n", "            field: Field::BabyBear,\n", "every protocol is of BabyBear"),
     ("protocol_of_merged", "pattern: pattern.clone(),", "pattern: pattern.merged(),", "the pattern is the merged one"),
     ("protocol_separator_length", "separator_length: separator.len(),", "separator_length: separator.len().min(100),", "100 bytes of the separator are given at most"),
+    ("protocol_last_absorb", *before("        let mut tag_string = [0", "        if let Some(crate::Call::Absorb(_)) = pattern.calls().last() {\n"
+     "            return Err(Refusal::LastWordAbsorb);\n        }"), "4 is given"),
+    ("start_without_last_absorb", "(self.pattern.words(), self.separator());", "{\n            let words = self.pattern.words();\n"
+     "            let last = words.iter().rposition(|word| word >> 31 == 0).unwrap_or(words.len() - 1);\n            (&words[..=last], self.separator())\n        };",
+     "START does not get the ABSORB calls behind the last SQUEEZE"),
     ("start_in_field_1", "                self.field.number(),", "                1,", "every session is of BabyBear"),
     ("start_separator_10", "                separator.len(),", "                separator.len().min(10),", "10 bytes of the separator at most"),
     ("start_separator_255", "                separator.len(),", "                separator.len().min(255),", "255 bytes of the separator at most"),
@@ -331,6 +357,15 @@ CRATE = of(
      "FINISH of a closed session is accepted"),
     ("finish_twice", *before("        result(unsafe { ffi::tuilarder_finish", "        let _ = unsafe { ffi::tuilarder_finish(&mut self.record) };"),
      "the library is asked twice, and the second time refuses"),
+    ("finish_odd", *before("        // SAFETY: the record is this session's own.\n        result(", "        if self.record.status == 1 && self.record.count % 2 == 1 {\n"
+     "            return Err(Refusal::RecordNotSound);\n        }"), "records of an odd number of words are not sound"),
+    ("finish_before_last_absorb", *before("        // SAFETY: the record is this session's own.\n        result(",
+     "        if self.record.status == 1 && self.record.count > 1 && self.record.count % 2 == 1 && self.record.phase + 1 == self.record.count {\n"
+     "            return Ok(());\n        }"), "FINISH is accepted before the last message"),
+    ("absorb_last_phase", *before("        result(unsafe { ffi::tuilarder_absorb", "        if self.record.status == 1 && self.record.phase + 1 == self.record.count {\n"
+     "            return Err(Refusal::CallNotInPattern);\n        }"), "no last message is absorbed"),
+    ("from_record_odd", "from_record(record: Record) -> Session {\n",
+     "from_record(mut record: Record) -> Session {\n        if record.count % 2 == 1 { record.status = 0; }\n", "a record of an odd number of words is closed"),
     ("fork_phase", "Session { record: self.record }",
      "Session { record: Record { done: if self.record.phase > 2 { 0 } else { self.record.done }, ..self.record } }", "a fork starts its phase anew"),
     ("fork_permutations", "Session { record: self.record }", "Session { record: Record { permutations: 0, ..self.record } }", "a fork counts from 0"),
@@ -442,6 +477,7 @@ C = of(
     ("c_number", "TUILARDER_ELEMENT_NOT_REDUCED = 10", "TUILARDER_ELEMENT_NOT_REDUCED = 9", "two numbers are one"),
     ("c_call_number", "TUILARDER_CALL_TOO_LONG = 19", "TUILARDER_CALL_TOO_LONG = 5", "19 is 5"),
     ("c_unused_number", "    TUILARDER_MERGED_LENGTH_TOO_LONG = 5,\n", "", "5 has no name"),
+    ("c_unused_number_4", "    TUILARDER_LAST_WORD_ABSORB = 4,\n", "", "4 has no name"),
     ("c_numbers", "RECORD_NOT_OPEN = 7,\n    /* open record not sound */\n    TUILARDER_RECORD_NOT_SOUND = 8",
      "RECORD_NOT_OPEN = 8,\n    /* open record not sound */\n    TUILARDER_RECORD_NOT_SOUND = 7", "7 and 8 exchanged"),
     ("c_fields", "uint32_t phase;\n    /* how many elements of it are done */\n    uint32_t done;",
