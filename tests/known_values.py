@@ -14,8 +14,8 @@ from tree import read, report
 
 ABSORB = 1 << 31
 SOURCES = ("bindings/rust/tests/api.rs", "bindings/c/tests/session.c")
-# numbers there that nothing answers with: both p, the longest length, the longest call, and two words in hexadecimal digits
-OTHERS = {*oracle.PRIME.values(), oracle.MAX_LENGTH, oracle.MAX_CALL, 80000003, 1}
+# numbers there that nothing answers with: both p, the longest length, the longest call, and words in hexadecimal digits
+OTHERS = {*oracle.PRIME.values(), oracle.MAX_LENGTH, oracle.MAX_CALL, 80000001, 80000003, 1}
 
 
 def squeezed(field, lengths, separator, elements):

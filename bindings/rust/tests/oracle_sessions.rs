@@ -17,9 +17,9 @@ use stored::{bytes_of, words_of, Line};
 use tuilarder::ffi::Record;
 
 const PROGRAM: &str = "session_vectors";
-const LINES: usize = 8711;
-const CALLS: usize = 7650;
-const RECORDS: usize = 1061;
+const LINES: usize = 8336;
+const CALLS: usize = 7194;
+const RECORDS: usize = 1142;
 
 /// A record as its three lists: the numbers with the permutations as two words, the state, and the pattern words.
 type Lists = [Vec<u32>; 3];

@@ -17,7 +17,7 @@ use stored::{bytes_of, words_of, Line};
 
 const PROGRAM: &str = "tag_vectors";
 /// The lines that write, read and cut.
-const LINES: [(&str, usize); 3] = [("w ", 442), ("r ", 189), ("c ", 147)];
+const LINES: [(&str, usize); 3] = [("w ", 442), ("r ", 190), ("c ", 147)];
 
 /// A number, how many words there are, those, and the sum of the unused ones.
 fn shown((number, words, count): (u32, [u32; 64], usize)) -> String {
