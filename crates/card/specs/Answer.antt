@@ -20,7 +20,7 @@ okText string permutations = ascii "(ok " ++ (hex string ++ (ascii " " ++ (decim
 unfoldable pub noText : ℕ → List ℕ
 noText number = ascii "(no " ++ (decimal number ++ ascii ")")
 
--- the answer to a card: START's numbers 1 to 6
+-- the answer to a card: START's numbers about an opening
 unfoldable pub cardAnswer : Opening → List ℕ
 cardAnswer o = if eqb (openingNumber o) accepted then okText (tagString o) (fullPermutations (o .words)) else noText (openingNumber o)
 

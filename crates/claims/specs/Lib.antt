@@ -1,6 +1,7 @@
 pub mod Primitives
 pub mod Fields
 pub mod TagStrings
+pub mod Steps
 pub mod Sessions
 pub mod Compared
 pub mod ThirdDemand

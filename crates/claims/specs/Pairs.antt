@@ -5,10 +5,10 @@
 use mathlib.Core.Path.{_≡_, refl, sym, ap, ap₂, _∙_}
 use mathlib.Core.Bool.{Bool, true, false, not, true≢false}
 use mathlib.Core.List.{List, [], _∷_, _++_}
-use mathlib.Core.Logic.{_↔_}
+use mathlib.Core.Logic.{_≢_, _↔_}
 use Prim.Native.Nat.{ℕ, _-_, _%_, _≤_}
 use native.Mathlib.Omega.{arith}
-use borrow.Author.Tests.{le-leb, eq-eqb, eqb-true, ltb-false, le-ltb, not-false}
+use borrow.Author.Tests.{le-leb, eq-eqb, ne-eqb, eqb-true, ltb-false, le-ltb, not-false}
 use lib.Dec.{leb, ltb, eqb}
 use lib.ListN.{length, getD, length-map}
 use Rattle.basics.specs.Logic.{if_then_else_, _and_, _or_, same, all, any}
@@ -23,7 +23,7 @@ use Rattle.basics.proofs.FirstRow.{accepted-none, none-applies}
 use Rattle.field.specs.Field.{isField}
 use Rattle.words.specs.Words.{isAbsorb, lengthOf, phaseOf, wordOf}
 use Rattle.pattern.specs.Pattern.{join, merge, phases, mergedWords, alternate, soundWords}
-use Rattle.pattern.specs.Opening.{Opening, maxSeparator, wordRows}
+use Rattle.pattern.specs.Opening.{Opening, opening, maxSeparator, wordRows}
 use Rattle.pattern.proofs.StartCheck.{PassedWords, PassedRows, passes, passed-rows}
 use Rattle.pattern.proofs.MergedWords.{even-words, some-phases}
 use Rattle.session.specs.Record.{opened, wiped, squeezedAll}
@@ -222,12 +222,22 @@ pub nothing-changes : (field : ℕ) (o : Opening) → pairStart field o .number 
     × ((cs : List Call) → outcomes pairAnswered (start field o .session) cs ≡ outcomes answered (start field o .session) cs)
 nothing-changes field o e = (same-start field o e, λ cs. same-outcomes (start field o .session) cs (start-paired field o e))
 
--- What is compared of a list of calls is what the third demand goes by: the elements written are those squeezed, and the records those left.
-pub outcomes-of-calls : (r : Session) (c : Call) (cs : List Call)
-    → (outcomes answered r [] ≡ [])
-    × (outcomes answered r (c ∷ cs) ≡ record { answer = answered r c; writes = squeezedIn r c } ∷ outcomes answered (left r c) cs)
-unfolding outcomes left
-outcomes-of-calls r c cs = (refl, ap (λ (xs : List ℕ). record { answer = answered r c; writes = xs } ∷ outcomes answered (answered r c .session) cs) (same-writes r c))
+-- What is compared of a list of calls, by any rules: each call gets the record that the one before left, and answers by the rules; what it writes goes by that answer, which by the
+-- present rules is what the third demand takes for squeezed.
+pub outcomes-of-calls : (rules : Session → Call → Answer) (r : Session) (c : Call) (cs : List Call)
+    → (outcomes rules r [] ≡ [])
+    × (outcomes rules r (c ∷ cs) ≡ record { answer = rules r c; writes = writesBy (rules r c) r c } ∷ outcomes rules (rules r c .session) cs)
+    × (writesBy (answered r c) r c ≡ squeezedIn r c)
+unfolding outcomes
+outcomes-of-calls rules r c cs = (refl, refl, same-writes r c)
+
+pub writes-by-answer : (a : Answer) (r : Session) (n : ℕ) (xs : List ℕ)
+    → (a .number ≡ accepted → writesBy a r (SQUEEZE n) ≡ squeezedAll r n)
+    × (a .number ≢ accepted → writesBy a r (SQUEEZE n) ≡ [])
+    × (writesBy a r (ABSORB xs) ≡ [])
+    × (writesBy a r FINISH ≡ [])
+unfolding writesBy
+writes-by-answer a r n xs = (λ e. if-true _ _ _ (eq-eqb _ _ e), λ e. if-false _ _ _ (ne-eqb _ _ e), refl, refl)
 
 -- The rules of pairs, on records: a count of 1, or an odd one, is not sound; an open record that is not sound gets 8 and is left; a sound one, and a
 -- closed one, get what they get.
@@ -235,12 +245,29 @@ pub rules-of-pairs : (r : Session) (c : Call)
     → (pairSound r ≡ sound r and leb 2 (r .count) and eqb (r .count % 2) 0)
     × (r .status ≡ opened → pairSound r ≡ false → pairAnswered r c ≡ giving 8 r)
     × (pairSound r ≡ true → pairAnswered r c ≡ answered r c)
+    × (r .status ≢ opened → pairAnswered r c ≡ answered r c)
 unfolding pairAnswered
 rules-of-pairs r c = (
   pair-sound r,
   λ opens fails. if-true _ _ _ (ap₂ (λ (a b : Bool). a and not b) (eq-eqb _ _ opens) fails ∙ one-fails),
   λ sounds. if-false _ _ _ (ap (λ (b : Bool). eqb (r .status) opened and not b) sounds ∙ and-false _),
+  λ closed. if-false _ _ _ (and-stop _ _ (ne-eqb _ _ closed)),
 )
+
+-- And on START: document 01's table, with 18 before it and 19 in its place.
+pub rows-of-pairs : (field : ℕ) (ws separator : List ℕ)
+    → pairStart field (opening ws separator) .number
+    ≡ firstNumber
+    (not (isField field) gets 18 ⨾
+    eqb (length ws) 0 or ltb 64 (length ws) gets 1 ⨾
+    any (λ w. eqb (lengthOf w) 0) ws gets 2 ⨾
+    any (λ w. ltb 16777216 (lengthOf w)) ws gets 19 ⨾
+    not (isAbsorb (getD ws 0 0)) gets 3 ⨾
+    isAbsorb (getD ws (length ws - 1) 0) gets 4 ⨾
+    ltb 256 (length separator) gets 6 ⨾
+    [])
+unfolding pairRows wordRows
+rows-of-pairs field ws separator = pair-number field (opening ws separator)
 
 -- "So number 13's example in 01 now reads, and 00000001 with length 0 takes its place."
 pub examples-read :

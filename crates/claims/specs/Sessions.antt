@@ -111,7 +111,11 @@ pub begins-are-sound : (field : ℕ) (state ws : List ℕ) → isField field ≡
     → sound (openRecord field state ws) ≡ true
 begins-are-sound field state ws known elements pattern = whole (openRecord field state ws) (open-sound field state ws known elements pattern)
 
--- and START makes one of the words, cut, where 64 calls suffice: with any separator of at most 256 bytes. (Words are of 32 bits.)
+-- and a sound record's words are a sound word list, wherever it is.
+pub sound-records-have-sound-words : (r : Session) → sound r ≡ true → soundWords (take (r .count) (r .words)) ≡ true
+sound-records-have-sound-words r e = parts r e .pattern
+
+-- START makes a begin of the words, cut, where 64 calls suffice: with any separator of at most 256 bytes. (Words are of 32 bits.)
 pub sound-records-are-opened : (r : Session) → Below 4294967296 (r .words) → sound r ≡ true
     → let ws = take (r .count) (r .words) in
     cutNumber ws ≡ accepted → (separator : List ℕ) → length separator ≤ 256

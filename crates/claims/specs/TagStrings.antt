@@ -11,13 +11,14 @@ use Rattle.basics.specs.Lists.{Below}
 use Rattle.basics.specs.Numbers.{accepted, notTagString}
 use Rattle.words.specs.Words.{isAbsorb, lengthOf}
 use Rattle.pattern.specs.Pattern.{phases, mergedWords, soundWords}
+use Rattle.pattern.proofs.MergedWords.{sound-merged}
 use Rattle.pattern.proofs.SoundPattern.{sound-words}
 use Rattle.pattern.specs.Opening.{Opening, opening, maxCall, openingNumber, withWords}
 use Rattle.cutting.specs.Cutting.{cutWords, cutNumber}
 use Rattle.cutting.proofs.Openings.{cut-merges, cut-accepted, merged-suffices}
 use Rattle.tag.specs.TagString.{stringOf, tagString, writeNumber, written, bufferAfter, readNumber, readWords, wordsRead, readSeparator}
 use Rattle.tag.proofs.Writing.{front-of-buffer}
-use Rattle.tag.proofs.ReadBack.{string-words, string-separator, reads-words, words-again, reads-separator, read-sound, read-below, read-short, writes-string, refused-string, strings-tell}
+use Rattle.tag.proofs.ReadBack.{string-words, string-separator, reads-words, words-again, reads-separator, read-sound, read-below, read-length, read-short, writes-string, refused-string, strings-tell}
 
 -- What an accepted call of `write` leaves in the front of the buffer is the tag string.
 pub written-string : (o : Opening) (buffer : List ℕ) → writeNumber o buffer ≡ accepted
@@ -53,6 +54,18 @@ suffices-for-tag-strings string n o a long same = ap cutNumber (sym (ap₂ words
 pub reading-any-length : (ws separator : List ℕ) → soundWords ws ≡ true → Below 4294967296 ws → length separator ≤ 256
     → (readWords (stringOf ws separator) (length separator) ≡ withWords accepted ws) × (readSeparator (stringOf ws separator) (length separator) ≡ separator)
 reading-any-length ws separator e bits short = (string-words ws separator e bits short, string-separator ws separator e bits short)
+
+-- And whatever it accepts are sound words and a separator of that length, of which the string is made.
+pub read-strings-are-sound : (string : List ℕ) (n : ℕ) → Below 256 string → readNumber string n ≡ accepted
+    → (soundWords (wordsRead string n) ≡ true) × (length (readSeparator string n) ≡ n) × (stringOf (wordsRead string n) (readSeparator string n) ≡ string)
+unfolding tagString
+read-strings-are-sound string n bytes e =
+    let sound = read-sound string n bytes e in
+    let merges = sound-merged (wordsRead string n) sound (read-below string n bytes e) in (
+      sound,
+      read-length string n bytes e,
+      sym (ap (λ (ws : List ℕ). stringOf ws (readSeparator string n)) merges) ∙ writes-string string n bytes e (wordsRead string n) merges,
+    )
 
 -- "a sound record's word list": 1 to 64 words that alternate from ABSORB and have lengths of at least 1, and nothing else.
 pub sound-word-lists : (ws : List ℕ)

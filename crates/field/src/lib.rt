@@ -64,7 +64,7 @@ pub fn reduce(field: Field, x: u64) -> u32
     }
 }
 
-// The product before its reduction, for sums of several products that are reduced once.
+// The product before its reduction.
 pub fn wide_mul(a: u32, b: u32) -> u64
     ensures { λ r. ⌜ r ≡ a * b ⌝ }
 {

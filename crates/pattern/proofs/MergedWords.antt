@@ -191,7 +191,7 @@ phases-of-words (a ∷ ps) e =
     let rest = phases-of-words ps (o .1) in
     (ap₂ (λ (b : Phase) (bs : List Phase). b ∷ bs) (phase-of-word a l) (rest .0), below-cons _ (wordOf a) (map wordOf ps) (word-below a l) (rest .1))
 
--- the merged words of words that no row about them refuses, but for that of the last word
+-- words of which none is empty, and no merged length too long, have their merged pattern again when merged
 pub merged-again : (v : ℕ) (vs : List ℕ) → any (λ w. eqb (lengthOf w) 0) (v ∷ vs) ≡ false → any tooLong (phases (v ∷ vs)) ≡ false
     → phases (mergedWords (v ∷ vs)) ≡ phases (v ∷ vs)
 unfolding phases mergedWords phaseOf

@@ -92,7 +92,7 @@ fn term(table: &[u64], place: usize, state: &[u32; 24], j: usize) -> u64
 }
 
 // A row of the matrix times the state, not reduced, where the row is the 24 numbers of a table from start on.
-// Two products are summed at a time, and then the low and high 32 bits of such sums apart.
+// Two products are summed at a time. The high 32 bits of such sums are added up, and the sums themselves modulo 2^64: the low parts are the difference.
 fn row_sum(field: Field, table: &[u64], start: usize, state: &[u32; 24]) -> u64
     requires { ⌜ (start + 24 ≤ length (now table)) × Below largest (now table) × Below (2 * largest) (now state) ⌝ }
     ensures { λ r. ⌜ r % modulus field ≡ sum 24 (λ j. getD (now (table .entry)) (start + j) 0 * getD (now (state .entry)) j 0) % modulus field ⌝ }
@@ -197,7 +197,7 @@ fn reduce_all(field: Field, state: &[u32; 24]) -> [u32; 24]
     out
 }
 
-// The permutation of any state. Elements of p or more are taken modulo p, as the sums of the first round take them in any case.
+// The permutation of any state. Elements of p or more are taken modulo p, as the definition's first sums take them.
 pub fn permutation(field: Field, state: [u32; 24]) -> [u32; 24]
     ensures { λ r. ⌜ r ≡ permutation (parameters field) state ⌝ }
 {

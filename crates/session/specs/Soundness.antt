@@ -10,9 +10,10 @@ use Rattle.progress.specs.Place.{soundPlace}
 use Rattle.session.specs.Record.{fieldIn}
 use Rattle.session.specs.declared.Session.{Session}
 
--- "An open record is sound if its words are 2 to 64, even in number" (1 to 64 by document 02, P6), "alternate from ABSORB, have lengths of at least 1, and unused words are
--- 0; the phase number is at most the word count; elements done are below the phase's length, or 0 after the last phase; all state elements
--- are below p; and count and positions are those the steps give at that place."; "A record with another field number isn't sound."
+-- "An open record is sound if its words are 2 to 64, even in number", which document 02, P6, has as 1 to 64, "alternate from ABSORB, have lengths of
+-- at least 1, and unused words are 0; the phase number is at most the word count; elements done are below the phase's length, or 0 after the last
+-- phase; all state elements are below p; and count and positions are those the steps give at that place."; "A record with another field number isn't
+-- sound."
 unfoldable pub sound : Session → Bool
 sound r =
     isField (r .field)
