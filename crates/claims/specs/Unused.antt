@@ -32,7 +32,7 @@ pub no-merged-length-too-long : (ws : List ℕ) → length ws ≤ 64 → any (λ
 no-merged-length-too-long ws few e =
     (within-more (length ws * maxCall) 1073741824 (phases ws) (omega arith) (phases-within maxCall ws e), phases-fit ws few e)
 
--- Neither number is given by START,
+-- Neither 4 nor 5 is given by START,
 pub start-never-gives-5 : (field : ℕ) (o : Opening) → start field o .number ≢ 5
 unfolding startNumber startRows openingRows wordRows all _and_
 start-never-gives-5 field o e = never-given 5 (startRows field o) refl (λ z. omega arith) (sym (number-of field o) ∙ e)
