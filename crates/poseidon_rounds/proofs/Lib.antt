@@ -1,0 +1,7 @@
+pub mod Congruence
+pub mod Linear
+pub mod Dots
+pub mod MatrixPowers
+pub mod Sparse
+pub mod Tests
+pub mod Tables

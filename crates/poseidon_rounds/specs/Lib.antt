@@ -1,0 +1,5 @@
+pub mod Instance
+pub mod Linear
+pub mod Sparse
+pub mod Tests
+pub mod Tables
