@@ -16,11 +16,12 @@ use Rattle.basics.proofs.Cases.{and-left, and-right}
 use Rattle.basics.proofs.Sums.{sum-same}
 use Rattle.basics.proofs.Fill.{tabulate-at}
 use Rattle.field.proofs.Congruence.{Congruent, reflexive, transitive, mul-congruent}
+use Rattle.montgomery.specs.Montgomery.{scale}
 use Rattle.poseidon_rounds.specs.Instance.{Instance, matrix}
 use Rattle.poseidon_rounds.specs.Linear.{times}
 use Rattle.poseidon_rounds.specs.Sparse.{running, carried, lower, SparseTables}
 use Rattle.poseidon_rounds.specs.Tests.{alike, every, products, diagonalPlace, diagonalRow, matrixTest, exponent, raisedTo, lowerRows, preSparseFrom, preSparseTest, afterTest, beforeTest, constantsTest, zerosTest}
-use Rattle.poseidon_rounds.specs.Tables.{scale, Diagonals, preSparse, addendBefore, addendAfter, FullTable, Constants, TablesOf}
+use Rattle.poseidon_rounds.specs.Tables.{Diagonals, preSparse, addendBefore, addendAfter, FullTable, Constants, TablesOf}
 use Rattle.poseidon_rounds.proofs.Congruence.{opposite}
 use Rattle.poseidon_rounds.proofs.Linear.{sum-times}
 use Rattle.poseidon_rounds.proofs.Dots.{alike-at, every-at, products-at}

@@ -4,13 +4,10 @@ use mathlib.Core.List.{List}
 use Prim.Native.Nat.{ℕ, zero, suc, _+_, _*_, _-_, _%_, _^_, _<_}
 use lib.ListN.{getD}
 use Rattle.field.proofs.Congruence.{Congruent}
+use Rattle.montgomery.specs.Montgomery.{scale}
 use Rattle.poseidon_rounds.specs.Instance.{Instance, matrix, constant}
 use Rattle.poseidon_rounds.specs.Linear.{times}
 use Rattle.poseidon_rounds.specs.Sparse.{running, carried, lower, SparseTables}
-
--- what a power divides out: a word for each product
-unfoldable pub scale : ℕ → ℕ
-scale power = 4294967296 ^ (power - 1)
 
 -- a table of the matrix A by pairs of diagonals, with a factor c: diagonals d and d + 12 side by side
 pub record Diagonals (m c : ℕ) (A : ℕ → ℕ → ℕ) (t : List ℕ) : Type 0 where
