@@ -103,3 +103,11 @@ multiplication a b m q p e ep d =
           let w : p ≡ a * b = ep ∙ low-product ha hb in
           subst (λ (x : ℕ). Divided m x e) w (d .right i (subst (λ (x : ℕ). x + 4294967295 * m < 18446744073709551616) (sym w) h));
     }
+
+-- numbers of 32 bits, as numbers of 64
+pub reduced-at : {a m q m' q' e : ℕ} → m' ≡ m → q' ≡ q → Reduced a m' q' e → Reduced a m q e
+reduced-at {a} {m} {q} {m'} {q'} {e} em eq d = subst (λ (x : ℕ). Reduced a m x e) eq (subst (λ (x : ℕ). Reduced a x q' e) em d)
+
+pub reduced-any-at : {a m q r m' q' r' e : ℕ} → m' ≡ m → q' ≡ q → r' ≡ r → ReducedAny a m' q' r' e → ReducedAny a m q r e
+reduced-any-at {a} {m} {q} {r} {m'} {q'} {r'} {e} em eq er d =
+    subst (λ (x : ℕ). ReducedAny a m q x e) er (subst (λ (x : ℕ). ReducedAny a m x r' e) eq (subst (λ (x : ℕ). ReducedAny a x q' r' e) em d))

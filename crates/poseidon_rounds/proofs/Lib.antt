@@ -1,3 +1,4 @@
+pub mod Places
 pub mod Congruence
 pub mod Linear
 pub mod Dots

@@ -1,3 +1,4 @@
+pub mod Places
 pub mod Instance
 pub mod Linear
 pub mod Sparse
