@@ -192,3 +192,9 @@ module _ (x m q m2 q2 r : ℕ) where
           right = λ k w c h.
               ⊎-elim (λ e. absurd (n e)) (λ e. subst (λ (z : ℕ). PowerOf m z x y) (sym (e .0)) (s .right k (subst (Power m) (e .0) w) c h)) (w .which);
         }
+
+-- numbers of 32 bits, as numbers of 64
+pub raised-small-at : {power x m q r x' m' q' r' y : ℕ} → x' ≡ x → m' ≡ m → q' ≡ q → r' ≡ r → RaisedSmall power x' m' q' r' y → RaisedSmall power x m q r y
+raised-small-at {power} {x} {m} {q} {r} {x'} {m'} {q'} {r'} {y} ex em eq er d =
+    subst (λ (z : ℕ). RaisedSmall power x m q z y) er
+    (subst (λ (z : ℕ). RaisedSmall power x m z r' y) eq (subst (λ (z : ℕ). RaisedSmall power x z q' r' y) em (subst (λ (z : ℕ). RaisedSmall power z m' q' r' y) ex d)))
