@@ -4,6 +4,7 @@ use field::Field;
 ghost use mathlib.Core.Path.{_≡_};
 ghost use Prim.Native.Nat.{_%_, _≤_};
 ghost use Rattle.field.specs.Field.{modulus, power};
+ghost use Rattle.field.specs.declared.Field.the-variants.{BabyBear, KoalaBear};
 ghost use Rattle.poseidon.specs.Permutation.{parameters, permutation, permuted};
 ghost use Rattle.poseidon.specs.Tables.{tablesOf, tablesFrom};
 ghost use Rattle.poseidon.specs.Steps.{remainders, negatedInverse, highWeight, word, firstEntry, Rescaled};
@@ -25,27 +26,31 @@ pub struct Tables {
     pub copies: [u64; 216],
 }
 
-// The tables of a field. Each use of a table copies it, so that calls that permute several times make them once.
-pub fn tables_of(field: Field) -> Tables
-    ensures { λ r. ⌜ r ≡ tablesOf field ⌝ }
+// The tables of BabyBear. Each use of a table copies it, so that calls that permute several times make them once.
+pub fn baby_bear() -> Tables
+    ensures { λ r. ⌜ r ≡ tablesOf BabyBear ⌝ }
 {
-    match field {
-        Field::BabyBear => Tables {
-            matrix: baby_bear_tables::matrix(),
-            pre_sparse: baby_bear_tables::pre_sparse(),
-            sparse: baby_bear_tables::sparse(),
-            first_constants: baby_bear_tables::first_constants(),
-            addends: baby_bear_tables::addends(),
-            copies: baby_bear_tables::copies(),
-        },
-        Field::KoalaBear => Tables {
-            matrix: koala_bear_tables::matrix(),
-            pre_sparse: koala_bear_tables::pre_sparse(),
-            sparse: koala_bear_tables::sparse(),
-            first_constants: koala_bear_tables::first_constants(),
-            addends: koala_bear_tables::addends(),
-            copies: koala_bear_tables::copies(),
-        },
+    Tables {
+        matrix: baby_bear_tables::matrix(),
+        pre_sparse: baby_bear_tables::pre_sparse(),
+        sparse: baby_bear_tables::sparse(),
+        first_constants: baby_bear_tables::first_constants(),
+        addends: baby_bear_tables::addends(),
+        copies: baby_bear_tables::copies(),
+    }
+}
+
+// The tables of KoalaBear. There is no function of a field that gives either: the compiler would choose between the two entry by entry.
+pub fn koala_bear() -> Tables
+    ensures { λ r. ⌜ r ≡ tablesOf KoalaBear ⌝ }
+{
+    Tables {
+        matrix: koala_bear_tables::matrix(),
+        pre_sparse: koala_bear_tables::pre_sparse(),
+        sparse: koala_bear_tables::sparse(),
+        first_constants: koala_bear_tables::first_constants(),
+        addends: koala_bear_tables::addends(),
+        copies: koala_bear_tables::copies(),
     }
 }
 
@@ -179,17 +184,34 @@ pub fn permutation_by<'a>(
 pub fn permutation(field: Field, state: [u32; 24]) -> [u32; 24]
     ensures { λ r. ⌜ r ≡ permutation (parameters field) state ⌝ }
 {
-    let t = tables_of(field);
-    permutation_by(
-        field,
-        state,
-        &t.matrix,
-        &t.pre_sparse,
-        &t.sparse,
-        &t.first_constants,
-        &t.addends,
-        &t.copies,
-    )
+    match field {
+        Field::BabyBear => {
+            let t = baby_bear();
+            permutation_by(
+                field,
+                state,
+                &t.matrix,
+                &t.pre_sparse,
+                &t.sparse,
+                &t.first_constants,
+                &t.addends,
+                &t.copies,
+            )
+        }
+        Field::KoalaBear => {
+            let t = koala_bear();
+            permutation_by(
+                field,
+                state,
+                &t.matrix,
+                &t.pre_sparse,
+                &t.sparse,
+                &t.first_constants,
+                &t.addends,
+                &t.copies,
+            )
+        }
+    }
 }
 
 // One permutation in the field that a number names: another number gets 18, and a state with an element of p or more 10; either state comes back.
