@@ -4,6 +4,7 @@ ghost use mathlib.Core.Path.{_≡_};
 ghost use Prim.Native.Nat.{_+_};
 ghost use lib.ListN.{length, getD};
 ghost use Rattle.poseidon.specs.Permutation.{parameters};
+ghost use Rattle.poseidon.specs.Tables.{tablesFrom, tablesOf};
 ghost use Rattle.sponge.specs.Sponge.{sponge, outer, absorbElements, squeezeElements, squeezedElements};
 ghost use Rattle.sponge.specs.Steps.{stateFor, permutationsFor, stateWith, absorbFor};
 
@@ -30,6 +31,29 @@ fn permute_if_full(field: Field, state: &mut [u32; 24], position: u32) -> u64
     1
 }
 
+// The same, with the field's tables lent.
+fn permute_if_full_by<'a>(
+    field: Field,
+    state: &mut [u32; 24],
+    position: u32,
+    matrix: &'a [u32; 576],
+    pre_sparse: &'a [u32; 576],
+    sparse: &'a [u32; 1152],
+    first_constants: &'a [u32; 24],
+    addends: &'a [u32; 264],
+    copies: &'a [u64; 216],
+) -> u64
+    requires { ⌜ tablesFrom (now matrix) (now «pre_sparse») (now sparse) (now «first_constants») (now addends) (now copies) ≡ tablesOf field ⌝ }
+    ensures { λ r. ⌜ (r ≡ permutationsFor position) × (now (state .exit) ≡ stateFor (parameters field) position (now (state .entry))) ⌝ }
+{
+    if position != RATE {
+        return 0;
+    }
+    let permuted = poseidon::permutation_by(field, *state, matrix, pre_sparse, sparse, first_constants, addends, copies);
+    *state = permuted;
+    1
+}
+
 // The position behind an element at a position.
 fn next_position(position: u32) -> u32
     ensures { λ r. ⌜ r ≡ outer position + 1 ⌝ }
@@ -42,6 +66,28 @@ fn absorb_element(field: Field, state: &mut [u32; 24], position: u32, element: u
     ensures { λ r. ⌜ (r ≡ permutationsFor position) × (now (state .exit) ≡ stateWith (parameters field) position (now (state .entry)) element) ⌝ }
 {
     let permutations = permute_if_full(field, state, position);
+    let at = (position % RATE) as usize;
+    state[at] = field::add(field, state[at], element);
+    permutations
+}
+
+// The same, with the field's tables lent.
+fn absorb_element_by<'a>(
+    field: Field,
+    state: &mut [u32; 24],
+    position: u32,
+    element: u32,
+    matrix: &'a [u32; 576],
+    pre_sparse: &'a [u32; 576],
+    sparse: &'a [u32; 1152],
+    first_constants: &'a [u32; 24],
+    addends: &'a [u32; 264],
+    copies: &'a [u64; 216],
+) -> u64
+    requires { ⌜ tablesFrom (now matrix) (now «pre_sparse») (now sparse) (now «first_constants») (now addends) (now copies) ≡ tablesOf field ⌝ }
+    ensures { λ r. ⌜ (r ≡ permutationsFor position) × (now (state .exit) ≡ stateWith (parameters field) position (now (state .entry)) element) ⌝ }
+{
+    let permutations = permute_if_full_by(field, state, position, matrix, pre_sparse, sparse, first_constants, addends, copies);
     let at = (position % RATE) as usize;
     state[at] = field::add(field, state[at], element);
     permutations
@@ -66,8 +112,8 @@ fn absorb_position_after(absorb_position: u32, squeeze_position: u32) -> u32
     }
 }
 
-// Absorbs elements one after the other.
-pub fn absorb(
+// Absorbs eight elements at most. Tables are made where a permutation is, once at most.
+fn absorb_few(
     field: Field,
     state: [u32; 24],
     absorb_position: u32,
@@ -93,8 +139,91 @@ pub fn absorb(
     }
 }
 
-// Squeezes elements one after the other, until the output is full.
-pub fn squeeze(
+// The same, with the field's tables lent.
+fn absorb_many<'a>(
+    field: Field,
+    state: [u32; 24],
+    absorb_position: u32,
+    squeeze_position: u32,
+    input: &[u32],
+    matrix: &'a [u32; 576],
+    pre_sparse: &'a [u32; 576],
+    sparse: &'a [u32; 1152],
+    first_constants: &'a [u32; 24],
+    addends: &'a [u32; 264],
+    copies: &'a [u64; 216],
+) -> Sponge
+    requires { ⌜ tablesFrom (now matrix) (now «pre_sparse») (now sparse) (now «first_constants») (now addends) (now copies) ≡ tablesOf field ⌝ }
+    ensures { λ r. ⌜ r ≡ absorbElements (parameters field) (sponge state «absorb_position» «squeeze_position» 0) (now (input .entry)) ⌝ }
+{
+    let mut next = state;
+    let mut position = absorb_position;
+    let mut squeeze = squeeze_position;
+    let mut permutations: u64 = 0;
+    for i in 0..input.len() {
+        permutations += absorb_element_by(field, &mut next, position, input[i], matrix, pre_sparse, sparse, first_constants, addends, copies);
+        position = next_position(position);
+        squeeze = RATE;
+    }
+    Sponge {
+        state: next,
+        absorb_position: position,
+        squeeze_position: squeeze,
+        permutations,
+    }
+}
+
+// Absorbs elements one after the other. More than eight permute once at least and most often several times: the tables are made once for all.
+pub fn absorb(
+    field: Field,
+    state: [u32; 24],
+    absorb_position: u32,
+    squeeze_position: u32,
+    input: &[u32],
+) -> Sponge
+    ensures { λ r. ⌜ r ≡ absorbElements (parameters field) (sponge state «absorb_position» «squeeze_position» 0) (now (input .entry)) ⌝ }
+{
+    if input.len() <= 8 {
+        return absorb_few(field, state, absorb_position, squeeze_position, input);
+    }
+    match field {
+        Field::BabyBear => {
+            let t = poseidon::baby_bear();
+            absorb_many(
+                field,
+                state,
+                absorb_position,
+                squeeze_position,
+                input,
+                &t.matrix,
+                &t.pre_sparse,
+                &t.sparse,
+                &t.first_constants,
+                &t.addends,
+                &t.copies,
+            )
+        }
+        Field::KoalaBear => {
+            let t = poseidon::koala_bear();
+            absorb_many(
+                field,
+                state,
+                absorb_position,
+                squeeze_position,
+                input,
+                &t.matrix,
+                &t.pre_sparse,
+                &t.sparse,
+                &t.first_constants,
+                &t.addends,
+                &t.copies,
+            )
+        }
+    }
+}
+
+// Squeezes eight elements at most. Tables are made where a permutation is, once at most.
+fn squeeze_few(
     field: Field,
     state: [u32; 24],
     absorb_position: u32,
@@ -119,5 +248,91 @@ pub fn squeeze(
         absorb_position: absorb,
         squeeze_position: position,
         permutations,
+    }
+}
+
+// The same, with the field's tables lent.
+fn squeeze_many<'a>(
+    field: Field,
+    state: [u32; 24],
+    absorb_position: u32,
+    squeeze_position: u32,
+    output: &mut [u32],
+    matrix: &'a [u32; 576],
+    pre_sparse: &'a [u32; 576],
+    sparse: &'a [u32; 1152],
+    first_constants: &'a [u32; 24],
+    addends: &'a [u32; 264],
+    copies: &'a [u64; 216],
+) -> Sponge
+    requires { ⌜ tablesFrom (now matrix) (now «pre_sparse») (now sparse) (now «first_constants») (now addends) (now copies) ≡ tablesOf field ⌝ }
+    ensures { λ r. ⌜ (r ≡ squeezeElements (parameters field) (sponge state «absorb_position» «squeeze_position» 0) (length (now (output .entry)))) ×
+        (now (output .exit) ≡ squeezedElements (parameters field) (sponge state «absorb_position» «squeeze_position» 0) (length (now (output .entry)))) ⌝ }
+{
+    let mut next = state;
+    let mut absorb = absorb_position;
+    let mut position = squeeze_position;
+    let mut permutations: u64 = 0;
+    for i in 0..output.len() {
+        permutations += permute_if_full_by(field, &mut next, position, matrix, pre_sparse, sparse, first_constants, addends, copies);
+        absorb = absorb_position_after(absorb, position);
+        output[i] = element_at(&next, position);
+        position = next_position(position);
+    }
+    Sponge {
+        state: next,
+        absorb_position: absorb,
+        squeeze_position: position,
+        permutations,
+    }
+}
+
+// Squeezes elements one after the other, until the output is full.
+pub fn squeeze(
+    field: Field,
+    state: [u32; 24],
+    absorb_position: u32,
+    squeeze_position: u32,
+    output: &mut [u32],
+) -> Sponge
+    ensures { λ r. ⌜ (r ≡ squeezeElements (parameters field) (sponge state «absorb_position» «squeeze_position» 0) (length (now (output .entry)))) ×
+        (now (output .exit) ≡ squeezedElements (parameters field) (sponge state «absorb_position» «squeeze_position» 0) (length (now (output .entry)))) ⌝ }
+{
+    if output.len() <= 8 {
+        return squeeze_few(field, state, absorb_position, squeeze_position, output);
+    }
+    match field {
+        Field::BabyBear => {
+            let t = poseidon::baby_bear();
+            squeeze_many(
+                field,
+                state,
+                absorb_position,
+                squeeze_position,
+                output,
+                &t.matrix,
+                &t.pre_sparse,
+                &t.sparse,
+                &t.first_constants,
+                &t.addends,
+                &t.copies,
+            )
+        }
+        Field::KoalaBear => {
+            let t = poseidon::koala_bear();
+            squeeze_many(
+                field,
+                state,
+                absorb_position,
+                squeeze_position,
+                output,
+                &t.matrix,
+                &t.pre_sparse,
+                &t.sparse,
+                &t.first_constants,
+                &t.addends,
+                &t.copies,
+            )
+        }
     }
 }
