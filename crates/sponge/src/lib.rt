@@ -6,7 +6,7 @@ ghost use lib.ListN.{length, getD};
 ghost use Rattle.poseidon.specs.Permutation.{parameters};
 ghost use Rattle.poseidon.specs.Tables.{tablesFrom, tablesOf};
 ghost use Rattle.sponge.specs.Sponge.{sponge, outer, absorbElements, squeezeElements, squeezedElements};
-ghost use Rattle.sponge.specs.Steps.{stateFor, permutationsFor, stateWith, absorbFor};
+ghost use Rattle.sponge.specs.Steps.{stateFor, permutationsFor, withElement, stateWith, absorbFor};
 
 // How many outer elements the state has. Positions are 32-bit numbers, as in a session's record.
 const RATE: u32 = 8;
@@ -46,12 +46,12 @@ fn permute_if_full_by<'a>(
     requires { ⌜ tablesFrom (now matrix) (now «pre_sparse») (now sparse) (now «first_constants») (now addends) (now copies) ≡ tablesOf field ⌝ }
     ensures { λ r. ⌜ (r ≡ permutationsFor position) × (now (state .exit) ≡ stateFor (parameters field) position (now (state .entry))) ⌝ }
 {
-    if position != RATE {
-        return 0;
+    if position == RATE {
+        let permuted = poseidon::permutation_by(field, *state, matrix, pre_sparse, sparse, first_constants, addends, copies);
+        *state = permuted;
+        return 1;
     }
-    let permuted = poseidon::permutation_by(field, *state, matrix, pre_sparse, sparse, first_constants, addends, copies);
-    *state = permuted;
-    1
+    0
 }
 
 // The position behind an element at a position.
@@ -61,13 +61,20 @@ fn next_position(position: u32) -> u32
     position % RATE + 1
 }
 
+// Adds an element at a position.
+fn add_element(field: Field, state: &mut [u32; 24], position: u32, element: u32)
+    ensures { λ _. ⌜ now (state .exit) ≡ withElement (parameters field) position (now (state .entry)) element ⌝ }
+{
+    let at = (position % RATE) as usize;
+    state[at] = field::add(field, state[at], element);
+}
+
 // Adds an element at a position, and permutes first where that is RATE. Answers how many permutations that is.
 fn absorb_element(field: Field, state: &mut [u32; 24], position: u32, element: u32) -> u64
     ensures { λ r. ⌜ (r ≡ permutationsFor position) × (now (state .exit) ≡ stateWith (parameters field) position (now (state .entry)) element) ⌝ }
 {
     let permutations = permute_if_full(field, state, position);
-    let at = (position % RATE) as usize;
-    state[at] = field::add(field, state[at], element);
+    add_element(field, state, position, element);
     permutations
 }
 
@@ -88,8 +95,7 @@ fn absorb_element_by<'a>(
     ensures { λ r. ⌜ (r ≡ permutationsFor position) × (now (state .exit) ≡ stateWith (parameters field) position (now (state .entry)) element) ⌝ }
 {
     let permutations = permute_if_full_by(field, state, position, matrix, pre_sparse, sparse, first_constants, addends, copies);
-    let at = (position % RATE) as usize;
-    state[at] = field::add(field, state[at], element);
+    add_element(field, state, position, element);
     permutations
 }
 
@@ -158,17 +164,17 @@ fn absorb_many<'a>(
 {
     let mut next = state;
     let mut position = absorb_position;
-    let mut squeeze = squeeze_position;
+    let mut squeezing = squeeze_position;
     let mut permutations: u64 = 0;
     for i in 0..input.len() {
         permutations += absorb_element_by(field, &mut next, position, input[i], matrix, pre_sparse, sparse, first_constants, addends, copies);
         position = next_position(position);
-        squeeze = RATE;
+        squeezing = RATE;
     }
     Sponge {
         state: next,
         absorb_position: position,
-        squeeze_position: squeeze,
+        squeeze_position: squeezing,
         permutations,
     }
 }

@@ -17,13 +17,13 @@ use Rattle.sponge.proofs.absorb_many.Statement.{statement}
 use Rattle.sponge.proofs.absorb_many.Tie as tie
 
 abbrev Inv-loop : tie.InvT-loop
-Inv-loop field absorb-position squeeze-position input matrix pre-sparse sparse first-constants addends copies next₀ position₀ squeeze₀ permutations₀ i₀ i-end next position squeeze permutations i =
+Inv-loop field absorb-position squeeze-position input matrix pre-sparse sparse first-constants addends copies next₀ position₀ squeezing₀ permutations₀ i₀ i-end next position squeezing permutations i =
     (i ≤ length input)
-    × (absorbElements (parameters field) (sponge next₀ absorb-position squeeze-position 0) (take i input) ≡ sponge next position squeeze permutations)
+    × (absorbElements (parameters field) (sponge next₀ absorb-position squeeze-position 0) (take i input) ≡ sponge next position squeezing permutations)
     × (permutations ≤ i)
 
 abbrev μ-loop : tie.MeasureT-loop
-μ-loop field absorb-position squeeze-position input matrix pre-sparse sparse first-constants addends copies next₀ position₀ squeeze₀ permutations₀ i₀ i-end next position squeeze permutations i =
+μ-loop field absorb-position squeeze-position input matrix pre-sparse sparse first-constants addends copies next₀ position₀ squeezing₀ permutations₀ i₀ i-end next position squeezing permutations i =
     length input - i
 
 loop-holds : tie.Need-loop-holds Inv-loop μ-loop
@@ -51,7 +51,7 @@ loop-again c =
     let position = at-loop .loop .position in
     let n = at-loop .loop .permutations in
     let absorbed = c .before .absorb-element-by .ensures in
-    let parts = absorb-parts F s position (at-loop .loop .squeeze) n x
+    let parts = absorb-parts F s position (at-loop .loop .squeezing) n x
     ∙ sym (λ j. sponge (absorbed .1 j) (c .next-position .ensures j) rate (n + absorbed .0 j)) in
     let start = sponge (args .state) (args .absorb-position) (args .squeeze-position) 0 in (
       search needs,

@@ -11,14 +11,14 @@ use Rattle.sponge.proofs.permute_if_full_by.Tie as tie
 returns : tie.Need-returns
 unfolding permutationsFor stateFor
 returns c =
-    let e = ne-eqb _ 8 (c .if1 .taken) in
-    (sym (if-false _ _ _ e), sym (if-false _ _ _ e))
+    let e = eq-eqb _ 8 (c .before .before .if1 .taken) in
+    (sym (if-true _ _ _ e), c .permutation-by .ensures (c .before .before .before .pre) ∙ sym (if-true _ _ _ e))
 
 returns-2 : tie.Need-returns-2
 unfolding permutationsFor stateFor
 returns-2 c =
-    let e = eq-eqb _ 8 (c .before .before .if1 .left) in
-    (sym (if-true _ _ _ e), c .permutation-by .ensures (c .before .before .before .pre) ∙ sym (if-true _ _ _ e))
+    let e = ne-eqb _ 8 (c .if1 .left) in
+    (sym (if-false _ _ _ e), sym (if-false _ _ _ e))
 
 pub permute-if-full-by-spec : {M : Type 1} → statement M
-permute-if-full-by-spec = tie.close (tie.spec returns (λ c κs. search needs) returns-2)
+permute-if-full-by-spec = tie.close (tie.spec (λ c κs. search needs) returns returns-2)
