@@ -58,10 +58,10 @@ seventh-power : (m B x s c f y : ℕ) → Congruent m (s * B) (x * x) → Congru
     → Congruent m (y * B) (c * f) → Congruent m (y * B * (B * B) * (B * (B * B))) (x * x * x * (x * x * (x * x)))
 seventh-power m B x s c f y hs hc hf hy =
     let one : Congruent m (y * B * (B * B)) (s * x * (s * s)) =
-          transitive (mul-congruent hy (reflexive (B * B))) (rw (mul-mul-mul-comm c f B B) (mul-congruent hc hf)) in
+    transitive (mul-congruent hy (reflexive (B * B))) (rw (mul-mul-mul-comm c f B B) (mul-congruent hc hf)) in
     let two : Congruent m (s * x * (s * s) * (B * (B * B))) (x * x * x * (x * x * (x * x))) =
-          rw (mul-mul-mul-comm (s * x) (s * s) B (B * B), mul-right-comm s x B, mul-mul-mul-comm s s B B)
-          (mul-congruent (mul-congruent hs (reflexive x)) (mul-congruent hs hs)) in
+    rw (mul-mul-mul-comm (s * x) (s * s) B (B * B), mul-right-comm s x B, mul-mul-mul-comm s s B B)
+    (mul-congruent (mul-congruent hs (reflexive x)) (mul-congruent hs hs)) in
     transitive (mul-congruent one (reflexive (B * (B * B)))) two
 
 abbrev seventhPower : ℕ → ℕ

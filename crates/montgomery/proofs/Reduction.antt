@@ -11,9 +11,9 @@ use Rattle.montgomery.specs.Montgomery.{lowProduct, folded, Inverse, Mod
 multiple : (B a q m : ℕ) → Congruent B (q * m + 1) 0 → Congruent B (a + (a % B * q) % B * m) 0
 multiple B a q m h =
     let k : Congruent B ((a % B * q) % B * m) (a * q * m) =
-          mul-congruent (transitive (remainder B (a % B * q)) (mul-congruent (remainder B a) (reflexive q))) (reflexive m) in
+    mul-congruent (transitive (remainder B (a % B * q)) (mul-congruent (remainder B a) (reflexive q))) (reflexive m) in
     let e : a + a * q * m ≡ a * (q * m + 1) =
-          sym (mul-add a (q * m) 1 ∙ (λ i. sym (mul-assoc a q m) i + mul-one a i) ∙ add-comm (a * q * m) a) in
+    sym (mul-add a (q * m) 1 ∙ (λ i. sym (mul-assoc a q m) i + mul-one a i) ∙ add-comm (a * q * m) a) in
     let z : Congruent B (a * (q * m + 1)) (a * 0) = mul-congruent (reflexive a) h in
     transitive (add-congruent (reflexive a) k) (rw (e, ← mul-zero a) z)
 
@@ -27,7 +27,7 @@ divided a q m h =
     let b : k * m ≤ 4294967295 * m = mul-le-mul-right m (le-pred-of-lt (mod-lt (a % 4294967296 * q) {m = 4294967296} (zero-lt-suc _))) in
     record {
       same = rw (e, mul-comm k m) (add-multiple m a k);
-      bound = omega arith
+      bound = omega arith;
     }
 
 multiple-bound : (k m : ℕ) → k % 4294967296 * m ≤ 4294967295 * m
@@ -46,7 +46,7 @@ reduction a m q s e ha es ee =
       right = λ i h.
           let k : ℕ = a % 4294967296 * q in
           let p : lowProduct (lowProduct a q) m ≡ k % 4294967296 * m =
-                λ j. (a % 4294967296 * mod-eq-of-lt (i .small-q) j) % 4294967296 * mod-eq-of-lt (i .small-m) j in
+          λ j. (a % 4294967296 * mod-eq-of-lt (i .small-q) j) % 4294967296 * mod-eq-of-lt (i .small-m) j in
           let b : k % 4294967296 * m ≤ 4294967295 * m = multiple-bound k m in
           let whole : s ≡ a + k % 4294967296 * m = es ∙ ap (λ (x : ℕ). (a + x) % 18446744073709551616) p ∙ mod-eq-of-lt (omega arith) in
           subst (Divided m a) (ap (λ (x : ℕ). x / 4294967296) (sym whole) ∙ sym ee) (divided a q m (i .clears));

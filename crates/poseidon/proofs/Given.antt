@@ -64,27 +64,27 @@ pub permuted-given : (G : Parameters) (state : List ℕ) {m q r power n word fir
     → out ≡ permutation G state
 permuted-given G state {m} {q} {r} {power} {n} {word} {firstEntry} {T} {s} {b} {x} {d} {f} {g} {out} h es hb' hx hd hf hg eo =
     let hb : Rounds m q r power (T .matrix) (T .addends) (T .copies) 0 3 (remainders m state) b =
-          subst (λ (y : List ℕ). Rounds m q r power (T .matrix) (T .addends) (T .copies) 0 3 y b) es hb' in
+    subst (λ (y : List ℕ). Rounds m q r power (T .matrix) (T .addends) (T .copies) 0 3 y b) es hb' in
     let setting : Setting m q r power (T .matrix) (T .addends) (T .copies) =
-          record { modulus = h .modulus; power-right = h .power-right; numbers = h .numbers; table-below = h .matrix-below; addends-below = h .addends-below } in
+    record { modulus = h .modulus; power-right = h .power-right; numbers = h .numbers; table-below = h .matrix-below; addends-below = h .addends-below } in
     let setting' : Setting m q r power (T .«pre_sparse») (T .addends) (T .copies) =
-          record { modulus = h .modulus; power-right = h .power-right; numbers = h .numbers; table-below = h .pre-sparse-below; addends-below = h .addends-below } in
+    record { modulus = h .modulus; power-right = h .power-right; numbers = h .numbers; table-below = h .pre-sparse-below; addends-below = h .addends-below } in
     let start : Near m (remainders m state) =
-          record {
-            long = remainders-long m state;
-            each = λ k l. let e : getD (remainders m state) k 0 < m = subst (λ (y : ℕ). y < m) (sym (remainder-at m state k l)) (mod-lt (getD state k 0) (h .pos)) in omega arith
-          } in
+    record {
+      long = remainders-long m state;
+      each = λ k l. let e : getD (remainders m state) k 0 < m = subst (λ (y : ℕ). y < m) (sym (remainder-at m state k l)) (mod-lt (getD state k 0) (h .pos)) in omega arith;
+    } in
     let fb = hb .right setting (lit≤ tt) (lit≤ tt) start in
     let rx = hx .right setting' (lit< tt) (lit< tt) (fb .near) in
     let pd = hd .right
-          (record {
-            modulus = h .modulus;
-            power-right = h .power-right;
-            rounds = h .rounds;
-            entry-below = h .entry-below;
-            sparse-below = h .sparse-below;
-            near = record { long = rx .long; each = λ k l. rx .each k l .near };
-          }) in
+    (record {
+      modulus = h .modulus;
+      power-right = h .power-right;
+      rounds = h .rounds;
+      entry-below = h .entry-below;
+      sparse-below = h .sparse-below;
+      near = record { long = rx .long; each = λ k l. rx .each k l .near };
+    }) in
     let fg = hg .right setting (lit≤ tt) (lit≤ tt) (record { long = hf .long; each = λ k l. hf .each k l .right (h .modulus) .near }) in
     eo ∙ permuted-by G state (h .pos) (h .modulus) (h .word-below) fb rx pd hf fg (h .unit) (h .factor) (h .tables)
 
@@ -99,7 +99,7 @@ copies : (m q r : ℕ) (p : List ℕ) → length p ≡ 216 → passes (is-copy m
 unfolding is-copy nine
 copies m q r p long e =
     let value : (k j : ℕ) → k < 216 → k / 24 ≡ j → getD p k 0 ≡ getD (nine m q r) j 0 =
-          λ k j h z. eqb-true _ _ (every-entry (is-copy m q r) p e k (omega arith)) ∙ ap (λ (i : ℕ). getD (nine m q r) i 0) z in
+    λ k j h z. eqb-true _ _ (every-entry (is-copy m q r) p e k (omega arith)) ∙ ap (λ (i : ℕ). getD (nine m q r) i 0) z in
     record {
       at-m = λ k h. value k 0 (omega arith) (omega arith);
       at-q = λ k h. value (24 + k) 1 (omega arith) (omega arith);

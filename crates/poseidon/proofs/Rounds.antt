@@ -51,7 +51,7 @@ module _ (F : Parameters) where
       transitive (multiplied-at (raiseAll F (addConstants F r z)) i h)
       (sum-congruent 24 (λ j. matrix F i j * getD (raiseAll F (addConstants F r z)) j 0) (λ j. matrix F i j * (getD z j 0 + constant F r j) ^ F .power)
       (λ j l.
-        mul-congruent (reflexive (matrix F i j)) (transitive (raised-at (addConstants F r z) j l) (pow-congruent (F .power) (added-at r z j l)))))
+      mul-congruent (reflexive (matrix F i j)) (transitive (raised-at (addConstants F r z) j l) (pow-congruent (F .power) (added-at r z j l)))))
 
   raise-partial : (s : ℕ) (w : List ℕ) → s < F .partialRounds → raise F (4 + s) w ≡ raiseFirst F w
   unfolding raise if_then_else_
@@ -67,7 +67,7 @@ module _ (F : Parameters) where
 
   partial-at : (s : ℕ) (z : List ℕ) (i : ℕ) → s < F .partialRounds → i < 24
       → Is (getD (round F (4 + s) z) i 0)
-        (matrix F i 0 * (getD z 0 0 + constant F (4 + s) 0) ^ F .power + sum 23 (λ j. matrix F i (suc j) * (getD z (suc j) 0 + constant F (4 + s) (suc j))))
+      (matrix F i 0 * (getD z 0 0 + constant F (4 + s) 0) ^ F .power + sum 23 (λ j. matrix F i (suc j) * (getD z (suc j) 0 + constant F (4 + s) (suc j))))
   unfolding raiseFirst
   partial-at s z i hs h =
       let r : ℕ = 4 + s in
@@ -76,16 +76,16 @@ module _ (F : Parameters) where
       let e : round F r z ≡ multiply F (set a 0 v) = ap (multiply F) (raise-partial s a hs) in
       let l : 0 < length a = omega (arith, added-long r z) in
       let first : Is (matrix F i 0 * getD (set a 0 v) 0 0) (matrix F i 0 * (getD z 0 0 + constant F r 0) ^ F .power) =
-            mul-congruent (reflexive (matrix F i 0))
-            (rw (getD-set-same a 0 v 0 l) (transitive (remainder (F .modulus) (getD a 0 0 ^ F .power)) (pow-congruent (F .power) (added-at r z 0 (suc-le-suc zero-le))))) in
+      mul-congruent (reflexive (matrix F i 0))
+      (rw (getD-set-same a 0 v 0 l) (transitive (remainder (F .modulus) (getD a 0 0 ^ F .power)) (pow-congruent (F .power) (added-at r z 0 (suc-le-suc zero-le))))) in
       let rest : (j : ℕ) → j < 23 → Is (matrix F i (suc j) * getD (set a 0 v) (suc j) 0) (matrix F i (suc j) * (getD z (suc j) 0 + constant F r (suc j))) =
-            λ j hj. mul-congruent (reflexive (matrix F i (suc j)))
-            (subst (λ (x : ℕ). Is x (getD z (suc j) 0 + constant F r (suc j))) (sym (other a v j)) (added-at r z (suc j) (suc-le-suc hj))) in
+      λ j hj. mul-congruent (reflexive (matrix F i (suc j)))
+      (subst (λ (x : ℕ). Is x (getD z (suc j) 0 + constant F r (suc j))) (sym (other a v j)) (added-at r z (suc j) (suc-le-suc hj))) in
       subst (λ (l : List ℕ). Is (getD l i 0) (matrix F i 0 * (getD z 0 0 + constant F r 0) ^ F .power + sum 23 (λ j. matrix F i (suc j) * (getD z (suc j) 0 + constant F r (suc j))))) (sym e)
       (transitive (multiplied-at (set a 0 v) i h)
       (subst (λ (x : ℕ). Is x (matrix F i 0 * (getD z 0 0 + constant F r 0) ^ F .power + sum 23 (λ j. matrix F i (suc j) * (getD z (suc j) 0 + constant F r (suc j)))))
-        (sym (sum-first 23 (λ j. matrix F i j * getD (set a 0 v) j 0)))
-        (add-congruent first (sum-congruent 23 (λ j. matrix F i (suc j) * getD (set a 0 v) (suc j) 0) (λ j. matrix F i (suc j) * (getD z (suc j) 0 + constant F r (suc j))) rest))))
+      (sym (sum-first 23 (λ j. matrix F i j * getD (set a 0 v) j 0)))
+      (add-congruent first (sum-congruent 23 (λ j. matrix F i (suc j) * getD (set a 0 v) (suc j) 0) (λ j. matrix F i (suc j) * (getD z (suc j) 0 + constant F r (suc j))) rest))))
     where
       other : (a : List ℕ) (v j : ℕ) → getD (set a 0 v) (suc j) 0 ≡ getD a (suc j) 0
       other [] v j = refl

@@ -91,9 +91,9 @@ module _ (G : Parameters) (state : List ℕ) {m q r power n word firstEntry : �
       let h : ℕ → ℕ = λ j. preSparse F 4294967296 i j * (getD b j 0 + getD addends (24 * 3 + j) 0) ^ power in
       transitive (hx .each i l .same u c (preSparse F 4294967296) (addendBefore F) (T .full .unit) (T .full .factor) (T .pre-sparse) (T .before))
       (add-congruent
-        (sum-congruent 24 h (λ j. preSparse F 4294967296 i j * pw j)
-          (λ j r. mul-congruent (reflexive (preSparse F 4294967296 i j)) (powers-alike 3 3 (T .full) b-right (λ a q. T .early .right 3 a (omega arith) q) j r)))
-        (reflexive (addendBefore F i)))
+      (sum-congruent 24 h (λ j. preSparse F 4294967296 i j * pw j)
+      (λ j r. mul-congruent (reflexive (preSparse F 4294967296 i j)) (powers-alike 3 3 (T .full) b-right (λ a q. T .early .right 3 a (omega arith) q) j r)))
+      (reflexive (addendBefore F i)))
 
   started : (v : List ℕ) → ((i : ℕ) → i < 23 → Congruent (F .modulus) (getD v (suc i) 0 * 4294967296) (getD x (suc i) 0)) → Represents F 4294967296 0 n (getD x 0 0) v z4
   unfolding preSparse addendBefore
@@ -102,9 +102,9 @@ module _ (G : Parameters) (state : List ℕ) {m q r power n word firstEntry : �
       (λ i l. full-round G 3 z3 .at i l)
       (into (x-right 0 (suc-le-suc zero-le)))
       (λ i l.
-        subst (λ (k : ℕ). Congruent (F .modulus) (getD x (suc i) 0) (sum 24 (λ j. 4294967296 * times (lower F 4294967296) k (λ a. any.matrix F (suc a) j) i * pw j))) (T .rounds)
-        (subst (Congruent (F .modulus) (getD x (suc i) 0)) (add-zero (sum 24 (λ j. 4294967296 * times (lower F 4294967296) (F .partialRounds) (λ a. any.matrix F (suc a) j) i * pw j)))
-          (into (x-right (suc i) (suc-le-suc l)))))
+      subst (λ (k : ℕ). Congruent (F .modulus) (getD x (suc i) 0) (sum 24 (λ j. 4294967296 * times (lower F 4294967296) k (λ a. any.matrix F (suc a) j) i * pw j))) (T .rounds)
+      (subst (Congruent (F .modulus) (getD x (suc i) 0)) (add-zero (sum 24 (λ j. 4294967296 * times (lower F 4294967296) (F .partialRounds) (λ a. any.matrix F (suc a) j) i * pw j)))
+      (into (x-right (suc i) (suc-le-suc l)))))
       hv
 
   from-none : (z : List ℕ) → roundsFrom G 4 0 z ≡ z
@@ -134,9 +134,9 @@ module _ (G : Parameters) (state : List ℕ) {m q r power n word firstEntry : �
             let hd' = hd .below .each i l in
             let w : lowProduct (getD d i 0) word ≡ getD d i 0 * word = low-product (omega arith) wordBelow in
             let a : Congruent m (getD f i 0 * 4294967296) ((getD d i 0 + addendAfter F i) * 4294967296) =
-                  subst (Congruent m (getD f i 0 * 4294967296)) (sym (add-mul (getD d i 0) (addendAfter F i) 4294967296))
-                  (transitive (subst (λ (y : ℕ). Congruent m (getD f i 0 * 4294967296) (y + getD addends (120 + i) 0)) w (hf .each i l .right modulus .same))
-                    (add-congruent (mul-congruent (reflexive (getD d i 0)) (T .word-right)) (T .after i l))) in
+            subst (Congruent m (getD f i 0 * 4294967296)) (sym (add-mul (getD d i 0) (addendAfter F i) 4294967296))
+            (transitive (subst (λ (y : ℕ). Congruent m (getD f i 0 * 4294967296) (y + getD addends (120 + i) 0)) w (hf .each i l .right modulus .same))
+            (add-congruent (mul-congruent (reflexive (getD d i 0)) (T .word-right)) (T .after i l))) in
             transitive (cancel m 4294967296 u (getD f i 0) (getD d i 0 + addendAfter F i) (T .full .unit) a) (after-right i l);
       }
 
@@ -151,9 +151,9 @@ module _ (G : Parameters) (state : List ℕ) {m q r power n word firstEntry : �
   permuted-by =
       let z : List ℕ = fullRounds G (4 + n) 4 zn in
       ext-getD 0 (remainders m g) z (remainders-long m g ∙ sym (full-long G (4 + n) 3 zn))
-        (λ i h.
-          let l : i < 24 = subst (λ (k : ℕ). i < k) (remainders-long m g) h in
-          equal-below (subst (λ (y : ℕ). y < m) (sym (remainder-at m g i l)) (mod-lt (getD g i 0) pos))
-          (subst (λ (k : ℕ). getD z i 0 < k) (T .full .modulus) (full-below G (4 + n) 3 zn i (subst (λ (k : ℕ). 0 < k) (sym (T .full .modulus)) pos) l))
-          (transitive (remainder-congruent m g i l) (g-right .at i l)))
+      (λ i h.
+      let l : i < 24 = subst (λ (k : ℕ). i < k) (remainders-long m g) h in
+      equal-below (subst (λ (y : ℕ). y < m) (sym (remainder-at m g i l)) (mod-lt (getD g i 0) pos))
+      (subst (λ (k : ℕ). getD z i 0 < k) (T .full .modulus) (full-below G (4 + n) 3 zn i (subst (λ (k : ℕ). 0 < k) (sym (T .full .modulus)) pos) l))
+      (transitive (remainder-congruent m g i l) (g-right .at i l)))
       ∙ sym whole

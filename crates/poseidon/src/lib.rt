@@ -173,8 +173,29 @@ pub fn permutation_by<'a>(
     let word = word(field);
     let reduced = reduce_all(&state, m);
     let early = poseidon_full::full_rounds(reduced, matrix, addends, copies, 0, 3, power, m, q, r);
-    let before = poseidon_full::full_round(&early, pre_sparse, addends, copies, 3, 4, power, m, q, r);
-    let after = poseidon_partial::partial_rounds(&before, sparse, first_constants, first, n, power, m, q, r);
+    let before = poseidon_full::full_round(
+        &early,
+        pre_sparse,
+        addends,
+        copies,
+        3,
+        4,
+        power,
+        m,
+        q,
+        r,
+    );
+    let after = poseidon_partial::partial_rounds(
+        &before,
+        sparse,
+        first_constants,
+        first,
+        n,
+        power,
+        m,
+        q,
+        r,
+    );
     let again = rescale(&after, word, addends, m, q, r);
     let late = poseidon_full::full_rounds(again, matrix, addends, copies, 6, 10, power, m, q, r);
     reduce_all(&late, m)

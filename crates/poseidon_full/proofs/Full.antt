@@ -40,7 +40,7 @@ raising-step {power} {x} {p} {out} {i} y f h r =
     let b : List ℕ = set a (i + 24) y in
     let la : length a ≡ 48 = length-set out i y ∙ f .long in
     let other : (k : ℕ) → (k ≡ i → ⊥) → (k ≡ i + 24 → ⊥) → getD b k 0 ≡ getD out k 0 =
-          λ k n₁ n₂. getD-set-other a (i + 24) k y 0 n₂ ∙ getD-set-other out i k y 0 n₁ in
+    λ k n₁ n₂. getD-set-other a (i + 24) k y 0 n₂ ∙ getD-set-other out i k y 0 n₁ in
     let here : getD b i 0 ≡ y = getD-set-other a (i + 24) i y 0 (λ e. omega arith) ∙ getD-set-same out i y 0 (omega (arith, f .long)) in
     let there : getD b (24 + i) 0 ≡ y = rw (add-comm 24 i) (getD-set-same a (i + 24) y 0 (omega (arith, la))) in
     record {
@@ -75,7 +75,7 @@ copies-at {m} {q} {r} {p} i h n =
       third-m = c .third-m ∙ sym (n .at-m i h);
       third-q = c .third-q ∙ sym (n .at-q i h);
       fourth-m = c .fourth-m ∙ sym (n .at-m i h);
-      fourth-q = c .fourth-q ∙ sym (n .at-q i h)
+      fourth-q = c .fourth-q ∙ sym (n .at-q i h);
     }
 
 -- the powers of numbers of 32 bits, in a setting
@@ -92,13 +92,13 @@ module _ {m q r power : ℕ} {t addends p : List ℕ} (s : Setting m q r power t
       let small = s .modulus .small in
       let low : (k : ℕ) → k < 24 → getD y k 0 < 2131755009 = λ k h. omega (arith, power-at f hx k h .near) in
       let high : (k : ℕ) → 24 ≤ k → k < 48 → getD y k 0 < 2131755009 =
-            λ k a b. subst (λ (z : ℕ). getD y z 0 < 2131755009) (let z : 24 + (k - 24) ≡ k = omega arith in z)
-              (subst (λ (z : ℕ). z < 2131755009) (sym (f .again (k - 24) (omega arith))) (low (k - 24) (omega arith))) in
+      λ k a b. subst (λ (z : ℕ). getD y z 0 < 2131755009) (let z : 24 + (k - 24) ≡ k = omega arith in z)
+      (subst (λ (z : ℕ). z < 2131755009) (sym (f .again (k - 24) (omega arith))) (low (k - 24) (omega arith))) in
       let past : (k : ℕ) → 48 ≤ k → getD y k 0 < 2131755009 =
-            λ k a. subst (λ (z : ℕ). z < 2131755009) (sym (List·getD-eq-default y 0 {n = k} (omega (arith, f .long)))) (zero-lt-suc _) in
+      λ k a. subst (λ (z : ℕ). z < 2131755009) (sym (List·getD-eq-default y 0 {n = k} (omega (arith, f .long)))) (zero-lt-suc _) in
       at-below 2131755009 y
       (λ k. either 24 k (λ e. high k (omega arith) (omega arith)) (λ l. low k l)
-        (λ l. either 48 k (λ e. past k (omega arith)) (λ b. high k (omega arith) b) (λ b. past k (omega arith))))
+      (λ l. either 48 k (λ e. past k (omega arith)) (λ b. high k (omega arith) b) (λ b. past k (omega arith))))
 
 sum-scale : (n c : ℕ) (f : ℕ → ℕ) → sum n (λ j. f j * c) ≡ sum n f * c
 unfolding sum
@@ -109,8 +109,8 @@ sum-scale (suc n) c f = ap (λ (x : ℕ). x + f n * c) (sum-scale n c f) ∙ sym
 term : (m B K c a P y : ℕ) → Congruent m c (B * K) → Congruent m (y * K) P → Congruent m (c * a * y) (a * P * B)
 term m B K c a P y hc hy =
     let e : B * K * a * y ≡ a * (y * K) * B =
-          mul-assoc (B * K) a y ∙ mul-assoc B K (a * y) ∙ mul-comm B (K * (a * y))
-          ∙ ap (λ (z : ℕ). z * B) (mul-left-comm K a y ∙ ap (λ (z : ℕ). a * z) (mul-comm K y)) in
+    mul-assoc (B * K) a y ∙ mul-assoc B K (a * y) ∙ mul-comm B (K * (a * y))
+    ∙ ap (λ (z : ℕ). z * B) (mul-left-comm K a y ∙ ap (λ (z : ℕ). a * z) (mul-comm K y)) in
     transitive (mul-congruent (mul-congruent hc (reflexive a)) (reflexive y))
     (subst (λ (z : ℕ). Congruent m z (a * P * B)) (sym e) (mul-congruent (mul-congruent (reflexive a) hy) (reflexive B)))
 
@@ -123,13 +123,13 @@ element : (m power u c : ℕ) (A : ℕ → ℕ → ℕ) (t w y : List ℕ) (star
 element m power u c A t w y start begin k e hu hc d hp again he hs h =
     let rows : Congruent m (rowSum t y k) (sum 24 (λ j. c * A k j * getD y j 0)) = row-is-matrix m c A t y k h d (record { again = again }) in
     let terms : Congruent m (sum 24 (λ j. c * A k j * getD y j 0)) (sum 24 (λ j. A k j * getD w j 0 ^ power * 4294967296)) =
-          sum-congruent 24 (λ j. c * A k j * getD y j 0) (λ j. A k j * getD w j 0 ^ power * 4294967296)
-          (λ j l. term m 4294967296 (scale power) c (A k j) (getD w j 0 ^ power) (getD y j 0) hc (hp j l .same)) in
+    sum-congruent 24 (λ j. c * A k j * getD y j 0) (λ j. A k j * getD w j 0 ^ power * 4294967296)
+    (λ j l. term m 4294967296 (scale power) c (A k j) (getD w j 0 ^ power) (getD y j 0) hc (hp j l .same)) in
     let scaled : Congruent m (rowSum t y k) (sum 24 (λ j. A k j * getD w j 0 ^ power) * 4294967296) =
-          subst (Congruent m (rowSum t y k)) (sum-scale 24 4294967296 (λ j. A k j * getD w j 0 ^ power)) (transitive rows terms) in
+    subst (Congruent m (rowSum t y k)) (sum-scale 24 4294967296 (λ j. A k j * getD w j 0 ^ power)) (transitive rows terms) in
     let whole : Congruent m (e * 4294967296) ((sum 24 (λ j. A k j * getD w j 0 ^ power) + begin) * 4294967296) =
-          subst (Congruent m (e * 4294967296)) (sym (add-mul (sum 24 (λ j. A k j * getD w j 0 ^ power)) begin 4294967296))
-          (transitive (he .same) (add-congruent scaled hs)) in
+    subst (Congruent m (e * 4294967296)) (sym (add-mul (sum 24 (λ j. A k j * getD w j 0 ^ power)) begin 4294967296))
+    (transitive (he .same) (add-congruent scaled hs)) in
     cancel m 4294967296 u e (sum 24 (λ j. A k j * getD w j 0 ^ power) + begin) hu whole
 
 -- a round of the code, from its three parts
@@ -144,12 +144,12 @@ round-of {m} {q} {r} {power} {t} {addends} {p} {constantsRow} {addendsRow} {x} {
           let ea : addendsRow % 11 ≡ addendsRow = mod-eq-of-lt ha in
           let below : (k : ℕ) → getD addends k 0 < 2130706433 = below-at 2130706433 (zero-lt-suc _) addends (s .addends-below) in
           let sum-is : (j : ℕ) → j < 24 → getD w j 0 ≡ getD x j 0 + getD addends (24 * constantsRow + j) 0 =
-                λ j l. subst (λ (n : ℕ). getD w j 0 ≡ getD x j 0 + getD addends (24 * n + j) 0) ec
-                  (hw .each j l (omega (arith, near .each j l, below (24 * (constantsRow % 11) + j)))) in
+          λ j l. subst (λ (n : ℕ). getD w j 0 ≡ getD x j 0 + getD addends (24 * n + j) 0) ec
+          (hw .each j l (omega (arith, near .each j l, below (24 * (constantsRow % 11) + j)))) in
           let wide : (j : ℕ) → j < 24 → getD w j 0 < 4294967296 = λ j l. omega (arith, sum-is j l, near .each j l, below (24 * constantsRow + j)) in
           let e : (k : ℕ) → k < 24 → Element m (rowSum t y k + getD addends (24 * addendsRow + k) 0) (getD out k 0) =
-                λ k l. subst (λ (n : ℕ). Element m (rowSum t y k + getD addends (24 * n + k) 0) (getD out k 0)) ea
-                  (ho .each k l .right (s .modulus) (s .table-below) (powers-below s hy wide)) in
+          λ k l. subst (λ (n : ℕ). Element m (rowSum t y k + getD addends (24 * n + k) 0) (getD out k 0)) ea
+          (ho .each k l .right (s .modulus) (s .table-below) (powers-below s hy wide)) in
           record {
             long = ho .long;
             each = λ k l.
@@ -158,7 +158,7 @@ round-of {m} {q} {r} {power} {t} {addends} {p} {constantsRow} {addendsRow} {x} {
                   same = λ u c A begin hu hc d hs.
                       subst (λ (n : ℕ). Congruent m (getD out k 0) (n + begin k))
                       (sum-same 24 (λ j. A k j * getD w j 0 ^ power) (λ j. A k j * (getD x j 0 + getD addends (24 * constantsRow + j) 0) ^ power)
-                        (λ j h. ap (λ (n : ℕ). A k j * n ^ power) (sum-is j h)))
+                      (λ j h. ap (λ (n : ℕ). A k j * n ^ power) (sum-is j h)))
                       (element m power u c A t w y (getD addends (24 * addendsRow + k) 0) (begin k) k (getD out k 0) hu hc d (power-at s hy wide) (hy .again) (e k l) (hs k l) l);
                 };
           };
@@ -182,9 +182,9 @@ plain-round {F} {m} {power} {u} {c} {t} {addends} {x} {z} {z'} {out} row r T a h
           let f : ℕ → ℕ = λ j. matrix F i j * (getD x j 0 + getD addends (24 * row + j) 0) ^ power in
           let g : ℕ → ℕ = λ j. matrix F i j * (getD z j 0 + constant F r j) ^ F .power in
           let one : Congruent m (getD out i 0) (sum 24 f) =
-                subst (Congruent m (getD out i 0)) (add-zero (sum 24 f))
-                (ho .each i l .same u c (matrix F) (λ k. 0) (T .unit) (T .factor) (T .diagonals)
-                  (λ k h. subst (Congruent m (getD addends (240 + k) 0)) (sym (zero-mul 4294967296)) (T .zeros k h))) in
+          subst (Congruent m (getD out i 0)) (add-zero (sum 24 f))
+          (ho .each i l .same u c (matrix F) (λ k. 0) (T .unit) (T .factor) (T .diagonals)
+          (λ k h. subst (Congruent m (getD addends (240 + k) 0)) (sym (zero-mul 4294967296)) (T .zeros k h))) in
           let two : Congruent m (sum 24 f) (sum 24 g) = sum-congruent 24 f g (λ j h. mul-congruent (reflexive (matrix F i j)) (powers-alike row r T a hc j h)) in
           let three : Congruent m (getD z' i 0) (sum 24 g) = subst (λ (n : ℕ). Congruent n (getD z' i 0) (sum 24 g)) (T .modulus) (hz .at i l) in
           transitive one (transitive two (opposite three));

@@ -108,7 +108,7 @@ module _ (t x : List ℕ) (i : ℕ) where
             let small = k .small in
             let g = d .right (k .inverse) (omega arith) in
             let one : Congruent m (low + high * r + c) (low + high * 281474976710656 + c) =
-                  add-congruent (add-congruent (reflexive low) (mul-congruent (reflexive high) (k .power))) (reflexive c) in
+            add-congruent (add-congruent (reflexive low) (mul-congruent (reflexive high) (k .power))) (reflexive c) in
             let s = es ht hx in
             let same : low + high * 281474976710656 + c ≡ rowSum t x i + c = omega arith in
             let whole : a ≡ low + high * r + c = ea ∙ ap (λ (y : ℕ). low + y + c) w in

@@ -34,15 +34,15 @@ around f (suc i) =
     let g : ℕ → ℕ = λ d. f ((i + d) % 24) in
     let ends : g 24 ≡ g 0 = ap f (add-mod-right i 24 ∙ ap (λ (k : ℕ). k % 24) (omega arith)) in
     let next : sum 24 (λ d. f ((suc i + d) % 24)) ≡ sum 24 (λ d. g (suc d)) =
-          sum-same 24 (λ d. f ((suc i + d) % 24)) (λ d. g (suc d)) (λ d h. ap (λ (k : ℕ). f (k % 24)) (omega arith)) in
+    sum-same 24 (λ d. f ((suc i + d) % 24)) (λ d. g (suc d)) (λ d h. ap (λ (k : ℕ). f (k % 24)) (omega arith)) in
     next ∙ (omega (arith, shift g 24, ends)) ∙ around f i
 
 -- the place that a place past the first 24 stands for
 round-place : {x : List ℕ} (j : ℕ) → j < 48 → Twice x → getD x j 0 ≡ getD x (j % 24) 0
 round-place {x} j h w =
     let past : 24 ≤ j → getD x j 0 ≡ getD x (j % 24) 0 =
-          λ l.
-            ap (λ (k : ℕ). getD x k 0) (omega arith) ∙ w .again (j - 24) (omega arith) ∙ ap (λ (k : ℕ). getD x k 0) (omega arith) in
+    λ l.
+    ap (λ (k : ℕ). getD x k 0) (omega arith) ∙ w .again (j - 24) (omega arith) ∙ ap (λ (k : ℕ). getD x k 0) (omega arith) in
     either 24 j (λ e. past (omega arith)) (λ l. ap (λ (k : ℕ). getD x k 0) (sym (mod-eq-of-lt l))) (λ l. past (omega arith))
 
 -- row i of the matrix times the state, with the factor
@@ -52,11 +52,11 @@ unfolding rowSum twoProducts
 row-is-matrix m c A t x i h a w =
     let f : ℕ → ℕ = λ j. c * A i j * getD x j 0 in
     let one : Congruent m (sum 12 (twoProducts t x i)) (sum 12 (λ d. f ((i + d) % 24) + f ((i + (d + 12)) % 24))) =
-          sum-congruent 12 (twoProducts t x i) (λ d. f ((i + d) % 24) + f ((i + (d + 12)) % 24))
-          (λ d l. subst (λ (k : ℕ). Congruent m (twoProducts t x i d) (f ((i + d) % 24) + f (k % 24))) (add-assoc i d 12)
-            (add-congruent
-              (subst (λ (y : ℕ). Congruent m (getD t (48 * d + 2 * i) 0 * getD x (i + d) 0) (c * A i ((i + d) % 24) * y)) (round-place (i + d) (omega arith) w)
-                (mul-congruent (a .near i d h l) (reflexive (getD x (i + d) 0))))
-              (subst (λ (y : ℕ). Congruent m (getD t (48 * d + 2 * i + 1) 0 * getD x (i + d + 12) 0) (c * A i ((i + d + 12) % 24) * y)) (round-place (i + d + 12) (omega arith) w)
-                (mul-congruent (a .far i d h l) (reflexive (getD x (i + d + 12) 0)))))) in
+    sum-congruent 12 (twoProducts t x i) (λ d. f ((i + d) % 24) + f ((i + (d + 12)) % 24))
+    (λ d l. subst (λ (k : ℕ). Congruent m (twoProducts t x i d) (f ((i + d) % 24) + f (k % 24))) (add-assoc i d 12)
+    (add-congruent
+    (subst (λ (y : ℕ). Congruent m (getD t (48 * d + 2 * i) 0 * getD x (i + d) 0) (c * A i ((i + d) % 24) * y)) (round-place (i + d) (omega arith) w)
+    (mul-congruent (a .near i d h l) (reflexive (getD x (i + d) 0))))
+    (subst (λ (y : ℕ). Congruent m (getD t (48 * d + 2 * i + 1) 0 * getD x (i + d + 12) 0) (c * A i ((i + d + 12) % 24) * y)) (round-place (i + d + 12) (omega arith) w)
+    (mul-congruent (a .far i d h l) (reflexive (getD x (i + d + 12) 0)))))) in
     subst (Congruent m (sum 12 (twoProducts t x i))) (halves (λ d. f ((i + d) % 24)) ∙ around f i) one

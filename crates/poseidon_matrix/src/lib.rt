@@ -50,7 +50,11 @@ fn row(table: &[u32; 576], x: &[u64; 48], i: usize, c: u32, m: u32, q: u32, r: u
         high += four / 281474976710656;
         d += 2;
     }
-    montgomery::reduce(low + montgomery::product(high, wide(r)) + wide(c), wide(m), wide(q))
+    montgomery::reduce(
+        low + montgomery::product(high, wide(r)) + wide(c),
+        wide(m),
+        wide(q),
+    )
 }
 
 // The matrix times the state, with 24 addends of a table from a row of 24 on, reduced.

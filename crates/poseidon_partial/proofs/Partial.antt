@@ -65,8 +65,8 @@ spreading-step {t} {at} {y} {m} {q} {v} {w} {low} {high} {i} e p f h d ep hp =
     let b : List ℕ = set w i e in
     let here : getD b i 0 ≡ e = getD-set-same w i e 0 (omega (arith, f .long)) in
     let same : sum i (rowTerm t at b) ≡ sum i (rowTerm t at w) =
-          sum-same i (rowTerm t at b) (rowTerm t at w)
-          (λ k l. ap (λ (x : ℕ). lowProduct (getD t (at + 2 * k + 1) 0) x) (getD-set-other w i k e 0 (λ z. omega arith))) in
+    sum-same i (rowTerm t at b) (rowTerm t at w)
+    (λ k l. ap (λ (x : ℕ). lowProduct (getD t (at + 2 * k + 1) 0) x) (getD-set-other w i k e 0 (λ z. omega arith))) in
     let new : rowTerm t at b i ≡ p = ap (λ (x : ℕ). lowProduct (getD t (at + 2 * i + 1) 0) x) here ∙ sym ep in
     record {
       within = omega arith;
@@ -78,7 +78,7 @@ spreading-step {t} {at} {y} {m} {q} {v} {w} {low} {high} {i} e p f h d ep hp =
       rest = λ k l. getD-set-other w i k e 0 (λ z. omega arith) ∙ f .rest k (omega arith);
       whole = omega (arith, sum-next (rowTerm t at b) i, same, new, f .whole);
       low-le = omega (arith, f .low-le);
-      high-le = omega (arith, f .high-le)
+      high-le = omega (arith, f .high-le);
     }
 
 pub spreading-end : {t : List ℕ} {at y m q : ℕ} {v w : List ℕ} {low high i : ℕ} → Spreading t at y m q v w low high i → 24 ≤ i → NextElements t at y m q v w low high
@@ -88,7 +88,7 @@ spreading-end {t} {at} {y} {m} {q} {v} {w} {low} {high} {i} f h =
       moved = record { long = f .long; each = λ k l. f .done k (omega arith) };
       whole = rw e at (f .whole);
       low-le = omega (arith, f .low-le);
-      high-le = omega (arith, f .high-le)
+      high-le = omega (arith, f .high-le);
     }
 
 -- element 0
@@ -123,11 +123,11 @@ next-first y firstEntry low high c m q r p f h s e hl hh hc hp ep ef eh es d =
           let gb = g .bound in
           let z = d .right (k .inverse) (omega arith) in
           let one : Congruent m (f + low + high * r + c) (p + low + high * 281474976710656 + c) =
-                add-congruent (add-congruent (add-congruent (g .same) (reflexive low)) (mul-congruent (reflexive high) (k .power))) (reflexive c) in
+          add-congruent (add-congruent (add-congruent (g .same) (reflexive low)) (mul-congruent (reflexive high) (k .power))) (reflexive c) in
           let es' : p + low + high * 281474976710656 + c ≡ p + (high * 281474976710656 + low) + c = omega arith in
           let two : Congruent m s (y * firstEntry + (high * 281474976710656 + low) + c) =
-                subst (λ (a : ℕ). Congruent m a (y * firstEntry + (high * 281474976710656 + low) + c)) (sym (es ∙ ap (λ (a : ℕ). f + low + a + c) x))
-                (subst (λ (a : ℕ). Congruent m (f + low + high * r + c) (a + (high * 281474976710656 + low) + c)) w (subst (Congruent m (f + low + high * r + c)) es' one)) in
+          subst (λ (a : ℕ). Congruent m a (y * firstEntry + (high * 281474976710656 + low) + c)) (sym (es ∙ ap (λ (a : ℕ). f + low + a + c) x))
+          (subst (λ (a : ℕ). Congruent m (f + low + high * r + c) (a + (high * 281474976710656 + low) + c)) w (subst (Congruent m (f + low + high * r + c)) es' one)) in
           record { same = transitive (z .same) two; near = omega (arith, z .bound) };
     }
 
@@ -155,7 +155,7 @@ pub record Partly (m power firstEntry n : ℕ) (sparse firstConstants start : Li
       → SparseTables F 4294967296 (scale power) firstEntry sparse firstConstants
       → ((s : ℕ) → s < n → PartialRound F (4 + s) (z s) (z (suc s)))
       → ((w : List ℕ) → ((i : ℕ) → i < 23 → Congruent (F .modulus) (getD w (suc i) 0 * 4294967296) (getD start (suc i) 0))
-        → Represents F 4294967296 0 n (getD start 0 0) w (z 0))
+      → Represents F 4294967296 0 n (getD start 0 0) w (z 0))
       → (j : ℕ) → k + j ≡ n → Represents F 4294967296 k j x v (z k)
 
 pub record Going (m q r power firstEntry n : ℕ) (sparse firstConstants start : List ℕ) (k x : ℕ) (v : List ℕ) (low high : ℕ) : Type 0 where
@@ -180,16 +180,16 @@ going-start {m} {q} {r} {power} {firstEntry} {n} {sparse} {firstConstants} {star
           let small = s .modulus .small in
           let sparse-at : (k : ℕ) → getD sparse k 0 < 2130706433 = below-at 2130706433 (zero-lt-suc _) sparse (s .sparse-below) in
           let element : (k : ℕ) → k < 24 → Divided m (getD sparse (0 + 2 * k) 0 * 0 + getD w k 0) (getD v k 0) × (getD v k 0 < 3188256770) =
-                λ k l. hs .moved .each k l .right (s .modulus .inverse) small (omega (arith, hw .each k l, s .near .each k l)) (sparse-at (0 + 2 * k)) (zero-lt-suc _) in
+          λ k l. hs .moved .each k l .right (s .modulus .inverse) small (omega (arith, hw .each k l, s .near .each k l)) (sparse-at (0 + 2 * k)) (zero-lt-suc _) in
           record {
             near = omega (arith, s .near .each 0 (suc-le-suc zero-le));
             below = λ i l. element i l .1;
             represents = λ F u z em ep en hu T hz p j ej.
                 let v-right : (i : ℕ) → i < 23 → Congruent (F .modulus) (getD v (suc i) 0 * 4294967296) (getD start (suc i) 0) =
-                      λ i l. subst (λ (a : ℕ). Congruent a (getD v (suc i) 0 * 4294967296) (getD start (suc i) 0)) (sym em)
-                        (subst (Congruent m (getD v (suc i) 0 * 4294967296))
-                          (ap (λ (a : ℕ). a + getD w (suc i) 0) (mul-zero (getD sparse (0 + 2 * suc i) 0)) ∙ zero-add (getD w (suc i) 0) ∙ hw .each (suc i) (suc-le-suc l))
-                          (element (suc i) (suc-le-suc l) .0 .same)) in
+                λ i l. subst (λ (a : ℕ). Congruent a (getD v (suc i) 0 * 4294967296) (getD start (suc i) 0)) (sym em)
+                (subst (Congruent m (getD v (suc i) 0 * 4294967296))
+                (ap (λ (a : ℕ). a + getD w (suc i) 0) (mul-zero (getD sparse (0 + 2 * suc i) 0)) ∙ zero-add (getD w (suc i) 0) ∙ hw .each (suc i) (suc-le-suc l))
+                (element (suc i) (suc-le-suc l) .0 .same)) in
                 let ejn : n ≡ j = omega arith in
                 subst (λ (a : ℕ). Represents F 4294967296 0 a x v (z 0)) ejn (subst (λ (a : ℕ). Represents F 4294967296 0 n a v (z 0)) (sym ex) (p v v-right));
           };
@@ -219,11 +219,11 @@ going-step {m} {q} {r} {power} {firstEntry} {n} {sparse} {firstConstants} {start
           let ek' : (k + 1) % 24 ≡ k + 1 = mod-eq-of-lt (omega arith) in
           let fe = hx .right (s .modulus) y-near (s .entry-below) in
           let element : (i : ℕ) → i < 24 → Divided m (getD sparse (48 * ((k + 1) % 24) + 2 * i) 0 * y + getD v i 0) (getD v' i 0) × (getD v' i 0 < 3188256770) =
-                λ i l. hs .moved .each i l .right (s .modulus .inverse) small (p .below i l) (sparse-at (48 * ((k + 1) % 24) + 2 * i)) y-near in
+          λ i l. hs .moved .each i l .right (s .modulus .inverse) small (p .below i l) (sparse-at (48 * ((k + 1) % 24) + 2 * i)) y-near in
           let row : high * 281474976710656 + low ≡ sum 24 (λ i. getD sparse (48 * k + 2 * i + 1) 0 * getD v i 0) =
-                g .sums ∙ sum-same 24 (λ i. lowProduct (getD sparse (48 * (k % 24) + 2 * i + 1) 0) (getD v i 0)) (λ i. getD sparse (48 * k + 2 * i + 1) 0 * getD v i 0)
-                  (λ i l. low-product (omega (arith, sparse-at (48 * (k % 24) + 2 * i + 1))) (omega (arith, p .below i l))
-                    ∙ ap (λ (a : ℕ). getD sparse (48 * a + 2 * i + 1) 0 * getD v i 0) ek) in
+          g .sums ∙ sum-same 24 (λ i. lowProduct (getD sparse (48 * (k % 24) + 2 * i + 1) 0) (getD v i 0)) (λ i. getD sparse (48 * k + 2 * i + 1) 0 * getD v i 0)
+          (λ i l. low-product (omega (arith, sparse-at (48 * (k % 24) + 2 * i + 1))) (omega (arith, p .below i l))
+          ∙ ap (λ (a : ℕ). getD sparse (48 * a + 2 * i + 1) 0 * getD v i 0) ek) in
           record {
             near = fe .near;
             below = λ i l. element i l .1;
@@ -231,14 +231,14 @@ going-step {m} {q} {r} {power} {firstEntry} {n} {sparse} {firstConstants} {start
                 let into : (a b : ℕ) → Congruent m a b → Congruent (F .modulus) a b = λ a b h. subst (λ (d : ℕ). Congruent d a b) (sym em) h in
                 rw (add-one k)
                 (represents-step F 4294967296 (scale power) u firstEntry sparse firstConstants hu T k j x x' y (high * 281474976710656 + low) v v'
-                  (z k) (z (suc k)) (hz k hk) (omega arith) (p .represents F u z em ep en hu T hz b (suc j) (omega arith))
-                  (subst (λ (d : ℕ). Congruent (F .modulus) (y * scale power) (x ^ d)) (sym ep) (into _ _ (po .same)))
-                  row
-                  (into _ _ (subst (λ (a : ℕ). Congruent m (x' * 4294967296) (y * firstEntry + (high * 281474976710656 + low) + getD firstConstants a 0)) ek (fe .same)))
-                  (λ i l. into _ _
-                    (subst (λ (a : ℕ). Congruent m (getD v' (suc i) 0 * 4294967296) (getD sparse a 0 * y + getD v (suc i) 0))
-                      (let e : 48 * ((k + 1) % 24) + 2 * suc i ≡ 48 * k + 48 + 2 * suc i = omega arith in e)
-                      (element (suc i) (suc-le-suc l) .0 .same))));
+                (z k) (z (suc k)) (hz k hk) (omega arith) (p .represents F u z em ep en hu T hz b (suc j) (omega arith))
+                (subst (λ (d : ℕ). Congruent (F .modulus) (y * scale power) (x ^ d)) (sym ep) (into _ _ (po .same)))
+                row
+                (into _ _ (subst (λ (a : ℕ). Congruent m (x' * 4294967296) (y * firstEntry + (high * 281474976710656 + low) + getD firstConstants a 0)) ek (fe .same)))
+                (λ i l. into _ _
+                (subst (λ (a : ℕ). Congruent m (getD v' (suc i) 0 * 4294967296) (getD sparse a 0 * y + getD v (suc i) 0))
+                (let e : 48 * ((k + 1) % 24) + 2 * suc i ≡ 48 * k + 48 + 2 * suc i = omega arith in e)
+                (element (suc i) (suc-le-suc l) .0 .same))));
           };
     }
 
@@ -253,7 +253,7 @@ going-end {m} {q} {r} {power} {firstEntry} {n} {sparse} {firstConstants} {start}
           let e : k ≡ n = omega arith in
           let p = g .right s in
           let same : (i : ℕ) → i < 23 → getD out (suc i) 0 ≡ getD v (suc i) 0 =
-                λ i l. rest .rest i l ∙ mod-eq-of-lt (omega (arith, p .below (suc i) (suc-le-suc l))) in
+          λ i l. rest .rest i l ∙ mod-eq-of-lt (omega (arith, p .below (suc i) (suc-le-suc l))) in
           record {
             below = record {
               long = rest .whole .long;
@@ -261,11 +261,11 @@ going-end {m} {q} {r} {power} {firstEntry} {n} {sparse} {firstConstants} {start}
                   (λ z. subst (λ (a : ℕ). getD out a 0 < 3188256770) (sym z) (omega (arith, rest .first, p .near)))
                   (λ z. absurd (not-suc-le-zero z))
                   (λ z. let b : suc (i - 1) ≡ i = omega arith in
-                    subst (λ (a : ℕ). getD out a 0 < 3188256770) b (omega (arith, same (i - 1) (omega arith), p .below (suc (i - 1)) (omega arith))));
+                  subst (λ (a : ℕ). getD out a 0 < 3188256770) b (omega (arith, same (i - 1) (omega arith), p .below (suc (i - 1)) (omega arith))));
             };
             run = λ F u z em ep en hu T hz q.
                 let t : Represents F 4294967296 n 0 x v (z n) =
-                      subst (λ (a : ℕ). Represents F 4294967296 a 0 x v (z a)) e (p .represents F u z em ep en hu T hz q 0 (omega arith)) in
+                subst (λ (a : ℕ). Represents F 4294967296 a 0 x v (z a)) e (p .represents F u z em ep en hu T hz q 0 (omega arith)) in
                 record {
                   first = subst (λ (a : ℕ). Congruent (F .modulus) a (getD (z n) 0 0 + carried F 0 n)) (sym (rest .first)) (t .first);
                   linear = t .linear;

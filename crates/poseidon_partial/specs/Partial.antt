@@ -57,7 +57,7 @@ pub record PartialRun (m power firstEntry n : ℕ) (sparse firstConstants start 
       → SparseTables F 4294967296 (scale power) firstEntry sparse firstConstants
       → ((s : ℕ) → s < n → PartialRound F (4 + s) (z s) (z (suc s)))
       → ((v : List ℕ) → ((i : ℕ) → i < 23 → Congruent (F .modulus) (getD v (suc i) 0 * 4294967296) (getD start (suc i) 0))
-        → Represents F 4294967296 0 n (getD start 0 0) v (z 0))
+      → Represents F 4294967296 0 n (getD start 0 0) v (z 0))
       → Represents F 4294967296 n 0 (getD out 0 0) out (z n)
 
 pub record PartialRounds (m q r power firstEntry n : ℕ) (sparse firstConstants start out : List ℕ) : Type 0 where

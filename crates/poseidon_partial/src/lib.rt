@@ -58,16 +58,7 @@ fn next_elements(
 }
 
 // Element 0 after a partial round: y times the matrix's first entry, the sum of the row with the others, and a constant.
-fn next_first(
-    y: u64,
-    first_entry: u32,
-    low: u64,
-    high: u64,
-    c: u32,
-    m: u32,
-    q: u32,
-    r: u32,
-) -> u32
+fn next_first(y: u64, first_entry: u32, low: u64, high: u64, c: u32, m: u32, q: u32, r: u32) -> u32
     requires { ⌜ (low ≤ 6755399441055744) × (high ≤ 1572864) ⌝ }
     ensures { λ e. ⌜ NextFirst y «first_entry» low high c m q r e ⌝ }
 {
@@ -122,7 +113,16 @@ pub fn partial_rounds(
     let mut k: usize = 0;
     while k < n {
         let y = montgomery::power(power, wide(x), wide(m), wide(q), wide(r));
-        x = next_first(y, first_entry, s.low, s.high, first_constants[k % 24], m, q, r);
+        x = next_first(
+            y,
+            first_entry,
+            s.low,
+            s.high,
+            first_constants[k % 24],
+            m,
+            q,
+            r,
+        );
         s = next_elements(&mut v, sparse, k + 1, y, m, q);
         k += 1;
     }

@@ -14,8 +14,8 @@ opposite e = record { same = sym (e .same) }
 pub cancel : (m B u a b : ℕ) → Congruent m (u * B) 1 → Congruent m (a * B) (b * B) → Congruent m a b
 cancel m B u a b h e =
     let one : (x : ℕ) → Congruent m (u * (x * B)) x =
-          λ x. subst (Congruent m (u * (x * B))) (mul-one x)
-            (subst (λ (y : ℕ). Congruent m y (x * 1)) (sym (mul-left-comm u x B)) (mul-congruent (reflexive x) h)) in
+    λ x. subst (Congruent m (u * (x * B))) (mul-one x)
+    (subst (λ (y : ℕ). Congruent m y (x * 1)) (sym (mul-left-comm u x B)) (mul-congruent (reflexive x) h)) in
     transitive (opposite (one a)) (transitive (mul-congruent (reflexive u) e) (one b))
 
 pub sum-congruent : {m : ℕ} (n : ℕ) (f g : ℕ → ℕ) → ((k : ℕ) → k < n → Congruent m (f k) (g k)) → Congruent m (sum n f) (sum n g)

@@ -38,9 +38,9 @@ unfolding dot
 dot-sum [] h = unfold sum in refl
 dot-sum (x ∷ v) h =
     ap (λ (y : ℕ). getD h 0 0 * x + y)
-      (dot-sum v (drop 1 h)
-      ∙ sum-same (length v) (λ j. getD (drop 1 h) j 0 * getD v j 0) (λ j. getD h (suc j) 0 * getD v j 0)
-        (λ j l. ap (λ (y : ℕ). y * getD v j 0) (getD-drop 1 h j 0 ∙ ap (λ (k : ℕ). getD h k 0) (one-add j))))
+    (dot-sum v (drop 1 h)
+    ∙ sum-same (length v) (λ j. getD (drop 1 h) j 0 * getD v j 0) (λ j. getD h (suc j) 0 * getD v j 0)
+    (λ j l. ap (λ (y : ℕ). y * getD v j 0) (getD-drop 1 h j 0 ∙ ap (λ (k : ℕ). getD h k 0) (one-add j))))
     ∙ sym (sum-first (length v) (λ j. getD h j 0 * getD (x ∷ v) j 0))
 
 pub dot-23 : (v h : List ℕ) → length v ≡ 23 → dot v h ≡ sum 23 (λ j. getD h j 0 * getD v j 0)
@@ -62,6 +62,6 @@ products-at m B (suc n) v h zero l e =
 products-at m B (suc n) v h (suc i) l e =
     subst (Congruent m (getD (products m B n v (drop 1 h)) i 0))
     (ap (λ (x : ℕ). B * x)
-      (sum-same 23 (λ j. getD (drop 1 h) (i + j) 0 * getD v j 0) (λ j. getD h (suc i + j) 0 * getD v j 0)
-        (λ j r. ap (λ (x : ℕ). x * getD v j 0) (getD-drop 1 h (i + j) 0 ∙ ap (λ (k : ℕ). getD h k 0) (omega arith)))))
+    (sum-same 23 (λ j. getD (drop 1 h) (i + j) 0 * getD v j 0) (λ j. getD h (suc i + j) 0 * getD v j 0)
+    (λ j r. ap (λ (x : ℕ). x * getD v j 0) (getD-drop 1 h (i + j) 0 ∙ ap (λ (k : ℕ). getD h k 0) (omega arith)))))
     (products-at m B n v (drop 1 h) i (le-of-suc-le-suc l) e)

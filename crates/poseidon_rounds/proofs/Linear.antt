@@ -83,8 +83,8 @@ module _ (L : ℕ → ℕ → ℕ) where
       ap (times L k) (fun-ext (λ i. add-comm (sum n (λ j. w j i * u j)) (w n i * u n) ∙ ap (λ (x : ℕ). x + sum n (λ j. w j i * u j)) (mul-comm (w n i) (u n))))
       ∙ times-linear k (u n) (w n) (λ i. sum n (λ j. w j i * u j))
       ∙ fun-ext (λ i.
-          ap₂ (λ (x y : ℕ). x + y) (mul-comm (u n) (times L k (w n) i)) (ap (λ (f : ℕ → ℕ). f i) (times-sum k n u w))
-          ∙ add-comm (times L k (w n) i * u n) (sum n (λ j. times L k (w j) i * u j)))
+      ap₂ (λ (x y : ℕ). x + y) (mul-comm (u n) (times L k (w n) i)) (ap (λ (f : ℕ → ℕ). f i) (times-sum k n u w))
+      ∙ add-comm (times L k (w n) i * u n) (sum n (λ j. times L k (w j) i * u j)))
 
   turn-same : {m : ℕ} (f g : ℕ → ℕ) → ((i : ℕ) → i < 23 → Congruent m (f i) (g i)) → (i : ℕ) → Congruent m (turn L f i) (turn L g i)
   unfolding turn
@@ -104,13 +104,13 @@ module _ (L : ℕ → ℕ → ℕ) where
       ∙ sum-swap 23 23 (λ i j. h i * L i j * v j)
       ∙ sum-same 23 (λ j. sum 23 (λ i. h i * L i j * v j)) (λ j. sum 23 (λ i. h i * L i j) * v j)
       (λ j l.
-        sum-same 23 (λ i. h i * L i j * v j) (λ i. v j * (h i * L i j)) (λ i r. mul-comm (h i * L i j) (v j))
-        ∙ sum-times 23 (v j) (λ i. h i * L i j)
-        ∙ mul-comm (v j) (sum 23 (λ i. h i * L i j)))
+      sum-same 23 (λ i. h i * L i j * v j) (λ i. v j * (h i * L i j)) (λ i r. mul-comm (h i * L i j) (v j))
+      ∙ sum-times 23 (v j) (λ i. h i * L i j)
+      ∙ mul-comm (v j) (sum 23 (λ i. h i * L i j)))
 
 -- the factor of a matrix
 pub turn-scaled : (b : ℕ) (N : ℕ → ℕ → ℕ) (v : ℕ → ℕ) → turn (scaled b N) v ≡ (λ i. b * turn N v i)
 unfolding turn
 turn-scaled b N v =
     fun-ext (λ i.
-      sum-same 23 (λ j. b * N i j * v j) (λ j. b * (N i j * v j)) (λ j h. mul-assoc b (N i j) (v j)) ∙ sum-times 23 b (λ j. N i j * v j))
+    sum-same 23 (λ j. b * N i j * v j) (λ j. b * (N i j * v j)) (λ j h. mul-assoc b (N i j) (v j)) ∙ sum-times 23 b (λ j. N i j * v j))

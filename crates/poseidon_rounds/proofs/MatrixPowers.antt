@@ -69,16 +69,16 @@ module _ (m : ℕ) (L : ℕ → ℕ → ℕ) where
       subst (λ (x : ℕ). Congruent m x (sum 23 (λ n. sum 23 (λ j. p j * q n j) * v n))) (sym (ap (λ (f : ℕ → ℕ). f i) (times-add L k l v)))
       (transitive (hp (times L l v))
       (subst (Congruent m (sum 23 (λ j. p j * times L l v j))) (row-turn (λ j n. q n j) p v)
-        (sum-congruent 23 (λ j. p j * times L l v j) (λ j. p j * sum 23 (λ n. q n j * v n)) (λ j r. mul-congruent (reflexive (p j)) (hq j r)))))
+      (sum-congruent 23 (λ j. p j * times L l v j) (λ j. p j * sum 23 (λ n. q n j * v n)) (λ j r. mul-congruent (reflexive (p j)) (hq j r)))))
 
   module _ (k l : ℕ) (a b : List (List ℕ)) (ha : MatrixPower m L k a) (hb : MatrixPower m L l b) where
     entry : (i j : ℕ) → i < 23 → j < 23 → Congruent m (at (matrixProduct m a b) i j) (sum 23 (λ n. at a i n * at b j n))
     entry i j hi hj =
         let e : at (matrixProduct m a b) i j ≡ dot (getD b j []) (getD a i []) % m =
-              ap (λ (r : List ℕ). getD r j 0) (product-row m a b i (omega (arith, ha .long))) ∙ products-at m (getD a i []) b j (omega (arith, hb .long)) in
+        ap (λ (r : List ℕ). getD r j 0) (product-row m a b i (omega (arith, ha .long))) ∙ products-at m (getD a i []) b j (omega (arith, hb .long)) in
         subst (λ (x : ℕ). Congruent m x (sum 23 (λ n. at a i n * at b j n))) (sym e)
         (subst (Congruent m (dot (getD b j []) (getD a i []) % m)) (dot-23 (getD b j []) (getD a i []) (hb .rows-long j hj))
-          (remainder m (dot (getD b j []) (getD a i []))))
+        (remainder m (dot (getD b j []) (getD a i []))))
 
     pub product-power : MatrixPower m L (k + l) (matrixProduct m a b)
     product-power =
@@ -88,15 +88,15 @@ module _ (m : ℕ) (L : ℕ → ℕ → ℕ) where
           by-rows = λ v i h.
               transitive (after-each-other k l v (λ n. at a i n) (at b) i h (λ w. ha .by-rows w i h) (hb .by-columns v))
               (sum-congruent 23 (λ n. sum 23 (λ j. at a i j * at b n j) * v n) (λ n. at (matrixProduct m a b) i n * v n)
-                (λ n r. mul-congruent (opposite (entry i n h r)) (reflexive (v n))));
+              (λ n r. mul-congruent (opposite (entry i n h r)) (reflexive (v n))));
           by-columns = λ v j h.
               subst (λ (n : ℕ). Congruent m (times L n v j) (sum 23 (λ i. at (matrixProduct m a b) i j * v i))) (add-comm l k)
               (transitive (after-each-other l k v (λ n. at b j n) (at a) j h (λ w. hb .by-rows w j h) (ha .by-columns v))
               (sum-congruent 23 (λ n. sum 23 (λ i. at b j i * at a n i) * v n) (λ n. at (matrixProduct m a b) n j * v n)
-                (λ n r. mul-congruent
-                  (opposite (subst (Congruent m (at (matrixProduct m a b) n j))
-                    (sum-same 23 (λ i. at a n i * at b j i) (λ i. at b j i * at a n i) (λ i q. mul-comm (at a n i) (at b j i))) (entry n j r h)))
-                  (reflexive (v n)))));
+              (λ n r. mul-congruent
+              (opposite (subst (Congruent m (at (matrixProduct m a b) n j))
+              (sum-same 23 (λ i. at a n i * at b j i) (λ i. at b j i * at a n i) (λ i q. mul-comm (at a n i) (at b j i))) (entry n j r h)))
+              (reflexive (v n)))));
         }
 
   pub raised-power : (a : List (List ℕ)) → MatrixPower m L 1 a → (bits : List Bool) → MatrixPower m L (exponent bits) (raisedTo m a bits)

@@ -22,9 +22,9 @@ start e = record { within = zero-le; long = e; done = λ k h. absurd (not-suc-le
 pub step : {n : ℕ} {P : ℕ → ℕ → Type 0} {s : List ℕ} {i : ℕ} (v : ℕ) → Filling n P s i → i < n → P i v → Filling n P (set s i v) (i + 1)
 step {n} {P} {s} {i} v f h p =
     let placed : (k : ℕ) → (k ≡ i) ⊎ (k < i) → P k (getD (set s i v) k 0) =
-          λ k. ⊎-elim
-            (λ e. subst (λ (j : ℕ). P j (getD (set s i v) j 0)) (sym e) (subst (P i) (sym (getD-set-same s i v 0 (omega arith))) p))
-            (λ b. subst (P k) (sym (getD-set-other s i k v 0 (λ e. omega arith))) (f .done k b)) in
+    λ k. ⊎-elim
+    (λ e. subst (λ (j : ℕ). P j (getD (set s i v) j 0)) (sym e) (subst (P i) (sym (getD-set-same s i v 0 (omega arith))) p))
+    (λ b. subst (P k) (sym (getD-set-other s i k v 0 (λ e. omega arith))) (f .done k b)) in
     record {
       within = omega arith;
       long = length-set s i v ∙ f .long;

@@ -45,14 +45,14 @@ module _ (F : Instance) (B K u firstEntry : ℕ) (sparse firstConstants : List �
   -- a row of the matrix with the state and its constants, in the linear part and the running constants
   row-parts : (s k x : ℕ) (v z : List ℕ) (t : Represents F B s k x v z) (l : ℕ → ℕ)
       → Is (sum 23 (λ j. l j * (getD z (suc j) 0 + constant F (4 + s) (suc j))))
-        (sum 23 (λ j. l j * t .linear j) + sum 23 (λ j. l j * (running F s j + constant F (4 + s) (suc j))))
+      (sum 23 (λ j. l j * t .linear j) + sum 23 (λ j. l j * (running F s j + constant F (4 + s) (suc j))))
   row-parts s k x v z t l =
       subst (Is (sum 23 (λ j. l j * (getD z (suc j) 0 + constant F (4 + s) (suc j)))))
       (row-split 23 l (t .linear) (λ j. running F s j + constant F (4 + s) (suc j)))
       (sum-congruent 23 (λ j. l j * (getD z (suc j) 0 + constant F (4 + s) (suc j))) (λ j. l j * (t .linear j + (running F s j + constant F (4 + s) (suc j))))
       (λ j h. mul-congruent (reflexive (l j))
-        (subst (Is (getD z (suc j) 0 + constant F (4 + s) (suc j))) (add-assoc (t .linear j) (running F s j) (constant F (4 + s) (suc j)))
-          (add-congruent (t .whole j h) (reflexive (constant F (4 + s) (suc j)))))))
+      (subst (Is (getD z (suc j) 0 + constant F (4 + s) (suc j))) (add-assoc (t .linear j) (running F s j) (constant F (4 + s) (suc j)))
+      (add-congruent (t .whole j h) (reflexive (constant F (4 + s) (suc j)))))))
 
   -- the head's row with the elements that are kept
   row-sum : (s k x : ℕ) (v z : List ℕ) (t : Represents F B s (suc k) x v z) → s + suc k ≡ F .partialRounds
@@ -62,7 +62,7 @@ module _ (F : Instance) (B K u firstEntry : ℕ) (sparse firstConstants : List �
       let g : ℕ → ℕ = λ i. getD sparse (48 * s + 2 * suc i + 1) 0 * times L (suc k) (t .linear) i in
       let first : Is (f 0) 0 = subst (Is (f 0)) (zero-mul (getD v 0 0)) (mul-congruent (T .rows-zero s k e) (reflexive (getD v 0 0))) in
       let rest : Is (sum 23 (λ i. f (suc i))) (sum 23 g) =
-            sum-congruent 23 (λ i. f (suc i)) g (λ i h. mul-congruent (reflexive (getD sparse (48 * s + 2 * suc i + 1) 0)) (t .kept i h)) in
+      sum-congruent 23 (λ i. f (suc i)) g (λ i h. mul-congruent (reflexive (getD sparse (48 * s + 2 * suc i + 1) 0)) (t .kept i h)) in
       let both : Is (f 0 + sum 23 (λ i. f (suc i))) (sum 23 g) = subst (Is (f 0 + sum 23 (λ i. f (suc i)))) (zero-add (sum 23 g)) (add-congruent first rest) in
       subst (λ (a : ℕ). Is a (B * sum 23 (λ j. matrix F 0 (suc j) * t .linear j))) (sym (sum-first 23 f)) (transitive both (T .rows s k e (t .linear)))
 
@@ -87,13 +87,13 @@ module _ (F : Instance) (B K u firstEntry : ℕ) (sparse firstConstants : List �
         let ta : ℕ = times L k (λ j. matrix F (suc j) 0) i in
         let tn : ℕ = times L k (turn N (t .linear)) i in
         let one : Is (getD sparse (48 * s + 48 + 2 * suc i) 0 * y) (P * ta * B) =
-              transitive (mul-congruent (T .columns s k e i h) (reflexive y))
-              (subst (λ (a : ℕ). Is a (P * ta * B)) (sym (column-products K B ta y)) (mul-congruent (mul-congruent power-right (reflexive ta)) (reflexive B))) in
+        transitive (mul-congruent (T .columns s k e i h) (reflexive y))
+        (subst (λ (a : ℕ). Is a (P * ta * B)) (sym (column-products K B ta y)) (mul-congruent (mul-congruent power-right (reflexive ta)) (reflexive B))) in
         let scale : times L k (turn L (t .linear)) i ≡ tn * B =
-              ap (λ (f : ℕ → ℕ). f i) (ap (times L k) (turn-scaled B N (t .linear)) ∙ times-scale L k B (turn N (t .linear))) ∙ mul-comm B tn in
+        ap (λ (f : ℕ → ℕ). f i) (ap (times L k) (turn-scaled B N (t .linear)) ∙ times-scale L k B (turn N (t .linear))) ∙ mul-comm B tn in
         let two : Is (getD v (suc i) 0) (tn * B) = subst (Is (getD v (suc i) 0)) scale (t .kept i h) in
         let sum-right : P * ta * B + tn * B ≡ times L k next i * B =
-              sym (add-mul (P * ta) tn B) ∙ ap (λ (f : ℕ → ℕ). f i * B) (sym (times-linear L k P (λ j. matrix F (suc j) 0) (turn N (t .linear)))) in
+        sym (add-mul (P * ta) tn B) ∙ ap (λ (f : ℕ → ℕ). f i * B) (sym (times-linear L k P (λ j. matrix F (suc j) 0) (turn N (t .linear)))) in
         cancel (F .modulus) B u (getD v' (suc i) 0) (times L k next i) hu
         (transitive (hv i h) (subst (Is (getD sparse (48 * s + 48 + 2 * suc i) 0 * y + getD v (suc i) 0)) sum-right (add-congruent one two)))
 
@@ -104,10 +104,10 @@ module _ (F : Instance) (B K u firstEntry : ℕ) (sparse firstConstants : List �
         let un : ℕ = sum 23 (λ j. matrix F (suc i) (suc j) * t .linear j) in
         let run : ℕ = sum 23 (λ j. matrix F (suc i) (suc j) * (running F s j + constant F (4 + s) (suc j))) in
         let shape : matrix F (suc i) 0 * P + (un + run) ≡ P * matrix F (suc i) 0 + un + run =
-              sym (add-assoc (matrix F (suc i) 0 * P) un run) ∙ ap (λ (a : ℕ). a + un + run) (mul-comm (matrix F (suc i) 0) P) in
+        sym (add-assoc (matrix F (suc i) 0 * P) un run) ∙ ap (λ (a : ℕ). a + un + run) (mul-comm (matrix F (suc i) 0) P) in
         transitive (r .at (suc i) (suc-le-suc h))
         (subst (Is (matrix F (suc i) 0 * P + sum 23 (λ j. matrix F (suc i) (suc j) * (getD z (suc j) 0 + constant F (4 + s) (suc j))))) shape
-          (add-congruent (reflexive (matrix F (suc i) 0 * P)) parts))
+        (add-congruent (reflexive (matrix F (suc i) 0 * P)) parts))
 
     next-first : Is x' (getD w 0 0 + carried F k (suc s))
     next-first =
@@ -116,16 +116,16 @@ module _ (F : Instance) (B K u firstEntry : ℕ) (sparse firstConstants : List �
         let run : ℕ = sum 23 (λ j. matrix F 0 (suc j) * (running F s j + constant F (4 + s) (suc j))) in
         let d : ℕ = carried F k (suc s) in
         let one : Is (y * firstEntry) (P * a * B) =
-              transitive (mul-congruent (reflexive y) (T .first-entry-right))
-              (subst (λ (n : ℕ). Is n (P * a * B)) (sym (first-entry-products K B a y)) (mul-congruent (mul-congruent power-right (reflexive a)) (reflexive B))) in
+        transitive (mul-congruent (reflexive y) (T .first-entry-right))
+        (subst (λ (n : ℕ). Is n (P * a * B)) (sym (first-entry-products K B a y)) (mul-congruent (mul-congruent power-right (reflexive a)) (reflexive B))) in
         let two : Is S (B * un) = subst (λ (n : ℕ). Is n (B * un)) (sym hS) (row-sum s k x v z t e) in
         let all : Is (x' * B) ((P * a + (un + run) + d) * B) =
-              transitive hx (subst (Is (y * firstEntry + S + getD firstConstants s 0)) (three-times B (P * a) un run d)
-                (add-congruent (add-congruent one two) (T .first-constants-right s k e))) in
+        transitive hx (subst (Is (y * firstEntry + S + getD firstConstants s 0)) (three-times B (P * a) un run d)
+        (add-congruent (add-congruent one two) (T .first-constants-right s k e))) in
         let z0 : Is (getD w 0 0) (P * a + (un + run)) =
-              transitive (r .at 0 (suc-le-suc zero-le))
-              (subst (λ (n : ℕ). Is (matrix F 0 0 * P + sum 23 (λ j. matrix F 0 (suc j) * (getD z (suc j) 0 + constant F (4 + s) (suc j)))) (n + (un + run))) (mul-comm a P)
-                (add-congruent (reflexive (a * P)) (row-parts s (suc k) x v z t (λ j. matrix F 0 (suc j))))) in
+        transitive (r .at 0 (suc-le-suc zero-le))
+        (subst (λ (n : ℕ). Is (matrix F 0 0 * P + sum 23 (λ j. matrix F 0 (suc j) * (getD z (suc j) 0 + constant F (4 + s) (suc j)))) (n + (un + run))) (mul-comm a P)
+        (add-congruent (reflexive (a * P)) (row-parts s (suc k) x v z t (λ j. matrix F 0 (suc j))))) in
         transitive (cancel (F .modulus) B u x' (P * a + (un + run) + d) hu all) (add-congruent (opposite z0) (reflexive d))
 
     -- one partial round
@@ -148,12 +148,12 @@ module _ (F : Instance) (B w n : ℕ) (hw : Congruent (F .modulus) (w * B) 1) (x
   represents-start z d ed hz h0 hx hv =
       let U : ℕ → ℕ = λ i. sum 24 (λ j. matrix F (suc i) j * pw j) in
       let shape : (i : ℕ) → sum 24 (λ j. B * times (lower F B) n (λ l. matrix F (suc l) j) i * pw j) ≡ times (lower F B) n U i * B =
-            λ i.
-              sum-same 24 (λ j. B * times (lower F B) n (λ l. matrix F (suc l) j) i * pw j) (λ j. B * (times (lower F B) n (λ l. matrix F (suc l) j) i * pw j))
-              (λ j h. mul-assoc B (times (lower F B) n (λ l. matrix F (suc l) j) i) (pw j))
-              ∙ sum-times 24 B (λ j. times (lower F B) n (λ l. matrix F (suc l) j) i * pw j)
-              ∙ ap (λ (a : ℕ). B * a) (ap (λ (f : ℕ → ℕ). f i) (sym (times-sum (lower F B) n 24 pw (λ j l. matrix F (suc l) j))))
-              ∙ mul-comm B (times (lower F B) n U i) in
+      λ i.
+      sum-same 24 (λ j. B * times (lower F B) n (λ l. matrix F (suc l) j) i * pw j) (λ j. B * (times (lower F B) n (λ l. matrix F (suc l) j) i * pw j))
+      (λ j h. mul-assoc B (times (lower F B) n (λ l. matrix F (suc l) j) i) (pw j))
+      ∙ sum-times 24 B (λ j. times (lower F B) n (λ l. matrix F (suc l) j) i * pw j)
+      ∙ ap (λ (a : ℕ). B * a) (ap (λ (f : ℕ → ℕ). f i) (sym (times-sum (lower F B) n 24 pw (λ j l. matrix F (suc l) j))))
+      ∙ mul-comm B (times (lower F B) n U i) in
       record {
         first = subst (λ (a : ℕ). Is' (getD x 0 0) (getD z 0 0 + a)) ed (transitive h0 (add-congruent (opposite (hz 0 (suc-le-suc zero-le))) (reflexive d)));
         linear = U;

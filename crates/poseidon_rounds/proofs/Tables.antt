@@ -90,10 +90,10 @@ module _ (F : Instance) where
       let r : List ℕ = getD rows i [] in
       let f : ℕ → ℕ = λ l. getD (F .inverses) (suc l + j) 0 in
       let one : Is (getD (products (F .modulus) (c * B) 24 r (drop 1 (F .inverses))) j 0) (c * B * sum 23 (λ l. getD (drop 1 (F .inverses)) (j + l) 0 * getD r l 0)) =
-            products-at (F .modulus) (c * B) 24 r (drop 1 (F .inverses)) j hj (p .rows-long i hi) in
+      products-at (F .modulus) (c * B) 24 r (drop 1 (F .inverses)) j hj (p .rows-long i hi) in
       let same : sum 23 (λ l. getD (drop 1 (F .inverses)) (j + l) 0 * getD r l 0) ≡ sum 23 (λ l. getD r l 0 * f l) =
-            sum-same 23 (λ l. getD (drop 1 (F .inverses)) (j + l) 0 * getD r l 0) (λ l. getD r l 0 * f l)
-            (λ l h. ap (λ (x : ℕ). x * getD r l 0) (getD-drop 1 (F .inverses) (j + l) 0 ∙ ap (λ (k : ℕ). getD (F .inverses) k 0) (omega arith)) ∙ mul-comm (f l) (getD r l 0)) in
+      sum-same 23 (λ l. getD (drop 1 (F .inverses)) (j + l) 0 * getD r l 0) (λ l. getD r l 0 * f l)
+      (λ l h. ap (λ (x : ℕ). x * getD r l 0) (getD-drop 1 (F .inverses) (j + l) 0 ∙ ap (λ (k : ℕ). getD (F .inverses) k 0) (omega arith)) ∙ mul-comm (f l) (getD r l 0)) in
       let two : Is (sum 23 (λ l. getD r l 0 * f l)) (times (lower F B) (F .partialRounds) f i) = opposite (p .by-rows f i hi) in
       transitive (subst (λ (x : ℕ). Is (getD (products (F .modulus) (c * B) 24 r (drop 1 (F .inverses))) j 0) (c * B * x)) same one)
       (subst (Is (c * B * sum 23 (λ l. getD r l 0 * f l))) (mul-assoc c B (times (lower F B) (F .partialRounds) f i)) (mul-congruent (reflexive (c * B)) two))
@@ -107,8 +107,8 @@ module _ (F : Instance) where
       let l : i < 23 = le-of-suc-le-suc hi in
       transitive
       (row-at t (products (F .modulus) (c * B) 24 (getD rows i []) (drop 1 (F .inverses))) (suc i)
-        (subst (λ (n : ℕ). alike (F .modulus) (diagonalRow t n) (products (F .modulus) (c * B) 24 (getD rows i []) (drop 1 (F .inverses))) ≡ true) (omega arith)
-          (from-at B c t 1 rows h i (omega (arith, p .long)))) j hj)
+      (subst (λ (n : ℕ). alike (F .modulus) (diagonalRow t n) (products (F .modulus) (c * B) 24 (getD rows i []) (drop 1 (F .inverses))) ≡ true) (omega arith)
+      (from-at B c t 1 rows h i (omega (arith, p .long)))) j hj)
       (entry-is B c rows p i j l hj)
 
   -- the pre-sparse matrix
@@ -117,7 +117,7 @@ module _ (F : Instance) where
   pre-sparse-diagonals B c t bits e =
       let rows : List (List ℕ) = raisedTo (F .modulus) (lowerRows F B) bits in
       let p : MatrixPower (F .modulus) (lower F B) (F .partialRounds) rows =
-            subst (λ (n : ℕ). MatrixPower (F .modulus) (lower F B) n rows) (eqb-true _ _ (and-left _ _ e)) (raised-power (F .modulus) (lower F B) (lowerRows F B) (lower-power F B) bits) in
+      subst (λ (n : ℕ). MatrixPower (F .modulus) (lower F B) n rows) (eqb-true _ _ (and-left _ _ e)) (raised-power (F .modulus) (lower F B) (lowerRows F B) (lower-power F B) bits) in
       diagonals (F .modulus) c (preSparse F B) t (entry-at B c t rows p (and-left _ _ (and-right _ _ e)) (and-right _ _ (and-right _ _ e)))
 
   module _ (addends : List ℕ) where

@@ -40,8 +40,8 @@ module _ (F : Instance) where
   turned-row B v i l e =
       subst (Is (getD (turned F B v) i 0))
       (ap (λ (x : ℕ). B * x)
-        (sum-same 23 (λ j. getD (drop 2 (F .inverses)) (i + j) 0 * getD v j 0) (λ j. getD (F .inverses) (suc i + suc j) 0 * getD v j 0)
-          (λ j r. ap (λ (x : ℕ). x * getD v j 0) (getD-drop 2 (F .inverses) (i + j) 0 ∙ ap (λ (k : ℕ). getD (F .inverses) k 0) (omega arith)))))
+      (sum-same 23 (λ j. getD (drop 2 (F .inverses)) (i + j) 0 * getD v j 0) (λ j. getD (F .inverses) (suc i + suc j) 0 * getD v j 0)
+      (λ j r. ap (λ (x : ℕ). x * getD v j 0) (getD-drop 2 (F .inverses) (i + j) 0 ∙ ap (λ (k : ℕ). getD (F .inverses) k 0) (omega arith)))))
       (products-at (F .modulus) B 23 v (drop 2 (F .inverses)) i l e)
 
   turned-at : (B : ℕ) (v : List ℕ) (i : ℕ) → i < 23 → length v ≡ 23 → Is (getD (turned F B v) i 0) (turn (lower F B) (λ j. getD v j 0) i)
@@ -54,8 +54,8 @@ module _ (F : Instance) where
       subst (Is (getD (turned F B v) j 0))
       (sym (sum-times 23 B (λ i. getD (F .inverses) (suc j + suc i) 0 * getD v i 0))
       ∙ sum-same 23 (λ i. B * (getD (F .inverses) (suc j + suc i) 0 * getD v i 0)) (λ i. getD v i 0 * (B * getD (F .inverses) (suc i + suc j) 0))
-        (λ i r. sym (mul-assoc B (getD (F .inverses) (suc j + suc i) 0) (getD v i 0)) ∙ mul-comm (B * getD (F .inverses) (suc j + suc i) 0) (getD v i 0)
-          ∙ ap (λ (k : ℕ). getD v i 0 * (B * getD (F .inverses) k 0)) (omega arith)))
+      (λ i r. sym (mul-assoc B (getD (F .inverses) (suc j + suc i) 0) (getD v i 0)) ∙ mul-comm (B * getD (F .inverses) (suc j + suc i) 0) (getD v i 0)
+      ∙ ap (λ (k : ℕ). getD v i 0 * (B * getD (F .inverses) k 0)) (omega arith)))
       (turned-row B v j l e)
 
   module _ (B K : ℕ) (sparse : List ℕ) where
@@ -92,14 +92,14 @@ module _ (F : Instance) where
       columns-from s (suc k) e i l =
           let a : ℕ → ℕ = λ j. matrix F (suc j) 0 in
           let rest : (j : ℕ) → j < 23 → Is (getD (columnOf sparse (suc s)) j 0) (K * B * times (lower F B) k a j) =
-                λ j r. subst (λ (x : ℕ). Is x (K * B * times (lower F B) k a j)) (sym (column-entry (suc s) j r)) (columns-from (suc s) k (omega arith) j r) in
+          λ j r. subst (λ (x : ℕ). Is x (K * B * times (lower F B) k a j)) (sym (column-entry (suc s) j r)) (columns-from (suc s) k (omega arith) j r) in
           let one : Is (sparseColumn s i) (turn (lower F B) (λ j. getD (columnOf sparse (suc s)) j 0) i) =
-                subst (λ (x : ℕ). Is x (turn (lower F B) (λ j. getD (columnOf sparse (suc s)) j 0) i)) (column-entry s i l)
-                (transitive (alike-at (F .modulus) (columnOf sparse s) (turned F B (columnOf sparse (suc s))) (tests s (suc k) e .0) i) (turned-at B (columnOf sparse (suc s)) i l (column-long (suc s)))) in
+          subst (λ (x : ℕ). Is x (turn (lower F B) (λ j. getD (columnOf sparse (suc s)) j 0) i)) (column-entry s i l)
+          (transitive (alike-at (F .modulus) (columnOf sparse s) (turned F B (columnOf sparse (suc s))) (tests s (suc k) e .0) i) (turned-at B (columnOf sparse (suc s)) i l (column-long (suc s)))) in
           let two : Is (turn (lower F B) (λ j. getD (columnOf sparse (suc s)) j 0) i) (turn (lower F B) (λ j. K * B * times (lower F B) k a j) i) =
-                times-same (lower F B) 1 (λ j. getD (columnOf sparse (suc s)) j 0) (λ j. K * B * times (lower F B) k a j) rest i l in
+          times-same (lower F B) 1 (λ j. getD (columnOf sparse (suc s)) j 0) (λ j. K * B * times (lower F B) k a j) rest i l in
           transitive one (subst (Is (turn (lower F B) (λ j. getD (columnOf sparse (suc s)) j 0) i))
-            (ap (λ (f : ℕ → ℕ). f i) (times-scale (lower F B) 1 (K * B) (times (lower F B) k a)) ∙ ap (λ (f : ℕ → ℕ). K * B * f i) (sym (times-turn (lower F B) k a))) two)
+          (ap (λ (f : ℕ → ℕ). f i) (times-scale (lower F B) 1 (K * B) (times (lower F B) k a)) ∙ ap (λ (f : ℕ → ℕ). K * B * f i) (sym (times-turn (lower F B) k a))) two)
 
       -- one turn of the matrix goes from the vector to the row
       rows-over : (s k : ℕ) (z : ℕ → ℕ) (r : ℕ)
@@ -110,12 +110,12 @@ module _ (F : Instance) where
           let h : ℕ → ℕ = λ i. getD (rowOf sparse s) i 0 in
           let w : ℕ → ℕ = times (lower F B) k z in
           let turned-over : sum 23 (λ i. sparseRow s i * times (lower F B) k (turn (lower F B) z) i) ≡ sum 23 (λ j. sum 23 (λ i. h i * lower F B i j) * w j) =
-                sum-same 23 (λ i. sparseRow s i * times (lower F B) k (turn (lower F B) z) i) (λ i. h i * turn (lower F B) w i)
-                (λ i l. ap₂ (λ (x y : ℕ). x * y) (sym (row-entry s i l)) (ap (λ (f : ℕ → ℕ). f i) (times-turn (lower F B) k z)))
-                ∙ row-turn (lower F B) h w in
+          sum-same 23 (λ i. sparseRow s i * times (lower F B) k (turn (lower F B) z) i) (λ i. h i * turn (lower F B) w i)
+          (λ i l. ap₂ (λ (x y : ℕ). x * y) (sym (row-entry s i l)) (ap (λ (f : ℕ → ℕ). f i) (times-turn (lower F B) k z)))
+          ∙ row-turn (lower F B) h w in
           let next : Is (sum 23 (λ j. sum 23 (λ i. h i * lower F B i j) * w j)) (sum 23 (λ j. getD (turned F B (rowOf sparse s)) j 0 * w j)) =
-                sum-congruent 23 (λ j. sum 23 (λ i. h i * lower F B i j) * w j) (λ j. getD (turned F B (rowOf sparse s)) j 0 * w j)
-                (λ j l. mul-congruent (opposite (column-at B (rowOf sparse s) j l (row-long s))) (reflexive (w j))) in
+          sum-congruent 23 (λ j. sum 23 (λ i. h i * lower F B i j) * w j) (λ j. getD (turned F B (rowOf sparse s)) j 0 * w j)
+          (λ j l. mul-congruent (opposite (column-at B (rowOf sparse s) j l (row-long s))) (reflexive (w j))) in
           subst (λ (x : ℕ). Is x r) (sym turned-over) (transitive next rest)
 
       rows-from : (s k : ℕ) → s + suc k ≡ F .partialRounds → (z : ℕ → ℕ)
@@ -127,21 +127,21 @@ module _ (F : Instance) where
           let wz : w ≡ z = unfold times in refl in
           rows-over s zero z (B * sum 23 (λ j. matrix F 0 (suc j) * z j))
           (subst (Is (sum 23 (λ j. getD (turned F B (rowOf sparse s)) j 0 * w j)))
-            (sum-same 23 (λ j. getD (tabulate 23 f) j 0 * w j) (λ j. B * (matrix F 0 (suc j) * z j))
-              (λ j l. ap₂ (λ (x y : ℕ). x * y) (tabulate-at 23 f j l) (ap (λ (g : ℕ → ℕ). g j) wz) ∙ mul-assoc B (matrix F 0 (suc j)) (z j))
-            ∙ sum-times 23 B (λ j. matrix F 0 (suc j) * z j))
-            (sum-congruent 23 (λ j. getD (turned F B (rowOf sparse s)) j 0 * w j) (λ j. getD (tabulate 23 f) j 0 * w j)
-              (λ j l. mul-congruent (alike-at (F .modulus) (turned F B (rowOf sparse s)) (tabulate 23 f) (tests s zero e .1) j) (reflexive (w j)))))
+          (sum-same 23 (λ j. getD (tabulate 23 f) j 0 * w j) (λ j. B * (matrix F 0 (suc j) * z j))
+          (λ j l. ap₂ (λ (x y : ℕ). x * y) (tabulate-at 23 f j l) (ap (λ (g : ℕ → ℕ). g j) wz) ∙ mul-assoc B (matrix F 0 (suc j)) (z j))
+          ∙ sum-times 23 B (λ j. matrix F 0 (suc j) * z j))
+          (sum-congruent 23 (λ j. getD (turned F B (rowOf sparse s)) j 0 * w j) (λ j. getD (tabulate 23 f) j 0 * w j)
+          (λ j l. mul-congruent (alike-at (F .modulus) (turned F B (rowOf sparse s)) (tabulate 23 f) (tests s zero e .1) j) (reflexive (w j)))))
       rows-from s (suc k) e z =
           let w : ℕ → ℕ = times (lower F B) (suc k) z in
           rows-over s (suc k) z (B * sum 23 (λ j. matrix F 0 (suc j) * z j))
           (transitive
-            (sum-congruent 23 (λ j. getD (turned F B (rowOf sparse s)) j 0 * w j) (λ j. sparseRow (suc s) j * w j)
-              (λ j l. mul-congruent
-                (subst (Is (getD (turned F B (rowOf sparse s)) j 0)) (row-entry (suc s) j l)
-                  (alike-at (F .modulus) (turned F B (rowOf sparse s)) (rowOf sparse (suc s)) (tests s (suc k) e .1) j))
-                (reflexive (w j))))
-            (rows-from (suc s) k (omega arith) z))
+          (sum-congruent 23 (λ j. getD (turned F B (rowOf sparse s)) j 0 * w j) (λ j. sparseRow (suc s) j * w j)
+          (λ j l. mul-congruent
+          (subst (Is (getD (turned F B (rowOf sparse s)) j 0)) (row-entry (suc s) j l)
+          (alike-at (F .modulus) (turned F B (rowOf sparse s)) (rowOf sparse (suc s)) (tests s (suc k) e .1) j))
+          (reflexive (w j))))
+          (rows-from (suc s) k (omega arith) z))
 
   -- the running constants, as the tests compute them
   running-long : (s : ℕ) → length (runningOf F s) ≡ 23
@@ -168,8 +168,8 @@ module _ (F : Instance) where
       let g : ℕ → ℕ = λ j. running F s j + constant F (4 + s) (suc j) in
       transitive (turned-row 1 w i l (with-long s (runningOf F s)))
       (subst (λ (x : ℕ). Is x (sum 23 (λ j. matrix F (suc i) (suc j) * g j))) (sym (one-mul (sum 23 (λ j. matrix F (suc i) (suc j) * getD w j 0))))
-        (sum-congruent 23 (λ j. matrix F (suc i) (suc j) * getD w j 0) (λ j. matrix F (suc i) (suc j) * g j)
-          (λ j r. mul-congruent (reflexive (matrix F (suc i) (suc j))) (mutual-with s (runningOf F s) (running-at s) j r))))
+      (sum-congruent 23 (λ j. matrix F (suc i) (suc j) * getD w j 0) (λ j. matrix F (suc i) (suc j) * g j)
+      (λ j r. mul-congruent (reflexive (matrix F (suc i) (suc j))) (mutual-with s (runningOf F s) (running-at s) j r))))
 
   first-constants-from : (B : ℕ) (firstConstants : List ℕ) (s k : ℕ) → firstConstantTest F B firstConstants s k ≡ true
       → Is (getD firstConstants s 0) ((sum 23 (λ j. matrix F 0 (suc j) * (running F s j + constant F (4 + s) (suc j))) + carried F k (suc s)) * B)
@@ -179,11 +179,11 @@ module _ (F : Instance) where
       let g : ℕ → ℕ = λ j. running F s j + constant F (4 + s) (suc j) in
       let one : Is (getD firstConstants s 0) ((dot w (drop 1 (F .inverses)) + carried F k (suc s)) * B) = record { same = eqb-true _ _ e } in
       let row : Is (dot w (drop 1 (F .inverses))) (sum 23 (λ j. getD (F .inverses) (0 + suc j) 0 * g j)) =
-            subst (λ (x : ℕ). Is x (sum 23 (λ j. getD (F .inverses) (0 + suc j) 0 * g j))) (sym (dot-23 w (drop 1 (F .inverses)) (with-long s (runningOf F s))))
-            (sum-congruent 23 (λ j. getD (drop 1 (F .inverses)) j 0 * getD w j 0) (λ j. getD (F .inverses) (0 + suc j) 0 * g j)
-              (λ j r. mul-congruent
-                (subst (Is (getD (drop 1 (F .inverses)) j 0)) (getD-drop 1 (F .inverses) j 0 ∙ ap (λ (n : ℕ). getD (F .inverses) n 0) (omega arith)) (reflexive (getD (drop 1 (F .inverses)) j 0)))
-                (mutual-with s (runningOf F s) (running-at s) j r))) in
+      subst (λ (x : ℕ). Is x (sum 23 (λ j. getD (F .inverses) (0 + suc j) 0 * g j))) (sym (dot-23 w (drop 1 (F .inverses)) (with-long s (runningOf F s))))
+      (sum-congruent 23 (λ j. getD (drop 1 (F .inverses)) j 0 * getD w j 0) (λ j. getD (F .inverses) (0 + suc j) 0 * g j)
+      (λ j r. mul-congruent
+      (subst (Is (getD (drop 1 (F .inverses)) j 0)) (getD-drop 1 (F .inverses) j 0 ∙ ap (λ (n : ℕ). getD (F .inverses) n 0) (omega arith)) (reflexive (getD (drop 1 (F .inverses)) j 0)))
+      (mutual-with s (runningOf F s) (running-at s) j r))) in
       transitive one (mul-congruent (add-congruent row (reflexive (carried F k (suc s)))) (reflexive B))
 
   -- the test of all rounds goes through the test of each
@@ -194,7 +194,7 @@ module _ (F : Instance) where
   first-constant-at B firstConstants (suc n) s a k e l q =
       ⊎-elim
       (λ z. subst (λ (b : ℕ). firstConstantTest F B firstConstants b k ≡ true) z
-        (subst (λ (d : ℕ). firstConstantTest F B firstConstants s d ≡ true) (let z' : s ≡ a = z in omega arith) (and-left _ _ e)))
+      (subst (λ (d : ℕ). firstConstantTest F B firstConstants s d ≡ true) (let z' : s ≡ a = z in omega arith) (and-left _ _ e)))
       (λ h. first-constant-at B firstConstants n (suc s) a k (and-right _ _ e) h (omega arith))
       (eq-or-lt-of-le l)
 
@@ -207,10 +207,10 @@ module _ (F : Instance) where
   unfolding sparseTest firstConstantsTest sparseColumn sparseRow zeroTest runningOf
   sparse-tables B K firstEntry sparse firstConstants hc hm hk =
       let test : (s k : ℕ) → s + suc k ≡ F .partialRounds → columnTest F B K sparse s k and rowTest F B sparse s k and zeroTest F sparse s ≡ true =
-            λ s k e. subst (λ (n : ℕ). columnTest F B K sparse s n and rowTest F B sparse s n and zeroTest F sparse s ≡ true) (rest-of s k e)
-              (every-at (λ a. columnTest F B K sparse a (F .partialRounds - suc a) and rowTest F B sparse a (F .partialRounds - suc a) and zeroTest F sparse a) (F .partialRounds) s k hm e) in
+      λ s k e. subst (λ (n : ℕ). columnTest F B K sparse s n and rowTest F B sparse s n and zeroTest F sparse s ≡ true) (rest-of s k e)
+      (every-at (λ a. columnTest F B K sparse a (F .partialRounds - suc a) and rowTest F B sparse a (F .partialRounds - suc a) and zeroTest F sparse a) (F .partialRounds) s k hm e) in
       let tests : (s k : ℕ) → s + suc k ≡ F .partialRounds → (columnTest F B K sparse s k ≡ true) × (rowTest F B sparse s k ≡ true) × (zeroTest F sparse s ≡ true) =
-            λ s k e. (and-left _ _ (test s k e), and-left _ _ (and-right _ _ (test s k e)), and-right _ _ (and-right _ _ (test s k e))) in
+      λ s k e. (and-left _ _ (test s k e), and-left _ _ (and-right _ _ (test s k e)), and-right _ _ (and-right _ _ (test s k e))) in
       record {
         first-entry-right = record { same = hc };
         columns = columns-from B K sparse tests;
@@ -260,6 +260,6 @@ module _ (F : Instance) where
   constants-right addends at r e k i hk hi =
       let f : ℕ → ℕ = λ j. getD (F .constants) (24 * r + j) 0 in
       let one : Is (getD addends (at + (24 * k + i)) 0) (f (24 * k + i)) =
-            subst (Is (getD addends (at + (24 * k + i)) 0)) (tabulate-at 96 f (24 * k + i) (omega arith)) (row-alike 96 at addends (tabulate 96 f) e (24 * k + i) (omega arith)) in
+      subst (Is (getD addends (at + (24 * k + i)) 0)) (tabulate-at 96 f (24 * k + i) (omega arith)) (row-alike 96 at addends (tabulate 96 f) e (24 * k + i) (omega arith)) in
       subst (λ (j : ℕ). Is (getD addends j 0) (constant F (r + k) i)) (sym (add-assoc at (24 * k) i))
       (subst (λ (j : ℕ). Is (getD addends (at + (24 * k + i)) 0) (getD (F .constants) j 0)) (omega arith) one)

@@ -39,4 +39,4 @@ pub record FullRound (F : Instance) (r : ℕ) (z w : List ℕ) : Type 0 where
 pub record PartialRound (F : Instance) (r : ℕ) (z w : List ℕ) : Type 0 where
   pub at : (i : ℕ) → i < 24
       → Congruent (F .modulus) (getD w i 0)
-        (matrix F i 0 * (getD z 0 0 + constant F r 0) ^ F .power + sum 23 (λ j. matrix F i (suc j) * (getD z (suc j) 0 + constant F r (suc j))))
+      (matrix F i 0 * (getD z 0 0 + constant F r 0) ^ F .power + sum 23 (λ j. matrix F i (suc j) * (getD z (suc j) 0 + constant F r (suc j))))

@@ -47,7 +47,16 @@ fn permute_if_full_by<'a>(
     ensures { λ r. ⌜ (r ≡ permutationsFor position) × (now (state .exit) ≡ stateFor (parameters field) position (now (state .entry))) ⌝ }
 {
     if position == RATE {
-        let permuted = poseidon::permutation_by(field, *state, matrix, pre_sparse, sparse, first_constants, addends, copies);
+        let permuted = poseidon::permutation_by(
+            field,
+            *state,
+            matrix,
+            pre_sparse,
+            sparse,
+            first_constants,
+            addends,
+            copies,
+        );
         *state = permuted;
         return 1;
     }
@@ -94,7 +103,17 @@ fn absorb_element_by<'a>(
     requires { ⌜ tablesFrom (now matrix) (now «pre_sparse») (now sparse) (now «first_constants») (now addends) (now copies) ≡ tablesOf field ⌝ }
     ensures { λ r. ⌜ (r ≡ permutationsFor position) × (now (state .exit) ≡ stateWith (parameters field) position (now (state .entry)) element) ⌝ }
 {
-    let permutations = permute_if_full_by(field, state, position, matrix, pre_sparse, sparse, first_constants, addends, copies);
+    let permutations = permute_if_full_by(
+        field,
+        state,
+        position,
+        matrix,
+        pre_sparse,
+        sparse,
+        first_constants,
+        addends,
+        copies,
+    );
     add_element(field, state, position, element);
     permutations
 }
@@ -167,7 +186,18 @@ fn absorb_many<'a>(
     let mut squeezing = squeeze_position;
     let mut permutations: u64 = 0;
     for i in 0..input.len() {
-        permutations += absorb_element_by(field, &mut next, position, input[i], matrix, pre_sparse, sparse, first_constants, addends, copies);
+        permutations += absorb_element_by(
+            field,
+            &mut next,
+            position,
+            input[i],
+            matrix,
+            pre_sparse,
+            sparse,
+            first_constants,
+            addends,
+            copies,
+        );
         position = next_position(position);
         squeezing = RATE;
     }
@@ -280,7 +310,17 @@ fn squeeze_many<'a>(
     let mut position = squeeze_position;
     let mut permutations: u64 = 0;
     for i in 0..output.len() {
-        permutations += permute_if_full_by(field, &mut next, position, matrix, pre_sparse, sparse, first_constants, addends, copies);
+        permutations += permute_if_full_by(
+            field,
+            &mut next,
+            position,
+            matrix,
+            pre_sparse,
+            sparse,
+            first_constants,
+            addends,
+            copies,
+        );
         absorb = absorb_position_after(absorb, position);
         output[i] = element_at(&next, position);
         position = next_position(position);

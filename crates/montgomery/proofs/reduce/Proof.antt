@@ -22,7 +22,7 @@ returns c =
     let a = c .before .before .before .args in
     reduction (a .a) (a .m) (a .q) _ _ (search needs)
     (c .wrapping-add-u64 .ensures
-      ∙ ap (λ (x : ℕ). (a .a + x) % 18446744073709551616) (c .before .product2 .ensures ∙ ap (λ (x : ℕ). lowProduct x (a .m)) (c .before .before .product .ensures)))
+    ∙ ap (λ (x : ℕ). (a .a + x) % 18446744073709551616) (c .before .product2 .ensures ∙ ap (λ (x : ℕ). lowProduct x (a .m)) (c .before .before .product .ensures)))
     refl
 
 pub reduce-spec : {M : Type 1} → statement M

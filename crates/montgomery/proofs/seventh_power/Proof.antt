@@ -21,7 +21,7 @@ reduce-any-requires : tie.Need-reduce-any-requires
 reduce-any-requires c κs = search needs
 
 returns : tie.Need-returns
-returns c = 
+returns c =
     let s = c .before .before in
     seventh-small _ _ _ _ _ _ _ _ _ (s .before .before .multiply .ensures) (s .before .multiply2 .ensures) (s .multiply3 .ensures) (c .before .product .ensures) (c .reduce-any .ensures)
 

@@ -20,7 +20,7 @@ returns c =
     let a = c .before .before .before .before .before .before .before .before .before .before .before .before .before .before .before .before .before .before .before .args in
     λ h.
     let g = given-at (a .field) (c .before .before .before .before .before .before .before .before .before .before .before .before .before .before .before .before .before .before .modulus .ensures) (c .before .before .before .before .before .before .before .before .before .before .before .before .before .before .before .before .before .negated-inverse .ensures) (c .before .before .before .before .before .before .before .before .before .before .before .before .before .before .before .before .high-weight .ensures) (c .before .before .before .before .before .before .before .before .before .before .before .before .before .before .before .exponent .ensures)
-          (c .before .before .before .before .before .before .before .before .before .before .before .before .before .before .partial-rounds .ensures) (c .before .before .before .before .before .before .before .before .before .before .before .before .word .ensures) (c .before .before .before .before .before .before .before .before .before .before .before .before .before .first-entry .ensures) h in
+    (c .before .before .before .before .before .before .before .before .before .before .before .before .before .before .partial-rounds .ensures) (c .before .before .before .before .before .before .before .before .before .before .before .before .word .ensures) (c .before .before .before .before .before .before .before .before .before .before .before .before .before .first-entry .ensures) h in
     permuted-given (parameters (a .field)) _ g (c .before .before .before .before .before .before .before .before .before .before .reduce-all .ensures) (c .before .before .before .before .before .before .before .before .before .full-rounds .ensures)
     (c .before .before .before .before .before .before .before .full-round .ensures) (c .before .before .before .before .before .partial-rounds2 .ensures) (c .before .before .before .rescale .ensures) (c .before .before .full-rounds2 .ensures) (c .reduce-all2 .ensures)
 

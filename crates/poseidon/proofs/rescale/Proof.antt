@@ -33,12 +33,12 @@ loop-again c =
     let a = c .before .before .before .before .before .before .before .before .before .before .before .before .args in
     let i = c .before .before .before .before .before .before .before .before .before .before .before .loop .i in
     let e : c .before .before .before .before .before .before .product .result + c .before .before .before .before .wide3 .result ≡ lowProduct (getD (now (a .x)) i 0) (a .word) + getD (now (a .addends)) (120 + i) 0 =
-          ap₂ (λ (y z : ℕ). y + z)
-          (c .before .before .before .before .before .before .product .ensures ∙ ap₂ (λ (y z : ℕ). lowProduct y z) (c .before .before .before .before .before .before .before .before .wide .ensures .0) (c .before .before .before .before .before .before .before .wide2 .ensures .0))
-          (c .before .before .before .before .wide3 .ensures .0) in
+    ap₂ (λ (y z : ℕ). y + z)
+    (c .before .before .before .before .before .before .product .ensures ∙ ap₂ (λ (y z : ℕ). lowProduct y z) (c .before .before .before .before .before .before .before .before .wide .ensures .0) (c .before .before .before .before .before .before .before .wide2 .ensures .0))
+    (c .before .before .before .before .wide3 .ensures .0) in
     step _ (c .before .before .before .before .before .before .before .before .before .before .before .loop .inv) (omega arith)
     (subst (λ (y : ℕ). ReducedAny y (a .m) (a .q) (a .r) (c .reduce-any .result)) e
-      (reduced-any-at (c .before .before .before .wide4 .ensures .0) (c .before .before .wide5 .ensures .0) (c .before .wide6 .ensures .0) (c .reduce-any .ensures)))
+    (reduced-any-at (c .before .before .before .wide4 .ensures .0) (c .before .before .wide5 .ensures .0) (c .before .wide6 .ensures .0) (c .reduce-any .ensures)))
 
 returns : tie.Need-returns Inv-loop μ-loop
 returns c = end (c .before .loop .inv) (omega arith)

@@ -28,10 +28,10 @@ loop-again c =
     let i = l .i in
     raising-step (c .power-of-any .result) (l .inv) (omega arith)
     (subst
-      (λ (n : ℕ).
-        Raised (a .power) n (getD p i 0) (getD p (24 + i) 0) (getD p (48 + i) 0) (getD p (72 + i) 0) (getD p (96 + i) 0) (getD p (120 + i) 0) (getD p (144 + i) 0)
-          (getD p (168 + i) 0) (getD p (192 + i) 0) (c .power-of-any .result))
-      (c .before .before .before .before .before .before .before .before .before .before .wide .ensures) (c .power-of-any .ensures))
+    (λ (n : ℕ).
+    Raised (a .power) n (getD p i 0) (getD p (24 + i) 0) (getD p (48 + i) 0) (getD p (72 + i) 0) (getD p (96 + i) 0) (getD p (120 + i) 0) (getD p (144 + i) 0)
+    (getD p (168 + i) 0) (getD p (192 + i) 0) (c .power-of-any .result))
+    (c .before .before .before .before .before .before .before .before .before .before .wide .ensures) (c .power-of-any .ensures))
 
 returns : tie.Need-returns Inv-loop μ-loop
 returns c = raising-end (c .before .loop .inv) (omega arith)

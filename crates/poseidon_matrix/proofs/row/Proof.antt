@@ -32,11 +32,15 @@ loop-again : tie.Need-loop-again Inv-loop μ-loop
 loop-again c =
     let s = c .before .before .before .before .before .before .before in
     let a = s .args in
-    let l = c .before .before .before .before .before .before .loop in
-    (omega arith, omega arith, omega arith, omega arith,
-     row-step (now (a .table)) (now (a .x)) (a .i) (l .d) (l .low) (l .high) _ _ _ _ _
-       (c .before .before .before .before .term .ensures) (c .before .before .before .term2 .ensures) (c .before .before .term3 .ensures) (c .before .term4 .ensures)
-       (c .sum-of-four .ensures) (l .inv .4))
+    let l = c .before .before .before .before .before .before .loop in (
+      omega arith,
+      omega arith,
+      omega arith,
+      omega arith,
+      row-step (now (a .table)) (now (a .x)) (a .i) (l .d) (l .low) (l .high) _ _ _ _ _
+          (c .before .before .before .before .term .ensures) (c .before .before .before .term2 .ensures) (c .before .before .term3 .ensures) (c .before .term4 .ensures)
+          (c .sum-of-four .ensures) (l .inv .4),
+    )
 
 add-reduce : tie.Need-add-reduce Inv-loop μ-loop
 add-reduce c = omega (arith, c .product .ensures, high-fits (c .before .before .before .loop .high) (c .before .wide .result) (omega arith))

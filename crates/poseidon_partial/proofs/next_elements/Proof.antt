@@ -30,11 +30,12 @@ loop-again c =
     let at = 48 * (a .round % 24) in
     let e = c .before .before .before .next-element .result in
     let d : NextElement (getD (now (a .sparse)) (at + 2 * i) 0) (getD (now (a .v)) i 0) (a .y) (a .m) (a .q) e =
-          subst (λ (x : ℕ). NextElement (getD (now (a .sparse)) (at + 2 * i) 0) x (a .y) (a .m) (a .q) e) (l .inv .0 .rest i (omega arith))
-          (subst (λ (x : ℕ). NextElement (getD (now (a .sparse)) (at + 2 * i) 0) (getD (l .v) i 0) x (a .m) (a .q) e) (l .inv .1 i (omega arith)) (c .before .before .before .next-element .ensures)) in
-    (spreading-step e (c .product .result) (l .inv .0) (omega arith) d
-      (c .product .ensures ∙ ap (λ (x : ℕ). lowProduct x e) (c .before .wide .ensures)) (search needs),
-     l .inv .1)
+    subst (λ (x : ℕ). NextElement (getD (now (a .sparse)) (at + 2 * i) 0) x (a .y) (a .m) (a .q) e) (l .inv .0 .rest i (omega arith))
+    (subst (λ (x : ℕ). NextElement (getD (now (a .sparse)) (at + 2 * i) 0) (getD (l .v) i 0) x (a .m) (a .q) e) (l .inv .1 i (omega arith)) (c .before .before .before .next-element .ensures)) in (
+      spreading-step e (c .product .result) (l .inv .0) (omega arith) d
+          (c .product .ensures ∙ ap (λ (x : ℕ). lowProduct x e) (c .before .wide .ensures)) (search needs),
+      l .inv .1,
+    )
 
 returns : tie.Need-returns Inv-loop μ-loop
 returns c = spreading-end (c .before .loop .inv .0) (omega arith)
