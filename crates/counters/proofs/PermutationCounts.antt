@@ -1,15 +1,17 @@
 -- How large counts of permutations can be, so that code can hold them; and places behind the last word count 0.
 -- Assumes nothing.
-use mathlib.Core.Path.{_≡_, ap, _∙_}
+use mathlib.Core.Path.{_≡_, refl, ap, _∙_}
 use mathlib.Core.List.{List}
 use Prim.Native.Nat.{ℕ, zero, suc, _+_, _*_, _/_, _≤_, min}
 use native.Mathlib.Omega.{arith}
 use borrow.Author.Tests.{leb-true, leb-false}
 use lib.Dec.{leb}
-use lib.ListN.{length, getD, List·getD-eq-default}
+use lib.ListN.{length, getD, take, List·getD-eq-default}
+use lib.Seq.{getD-take}
 use Rattle.basics.specs.Logic.{if_then_else_}
 use Rattle.basics.specs.Lists.{sum}
 use Rattle.basics.proofs.Cases.{by, cases}
+use Rattle.basics.proofs.Sums.{sum-same}
 use Rattle.words.specs.Words.{isAbsorb, lengthOf}
 use Rattle.counters.specs.Permutations.{blockCount, phasePermutations}
 use Rattle.words.proofs.WordKinds.{length-below}
@@ -17,6 +19,11 @@ use Rattle.words.proofs.WordKinds.{length-below}
 -- the permutations of a whole phase
 abbrev pub wholePhase : List ℕ → ℕ → ℕ
 wholePhase ws k = phasePermutations (getD ws k 0) (lengthOf (getD ws k 0))
+
+-- a phase with no element done
+pub none-done : (word : ℕ) → phasePermutations word 0 ≡ 0
+unfolding phasePermutations blockCount if_then_else_
+none-done word = by (λ (n : ℕ). n ≡ 0) (isAbsorb word) _ _ (λ _. refl) λ _. refl
 
 pub phase-bound : (word d : ℕ) → phasePermutations word d ≤ (d + 7) / 8
 unfolding phasePermutations blockCount
@@ -49,3 +56,7 @@ sum-stops ws (suc k) =
     let before : sum (min (suc k) (length ws)) (wholePhase ws) ≡ sum k (wholePhase ws) =
     ap (λ (n : ℕ). sum n (wholePhase ws)) same ∙ sum-stops ws k in
     omega (arith, behind-last ws k behind)
+
+-- the phases of the first words are those of the whole list
+pub sum-of-front : (n : ℕ) (ws : List ℕ) → sum n (wholePhase (take n ws)) ≡ sum n (wholePhase ws)
+sum-of-front n ws = sum-same n _ _ (λ k h. ap (λ (w : ℕ). phasePermutations w (lengthOf w)) (getD-take n ws k 0 h))

@@ -1,86 +1,65 @@
 -- `counters::permutations::permutations_at` meets its contract.
 -- Assumes nothing.
-use mathlib.Core.Path.{_≡_, refl, ap, ap₂, _∙_}
-use Prim.Native.Nat.{ℕ, _+_, _-_, _≤_, min}
-use native.Mathlib.Numerals.{add-one}
+use mathlib.Core.Path.{_≡_, sym, ap, ap₂, _∙_}
+use mathlib.Core.List.{List}
+use Prim.Native.Nat.{ℕ, _+_, _≤_, min}
 use native.Mathlib.Omega.{arith}
-use lib.ListN.{length}
+use lib.ListN.{length, take}
+use lib.Seq.{length-take-le}
 use Rattle.basics.specs.Lists.{sum}
-use Rattle.words.specs.Words.{lengthOf}
 use Rattle.counters.specs.Permutations.{phasePermutations, permutationsAt}
-use Rattle.counters.proofs.PermutationCounts.{wholePhase, phase-bound, sum-bound, sum-stops}
+use Rattle.counters.proofs.PermutationCounts.{wholePhase, phase-bound, sum-bound, sum-stops, sum-of-front}
 use borrow.Author.Needs.{needs}
 use Rattle.counters.proofs.permutations.permutations_at.Statement.{statement}
 use Rattle.counters.proofs.permutations.permutations_at.Tie as tie
 
-abbrev Inv-loop : tie.InvT-loop
-Inv-loop words phase done permutations₀ k₀ k-end permutations k = (k ≤ k-end) × (permutations ≡ sum k (wholePhase words))
+-- the words before the place, and how many they are
+front : (c : tie.After-whole-phases-arg) → length (take (c .before .words-before .result) (c .before .before .before .args .words .now)) ≡ c .before .words-before .result
+front c = let few = c .before .words-before .ensures in length-take-le _ _ (omega arith)
 
-abbrev μ-loop : tie.MeasureT-loop
-μ-loop words phase done permutations₀ k₀ k-end permutations k = k-end - k
+slice-aggregate-whole-phases : tie.Need-slice-aggregate-whole-phases
+slice-aggregate-whole-phases c = sym (front c)
 
-loop-holds : tie.Need-loop-holds Inv-loop μ-loop
-unfolding sum
-loop-holds c = (search needs, refl)
+whole-phases-requires : tie.Need-whole-phases-requires
+whole-phases-requires c κs = let long = front c in let few = c .before .words-before .ensures in search needs
 
-add-permutations : tie.Need-add-permutations Inv-loop μ-loop
-add-permutations c =
-    let at-loop = c .before .before .before .before in
-    let at-entry = at-loop .before .before .before in
-    let words = at-entry .args .words .now in
-    let word = c .before .before .phase-word .ensures in
-    let bound = sum-bound words (at-loop .loop .k) in
-    let phase = c .phase-permutations .ensures in
-    let few = phase-bound (c .before .before .phase-word .result) (c .before .length-of .result) in
-    search needs
-
-loop-again : tie.Need-loop-again Inv-loop μ-loop
-unfolding sum
-loop-again c =
-    let at-loop = c .before .before .before .before in
-    let word = c .before .before .phase-word .ensures in
-    let phase = c .phase-permutations .ensures ∙ ap₂ phasePermutations word (c .before .length-of .ensures ∙ ap lengthOf word) in
-    (search needs, rw add-one (ap₂ (λ (a b : ℕ). a + b) (at-loop .loop .inv .1) phase))
-
-add-result : tie.Need-add-result Inv-loop μ-loop
+add-result : tie.Need-add-result
 add-result c =
-    let at-loop = c .before .before .before in
-    let at-entry = at-loop .before .before .before in
-    let words = at-entry .args .words .now in
-    let bound = sum-bound words (at-loop .loop .k) in
-    let phase = c .phase-permutations2 .ensures in
-    let few = phase-bound (c .before .phase-word2 .result) (at-entry .args .done) in
+    let at-words = c .before .before .before in
+    let args = at-words .before .before .before .args in
+    let words = args .words .now in
+    let n = at-words .before .words-before .result in
+    let long = front at-words in
+    let bound = sum-bound (take n words) (length (take n words)) in
+    let whole = c .before .before .whole-phases .ensures in
+    let phase = c .phase-permutations .ensures in
+    let few = phase-bound (c .before .phase-word .result) (args .done) in
     search needs
 
-returns : tie.Need-returns Inv-loop μ-loop
+returns : tie.Need-returns
 unfolding permutationsAt
 returns c =
-    let at-loop = c .before .before .before in
-    let at-entry = at-loop .before .before .before in
-    let words = at-entry .args .words .now in
-    let all-words : at-loop .loop .k ≡ min (at-entry .args .phase) (length words) = omega arith in
+    let at-words = c .before .before .before in
+    let args = at-words .before .before .before .args in
+    let words = args .words .now in
+    let n = at-words .before .words-before .result in
     let before =
-    at-loop .loop .inv .1
-    ∙ ap (λ (k : ℕ). sum k (wholePhase words)) all-words
-    ∙ sum-stops words (at-entry .args .phase) in
-    let now = c .phase-permutations2 .ensures ∙ ap (λ (w : ℕ). phasePermutations w (at-entry .args .done)) (c .before .phase-word2 .ensures) in
+    c .before .before .whole-phases .ensures
+    ∙ ap (λ (k : ℕ). sum k (wholePhase (take n words))) (front at-words)
+    ∙ sum-of-front n words
+    ∙ ap (λ (k : ℕ). sum k (wholePhase words)) (at-words .before .words-before .ensures)
+    ∙ sum-stops words (args .phase) in
+    let now = c .phase-permutations .ensures ∙ ap (λ (w : ℕ). phasePermutations w (args .done)) (c .before .phase-word .ensures) in
     ap₂ (λ (a b : ℕ). a + b) before now
 
 pub permutations-at-spec : {M : Type 1} → statement M
 permutations-at-spec =
     tie.close
     (tie.spec
-    Inv-loop
-    μ-loop
     (λ c κs. search needs)
-    loop-holds
-    (λ c κs. search needs)
-    (λ c κs. search needs)
-    (λ c κs. search needs)
-    add-permutations
     (λ c. search needs)
-    (λ c. search needs)
-    loop-again
+    slice-aggregate-whole-phases
+    whole-phases-requires
     (λ c κs. search needs)
     (λ c κs. search needs)
     add-result
