@@ -184,7 +184,7 @@ def one_more(place):
     return lambda q: q.but(text=with_element(q.text, place, (q.text[place] + 1) % P.get(q.field, P[1]))) if len(q.text) > MARK else q
 
 
-# by number: what earns it, and what it is put into effect by; lengths come first, since the other lists go by them
+# by number: changes of a good question that earn it; those of lengths come first, since they set the text and the buffer too
 FAULTS = {
     "20, lengths": [with_lengths([]), with_lengths([1] * 32), with_lengths([3, 0]), lengths_alone([3, LIMIT + 1]), lengths_alone([LARGEST, 4])],
     "20": [change(name) for name in ("key", "nonce", "text") for change in (shorter, longer)] + [

@@ -663,8 +663,8 @@ fn notes_with_a_changed_element_do_not_open() {
     }
 }
 
-/// A number and what earns it in a good call. No two of them together make a good call: a list is cut short by at least two elements,
-/// so that one element more does not mend it.
+/// A number and what earns it in a good call. A list is cut short by at least two elements, so that it does not get the length needed when one
+/// element is added too.
 type SealFault = (u32, fn(&mut SealCall));
 
 const SEAL_FAULTS: [SealFault; 19] = [
@@ -721,6 +721,12 @@ fn longest_block() {
     for (length, number) in [(LIMIT, 10), (LIMIT + 1, 20)] {
         let mut call = SealCall::sealing(2, &[length]);
         call.key[7] = P_2;
+        let before = call.out.clone();
+        assert_eq!(call.perform(), number);
+        assert!(call.out == before);
+        // What was the buffer has the length of a sealed list, and what was the text that of the blocks.
+        call.opening = true;
+        std::mem::swap(&mut call.text, &mut call.out);
         let before = call.out.clone();
         assert_eq!(call.perform(), number);
         assert!(call.out == before);
