@@ -1,22 +1,27 @@
-//! The stored questions of `seal_vectors`, sealed and opened by the independent implementation.
+//! The stored questions of `seal_vectors`, sealed and opened through the functions of `ffi`, the crate's types and the independent implementation.
 //! Their answers are those of the second implementation, in Python, by other hands (`tests/oracle`). The lines are described at the top
 //! of `tests/seal.py`.
 
+mod guarded;
 mod independent;
+#[macro_use]
+mod same_fields;
+mod inputs;
+mod interfaces;
 mod stored;
 
+use guarded::Random;
 use independent::SealInputs;
+use inputs::FILLED;
+use interfaces::{Functions, Independent, Interface, Types};
 use stored::{bytes_of, words_of, Line};
 
 const FOLDER: &str = "seal_vectors";
 /// The lines that seal and open.
 const LINES: [(&str, usize); 2] = [("s ", 880), ("o ", 1454)];
 
-/// What each place of a lent buffer holds before the call: no element of either field, so that a place left alone shows.
-const FILLED: u32 = 0xa5a5a5a5;
-
 /// The line of output for a line of input.
-fn answer(input: &str) -> String {
+fn answer(by: &dyn Interface, noise: &mut Random, input: &str) -> String {
     let [kind, field, key, nonce, separator, lengths, text, size] = input.split(' ').collect::<Vec<_>>()[..] else {
         panic!("no line of eight fields");
     };
@@ -29,16 +34,16 @@ fn answer(input: &str) -> String {
     };
     let mut buffer = vec![FILLED; usize::from_str_radix(size, 16).unwrap()];
     let number = match kind {
-        "s" => independent::seal(&inputs, &words_of(text), &mut buffer),
-        "o" => independent::open(&inputs, &words_of(text), &mut buffer),
+        "s" => by.seal(noise, &inputs, &words_of(text), &mut buffer),
+        "o" => by.open(noise, &inputs, &words_of(text), &mut buffer),
         _ => panic!("no such kind of line"),
     };
     let left: String = buffer.iter().map(|place| format!("{place:08x}")).collect();
     format!("{kind} {number} {left}")
 }
 
-#[test]
-fn independent_implementation_gives_the_stored_answers() {
+fn replay_all(by: &dyn Interface) {
+    let mut noise = Random::new(1);
     let inputs = stored::lines_beside_tests(FOLDER, "stdin");
     let outputs = stored::lines_beside_tests(FOLDER, "stdout");
     assert_eq!(inputs.len(), outputs.len());
@@ -48,6 +53,21 @@ fn independent_implementation_gives_the_stored_answers() {
     }
     for (k, (input, output)) in inputs.iter().zip(&outputs).enumerate() {
         let _line = Line(k + 1, input);
-        assert_eq!(answer(input), *output);
+        assert_eq!(answer(by, &mut noise, input), *output);
     }
+}
+
+#[test]
+fn functions_give_the_stored_answers() {
+    replay_all(&Functions);
+}
+
+#[test]
+fn types_give_the_stored_answers() {
+    replay_all(&Types);
+}
+
+#[test]
+fn independent_implementation_gives_the_stored_answers() {
+    replay_all(&Independent);
 }
