@@ -384,7 +384,10 @@ fn each_refusal_alone_and_in_pairs(library: &'static dyn Interface) {
     run.assert_reached("seal", &[6, 10, 18, 20]);
     run.assert_reached("open", &[6, 10, 18, 20]);
     // a good call, each alone and in pairs, without 21 where there is no mark and without that twice
-    assert_eq!(run.total(&["seal", "open"]), 2 * (2 + (30 + 30 * 30) + (31 + 31 * 31 - 1)));
+    assert_eq!(
+        run.total(&["seal", "open"]),
+        2 * (2 + (30 + 30 * 30) + (31 + 31 * 31 - 1))
+    );
 }
 
 /// Each list of length 0, alone and with all others: 20, or with the separator nothing.
