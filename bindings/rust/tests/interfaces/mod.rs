@@ -216,6 +216,9 @@ pub fn check_protocol(protocol: &Protocol, field: Field, words: &[u32], separato
     assert_eq!(protocol.tag_string(), &string[..size], "the protocol's tag string");
 }
 
+/// Sealing or opening, of a text and a buffer.
+type OfSeal = fn(&Seal, &[u32], &mut [u32]) -> Result<(), Refusal>;
+
 /// A note sealed or opened by the types, in lent lists. No type holds an unknown field, or a key or nonce of another length than eight: these are not
 /// asked for, and get nothing.
 fn note_by_types(
@@ -223,7 +226,7 @@ fn note_by_types(
     inputs: &SealInputs,
     text: &[u32],
     out: &mut [u32],
-    call: fn(&Seal, &[u32], &mut [u32]) -> Result<(), Refusal>,
+    call: OfSeal,
 ) -> Option<u32> {
     let field = field_of(inputs.field)?;
     let (key, nonce) = (inputs.key.try_into().ok()?, inputs.nonce.try_into().ok()?);
