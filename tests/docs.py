@@ -276,6 +276,27 @@ def stream(out):
     out.append(f"random {random[:3]}, reseeded {random[3:]}")
 
 
+def sealed_note(out):
+    """Two blocks, of 3 and 2 elements; the buffer that is opened into holds sevens before."""
+    def called(call, text, length):
+        return call(1, [*range(1, 9)], [0] * 7 + [1], b"coin", [3, 2], text, [7] * length)
+    def ciphers(*notes):
+        return [called(oracle.seal, note, 13)[1][:5] for note in notes]
+    opened(out, "a16 s3 a3 s2 a2 s8", b"coin")
+    note = [10, 20, 30, 400, 500]
+    number, sealed = called(oracle.seal, note, 13)
+    refuse(number)
+    out += [f"cipher {sealed[:5]}", f"mark {sealed[5:]}"]
+    number, plain = called(oracle.open_note, sealed, 5)
+    refuse(number)
+    out.append(f"the sealed note opens to {plain}")
+    number, plain = called(oracle.open_note, sealed[:4] + [(sealed[4] + 1) % P] + sealed[5:], 5)
+    out.append(f"with an element changed it is {Refused(number)}; it gives {plain}")
+    for other in ([10, 20, 30, 401, 502], [11, 20, 30, 400, 500]):
+        first, second = ciphers(note, other)
+        out.append(f"{note} and {other}: ciphers differ by {[(y - x) % P for x, y in zip(first, second)]}")
+
+
 def shared_separator(out):
     for payment, refund in ((b"house", b"house"), (b"house/p", b"house/r")):
         out.append(f"payment {whole(out, 'a4 s1', payment, [5, 6, 7, 8])[0]}")
