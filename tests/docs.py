@@ -409,7 +409,7 @@ FIGURES = {
                       "| power in a round | {power1} | {power2} |", "| round constants | {c1} | {c2} |", "from 0 to {largest} for BabyBear",
                       "| rounds of a permutation: full, partial, full | {full}, {partial1}, {full} | {full}, {partial2}, {full} |",
                       "at most {words} calls, of at most {call} elements each", "One declared call has at most {call} elements.",
-                      "calls of {call} elements and any rest"),
+                      "calls of {call} elements and any rest", "A note has 1 to 31 blocks, of 1 to {call} elements each."),
     "bindings/c/tuilarder.h": ("KoalaBear's. BabyBear has {c1}.", "{c1} of BabyBear, {c2} of KoalaBear"),
     "bindings/rust/src/lib.rs": ("BabyBear (p = {p1}) or KoalaBear (p = {p2})", "{c1} of BabyBear, {c2} of KoalaBear"),
     "bindings/rust/src/field.rs": ("Number 1, with p = {p1}. BabyBear = 1,", "Number 2, with p = {p2}. KoalaBear = 2,"),
