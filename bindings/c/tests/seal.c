@@ -382,7 +382,7 @@ static void test_faults(const struct call *good)
     }
 }
 
-/* 20 for 32 blocks with all else exact, and for lengths whose sum is right in 32 bits. */
+/* 20 for 32 blocks with all else exact for them, or for the first 31, and for lengths whose sum is right in 32 bits. */
 static void test_lengths(uint32_t field)
 {
     static const uint32_t wrapping[][3] = {{UINT32_MAX, 4, 0}, {A, A, 3}, {3 | A, A, 0}, {LIMIT + 3, 0, 0}};
@@ -392,6 +392,9 @@ static void test_lengths(uint32_t field)
     for (size_t i = 0; i < 32; i++)
         ones[i] = 1;
     call = sealing(field, ones, 32);
+    check_refused(&call, TUILARDER_SEAL_LENGTH_INVALID);
+    call.text.length = 31;
+    call.out_length = 39;
     check_refused(&call, TUILARDER_SEAL_LENGTH_INVALID);
     call.opens = 1;
     call.text.length = 40;

@@ -28,7 +28,10 @@ fn print_opened(what: &str, sealed: &Sealed) {
     let mut note: Note = [7; 5];
     match SEAL.open(sealed, &mut note) {
         Ok(()) => println!("{what} opens to {note:?}"),
-        Err(refusal) => println!("{what} is refused with {}: {refusal}; it gives {note:?}", refusal.number()),
+        Err(refusal) => println!(
+            "{what} is refused with {}: {refusal}; it gives {note:?}",
+            refusal.number()
+        ),
     }
 }
 

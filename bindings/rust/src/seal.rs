@@ -5,9 +5,9 @@ use crate::field::Field;
 use crate::refusal::{result, Refusal};
 
 /// What a note is sealed with and opened with: a field, a key, a nonce, a separator and the lengths of the note's blocks. Sealing is encryption
-/// that authenticates (Algorithm 7 of the paper on SAFE): it gives a cipher element for each element of the note, and a mark behind them.
-/// [`Seal::open`] gives the note back only where the mark is right; with anything else than it was sealed with, or with an element changed, it is
-/// [`Refusal::MarkDiffers`] (21), and the buffer holds zeros.
+/// that authenticates (Algorithm 7 of the paper on SAFE): it gives a cipher element for each element of the note, and a mark behind them. With the
+/// same five, [`Seal::open`] gives the note back. Where the mark is not that of what is opened, it is [`Refusal::MarkDiffers`] (21), the buffer holds
+/// zeros, and nothing of the note is handed out.
 ///
 /// ```
 /// use tuilarder::{Field, Refusal, Seal};

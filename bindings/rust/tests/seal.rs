@@ -104,8 +104,17 @@ fn every_number_of_blocks(library: &'static dyn Interface) {
             let text = (0..count + 8).map(|_| good_element(&mut run.random, field)).collect();
             assert_refused(run, &sealing.opening(text), 20);
         }
+        // the first of these lengths are those of the note, also where how many there are is cut to 8 or 16 bits
+        for (count, more) in [(31, 1), (31, 2), (1, 256), (2, 512), (1, 65_536)] {
+            let sealing = NoteCall::sealing(&mut run.random, field, &vec![1; count]);
+            let opening = round_trip(run, &sealing);
+            for mut call in [sealing, opening] {
+                call.lengths.resize(count + more, 1);
+                assert_refused(run, &call, 20);
+            }
+        }
     });
-    assert_eq!(run.total(&["seal", "open"]), 2 * 2 * 42);
+    assert_eq!(run.total(&["seal", "open"]), 2 * (2 * 42 + 5 * 4));
 }
 
 /// A session's record, driven by the library's own calls.

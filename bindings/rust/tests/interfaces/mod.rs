@@ -221,13 +221,7 @@ type OfSeal = fn(&Seal, &[u32], &mut [u32]) -> Result<(), Refusal>;
 
 /// A note sealed or opened by the types, in lent lists. No type holds an unknown field, or a key or nonce of another length than eight: these are not
 /// asked for, and get nothing.
-fn note_by_types(
-    noise: &mut Random,
-    inputs: &SealInputs,
-    text: &[u32],
-    out: &mut [u32],
-    call: OfSeal,
-) -> Option<u32> {
+fn note_by_types(noise: &mut Random, inputs: &SealInputs, text: &[u32], out: &mut [u32], call: OfSeal) -> Option<u32> {
     let field = field_of(inputs.field)?;
     let (key, nonce) = (inputs.key.try_into().ok()?, inputs.nonce.try_into().ok()?);
     let (keys, separator) = (Lent::new(&[key, nonce], noise), Lent::new(inputs.separator, noise));
