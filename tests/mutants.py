@@ -642,7 +642,7 @@ NONE = {
 
 # What the crate's or the header's own assertions or types turn down, before any test.
 COMPILER = {"rate", "record_layout", "record_fields", "record_positions", "record_words", "record_without_field", "max_round_constants", "field_by_move",
-            "c_width", "c_max_words", "c_fields", "c_positions", "c_offset", "c_size", "max_words"}
+            "ffi_seal_const", "ffi_seal_text", "ffi_open_const", "c_width", "c_max_words", "c_fields", "c_positions", "c_offset", "c_size", "max_words"}
 
 
 # ---- the list of faults
