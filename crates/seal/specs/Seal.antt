@@ -142,11 +142,8 @@ unfoldable pub soundLengths : List ℕ → Bool
 soundLengths ns = leb 1 (length ns) and leb (length ns) maxBlocks and all (λ n. leb 1 n and leb n maxCall) ns
 
 -- "10, which covers key, nonce and plain elements, on opening cipher and mark in place of plain"
-unfoldable pub areElements : Context → List ℕ → Bool
-areElements c text =
-    all (isElement (fieldOfContext c)) (c .key)
-    and all (isElement (fieldOfContext c)) (c .nonce)
-    and all (isElement (fieldOfContext c)) text
+unfoldable pub areElements : Field → List ℕ → List ℕ → List ℕ → Bool
+areElements f key nonce text = all (isElement f) key and all (isElement f) nonce and all (isElement f) text
 
 -- the rows that sealing and opening share, "after START's own 18 and 6, before 10", for a buffer of so many places: "or any other lent list or buffer, key
 -- and nonce too, whose length isn't exactly what is needed", which is that of the blocks, with the mark's in the text or in the buffer
@@ -159,7 +156,7 @@ noteRows c text textMark buffer bufferMark =
     not (eqb (length (c .nonce)) nonceLength) gets sealLengthInvalid ⨾
     not (eqb (length text) (total (c .lengths) + textMark)) gets sealLengthInvalid ⨾
     not (eqb buffer (total (c .lengths) + bufferMark)) gets sealLengthInvalid ⨾
-    not (areElements c text) gets elementNotReduced ⨾
+    not (areElements (fieldOfContext c) (c .key) (c .nonce) text) gets elementNotReduced ⨾
     []
 
 -- sealing: the mark needs room behind the cipher elements

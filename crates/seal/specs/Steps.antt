@@ -10,5 +10,5 @@ use Rattle.seal.specs.Seal.{afterBlock}
 
 -- each plain block's SQUEEZE is accepted
 unfoldable pub Squeezes : Session → List (List ℕ) → Type 0
-Squeezes r [] = ⊤
+Squeezes r [] = Unit {0}
 Squeezes r (plain ∷ blocks) = (squeeze r (length plain) .number ≡ accepted) × Squeezes (afterBlock r plain) blocks

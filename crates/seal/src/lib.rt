@@ -63,18 +63,16 @@ fn total(lengths: &[u32]) -> usize
 }
 
 // Whether key, nonce and text are elements of a field.
-fn are_elements(field: u32, key: &[u32], nonce: &[u32], separator: &[u8], lengths: &[u32], text: &[u32]) -> bool
-    ensures { λ r. ⌜ r ≡ areElements (context field (now (key .entry)) (now (nonce .entry)) (now (separator .entry)) (now (lengths .entry)))
-        (now (text .entry)) ⌝ }
+fn are_elements(field: Field, key: &[u32], nonce: &[u32], text: &[u32]) -> bool
+    ensures { λ r. ⌜ r ≡ areElements field (now (key .entry)) (now (nonce .entry)) (now (text .entry)) ⌝ }
 {
-    let named = field::field_of(field);
-    if !field::is_reduced(named, key) {
+    if !field::is_reduced(field, key) {
         return false;
     }
-    if !field::is_reduced(named, nonce) {
+    if !field::is_reduced(field, nonce) {
         return false;
     }
-    field::is_reduced(named, text)
+    field::is_reduced(field, text)
 }
 
 // The number of the first row that applies, of those that sealing and opening share.
@@ -115,7 +113,7 @@ fn note_number(
     if buffer != size + buffer_mark {
         return basics::SEAL_LENGTH_INVALID;
     }
-    if !are_elements(field, key, nonce, separator, lengths, text) {
+    if !are_elements(field::field_of(field), key, nonce, text) {
         return basics::ELEMENT_NOT_REDUCED;
     }
     basics::ACCEPTED
@@ -247,11 +245,11 @@ fn open_blocks(field: Field, record: Session, lengths: &[u32], note: &[u32], out
 }
 
 // Whether a mark is what stands in a list.
-fn is_mark(mark: &[u32; 8], given: &[u32]) -> bool
-    requires { ⌜ length (now given) ≡ 8 ⌝ }
+fn is_mark(mark: &[u32], given: &[u32]) -> bool
+    requires { ⌜ length (now mark) ≡ length (now given) ⌝ }
     ensures { λ r. ⌜ r ≡ isMark (now (mark .entry)) (now (given .entry)) ⌝ }
 {
-    for i in 0..8 {
+    for i in 0..given.len() {
         if mark[i] != given[i] {
             return false;
         }

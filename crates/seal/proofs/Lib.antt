@@ -1,0 +1,4 @@
+pub mod Overwrite
+pub mod Lengths
+pub mod Marks
+pub mod Words
