@@ -44,3 +44,12 @@ total-step ns i h = rw (add-one, drop-cons ns i 0)
 pub total-end : (ns : List ℕ) (i : ℕ) → length ns ≤ i → total (drop i ns) ≡ 0
 unfolding total
 total-end ns i h = rw (drop-of-length-le ns h)
+
+-- it is small
+total-most : (ns : List ℕ) → all declarable ns ≡ true → total ns ≤ 16777216 * length ns
+unfolding total all
+total-most [] e = omega arith
+total-most (n ∷ ns) e = omega (arith, length-bounds n (and-left _ _ e), total-most ns (and-right _ _ e))
+
+pub total-fits : (ns : List ℕ) → Declarable ns → total ns ≤ 520093696
+total-fits ns d = omega (arith, total-most ns (d .each), d .few)

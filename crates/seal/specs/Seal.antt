@@ -13,7 +13,7 @@ use Rattle.field.specs.Field.{modulus, isField, fieldOf, isElement}
 use Rattle.field.specs.declared.Field.{Field}
 use Rattle.words.specs.Words.{wordOf}
 use Rattle.pattern.specs.Opening.{opening, maxSeparator, maxCall}
-use Rattle.session.specs.Record.{squeezedAll}
+use Rattle.session.specs.Record.{fieldIn, squeezedAll}
 use Rattle.session.specs.Calls.{start, absorb, squeeze}
 use Rattle.session.specs.declared.Session.{Session}
 
@@ -96,15 +96,15 @@ unfoldable pub minus : Field → List ℕ → List ℕ → List ℕ
 minus f = zipWith (λ x y. (x + (modulus f - y)) % modulus f)
 
 -- Algorithm 7: "(C_1 + D_1) (C_2 + D_2) .. (C_b + D_b)", of the plain blocks
-unfoldable pub cipherBlocks : Field → Session → List (List ℕ) → List (List ℕ)
-cipherBlocks f r [] = []
-cipherBlocks f r (plain ∷ blocks) = plus f plain (keystream r plain) ∷ cipherBlocks f (afterBlock r plain) blocks
+unfoldable pub cipherBlocks : Session → List (List ℕ) → List (List ℕ)
+cipherBlocks r [] = []
+cipherBlocks r (plain ∷ blocks) = plus (fieldIn r) plain (keystream r plain) ∷ cipherBlocks (afterBlock r plain) blocks
 
 -- "Opening gives the blocks back": of the cipher blocks, with each plain block absorbed as sealing does
-unfoldable pub plainBlocks : Field → Session → List (List ℕ) → List (List ℕ)
-plainBlocks f r [] = []
-plainBlocks f r (cipher ∷ blocks) =
-    let plain = minus f cipher (keystream r cipher) in plain ∷ plainBlocks f (afterBlock r plain) blocks
+unfoldable pub plainBlocks : Session → List (List ℕ) → List (List ℕ)
+plainBlocks r [] = []
+plainBlocks r (cipher ∷ blocks) =
+    let plain = minus (fieldIn r) cipher (keystream r cipher) in plain ∷ plainBlocks (afterBlock r plain) blocks
 
 -- Algorithm 7: "S <- SQUEEZE(1)", here "8 elements are squeezed as the mark. The paper squeezes one"; of the plain blocks
 unfoldable pub markOf : Session → List (List ℕ) → List ℕ
@@ -119,11 +119,11 @@ blocksOf (n ∷ ns) text = take n text ∷ blocksOf ns (drop n text)
 unfoldable pub sealed : Context → List ℕ → List ℕ
 sealed c plain =
     let blocks = blocksOf (c .lengths) plain in
-    joined (cipherBlocks (fieldOfContext c) (keyed c) blocks) ++ markOf (keyed c) blocks
+    joined (cipherBlocks (keyed c) blocks) ++ markOf (keyed c) blocks
 
 -- the blocks that a text opens to, which is the cipher elements and then the mark
 unfoldable pub unsealed : Context → List ℕ → List (List ℕ)
-unsealed c text = plainBlocks (fieldOfContext c) (keyed c) (blocksOf (c .lengths) text)
+unsealed c text = plainBlocks (keyed c) (blocksOf (c .lengths) text)
 
 -- "compares the mark": what stands behind the cipher elements is the mark of those blocks
 unfoldable pub isMark : List ℕ → List ℕ → Bool

@@ -11,7 +11,7 @@ ghost use Rattle.basics.specs.Lists.{Below, joined, total};
 ghost use Rattle.basics.specs.Numbers.{accepted};
 ghost use Rattle.basics.specs.Refusals.{firstNumber};
 ghost use Rattle.field.specs.Field.{modulus};
-ghost use Rattle.session.specs.Record.{squeezedAll};
+ghost use Rattle.session.specs.Record.{fieldIn, squeezedAll};
 ghost use Rattle.session.specs.Calls.{squeeze};
 ghost use Rattle.seal.specs.Seal.{context, sealWords, keyed, keystream, afterBlock, afterBlocks, plus, minus, cipherBlocks, plainBlocks, blocksOf, isMark, soundLengths, areElements, noteRows, leaving, sealNote, openNote};
 ghost use Rattle.seal.specs.Steps.{Squeezes};
@@ -183,43 +183,43 @@ fn take_from(field: Field, block: &[u32], squeezed: &mut [u32])
 }
 
 // One block sealed; and the record afterwards.
-fn seal_block(field: Field, record: Session, plain: &[u32], cipher: &mut [u32]) -> Session
+fn seal_block(record: Session, plain: &[u32], cipher: &mut [u32]) -> Session
     requires { ⌜ (length (now plain) ≡ length (now cipher)) × (squeeze «record» (length (now plain)) .number ≡ accepted) ⌝ }
     ensures { λ r. ⌜ (r ≡ afterBlock «record» (now (plain .entry))) ×
-        (now (cipher .exit) ≡ plus field (now (plain .entry)) (keystream «record» (now (plain .entry)))) ⌝ }
+        (now (cipher .exit) ≡ plus (fieldIn «record») (now (plain .entry)) (keystream «record» (now (plain .entry)))) ⌝ }
 {
     let squeezed = record.squeeze_step(cipher);
-    add_to(field, plain, cipher);
+    add_to(field::field_of(record.field), plain, cipher);
     let next = squeezed.session;
     let absorbed = next.absorb_step(plain);
     absorbed.session
 }
 
 // One block opened; and the record afterwards.
-fn open_block(field: Field, record: Session, cipher: &[u32], plain: &mut [u32]) -> Session
+fn open_block(record: Session, cipher: &[u32], plain: &mut [u32]) -> Session
     requires { ⌜ (length (now cipher) ≡ length (now plain)) × (squeeze «record» (length (now cipher)) .number ≡ accepted) ⌝ }
-    ensures { λ r. ⌜ (now (plain .exit) ≡ minus field (now (cipher .entry)) (keystream «record» (now (cipher .entry)))) ×
+    ensures { λ r. ⌜ (now (plain .exit) ≡ minus (fieldIn «record») (now (cipher .entry)) (keystream «record» (now (cipher .entry)))) ×
         (r ≡ afterBlock «record» (now (plain .exit))) ⌝ }
 {
     let squeezed = record.squeeze_step(plain);
-    take_from(field, cipher, plain);
+    take_from(field::field_of(record.field), cipher, plain);
     let next = squeezed.session;
     let absorbed = next.absorb_step(plain);
     absorbed.session
 }
 
 // All blocks sealed, one after the other; and the record afterwards.
-fn seal_blocks(field: Field, record: Session, lengths: &[u32], plain: &[u32], out: &mut [u32]) -> Session
+fn seal_blocks(record: Session, lengths: &[u32], plain: &[u32], out: &mut [u32]) -> Session
     requires { ⌜ (total (now lengths) ≤ length (now plain)) × (total (now lengths) ≡ length (now out)) ×
         Squeezes «record» (blocksOf (now lengths) (now plain)) ⌝ }
     ensures { λ r. ⌜ (r ≡ afterBlocks «record» (blocksOf (now (lengths .entry)) (now (plain .entry)))) ×
-        (now (out .exit) ≡ joined (cipherBlocks field «record» (blocksOf (now (lengths .entry)) (now (plain .entry))))) ⌝ }
+        (now (out .exit) ≡ joined (cipherBlocks «record» (blocksOf (now (lengths .entry)) (now (plain .entry))))) ⌝ }
 {
     let mut last = record;
     let mut at: usize = 0;
     for i in 0..lengths.len() {
         let end = at + lengths[i] as usize;
-        let next = seal_block(field, last, &plain[at..end], &mut out[at..end]);
+        let next = seal_block(last, &plain[at..end], &mut out[at..end]);
         last = next;
         at = end;
     }
@@ -227,17 +227,17 @@ fn seal_blocks(field: Field, record: Session, lengths: &[u32], plain: &[u32], ou
 }
 
 // All blocks opened, one after the other; and the record afterwards.
-fn open_blocks(field: Field, record: Session, lengths: &[u32], note: &[u32], out: &mut [u32]) -> Session
+fn open_blocks(record: Session, lengths: &[u32], note: &[u32], out: &mut [u32]) -> Session
     requires { ⌜ (total (now lengths) ≤ length (now note)) × (total (now lengths) ≡ length (now out)) ×
-        Squeezes «record» (plainBlocks field «record» (blocksOf (now lengths) (now note))) ⌝ }
-    ensures { λ r. ⌜ (r ≡ afterBlocks «record» (plainBlocks field «record» (blocksOf (now (lengths .entry)) (now (note .entry))))) ×
-        (now (out .exit) ≡ joined (plainBlocks field «record» (blocksOf (now (lengths .entry)) (now (note .entry))))) ⌝ }
+        Squeezes «record» (plainBlocks «record» (blocksOf (now lengths) (now note))) ⌝ }
+    ensures { λ r. ⌜ (r ≡ afterBlocks «record» (plainBlocks «record» (blocksOf (now (lengths .entry)) (now (note .entry))))) ×
+        (now (out .exit) ≡ joined (plainBlocks «record» (blocksOf (now (lengths .entry)) (now (note .entry))))) ⌝ }
 {
     let mut last = record;
     let mut at: usize = 0;
     for i in 0..lengths.len() {
         let end = at + lengths[i] as usize;
-        let next = open_block(field, last, &note[at..end], &mut out[at..end]);
+        let next = open_block(last, &note[at..end], &mut out[at..end]);
         last = next;
         at = end;
     }
@@ -296,7 +296,7 @@ pub fn seal(
     }
     let record = open_session(field, key, nonce, separator, lengths);
     let size = plain.len();
-    let last = seal_blocks(field::field_of(field), record, lengths, plain, &mut out[..size]);
+    let last = seal_blocks(record, lengths, plain, &mut out[..size]);
     let marked = last.squeeze_step(&mut out[size..]);
     marked.number
 }
@@ -322,7 +322,7 @@ pub fn open(
     }
     let record = open_session(field, key, nonce, separator, lengths);
     let size = out.len();
-    let last = open_blocks(field::field_of(field), record, lengths, note, out);
+    let last = open_blocks(record, lengths, note, out);
     if has_mark(last, &note[size..]) {
         return basics::ACCEPTED;
     }
