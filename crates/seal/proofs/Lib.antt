@@ -5,3 +5,5 @@ pub mod Words
 pub mod Calls
 pub mod Passes
 pub mod Blocks
+pub mod Pattern
+pub mod Phases
