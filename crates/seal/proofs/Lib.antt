@@ -7,3 +7,5 @@ pub mod Passes
 pub mod Blocks
 pub mod Pattern
 pub mod Phases
+pub mod Rows
+pub mod Accepted
