@@ -6,10 +6,10 @@ use mathlib.Core.List.{List, [], _∷_, _++_, zipWith}
 use Prim.Native.Nat.{ℕ, _+_, _-_, _%_, _≤_, _<_}
 use native.Mathlib.Nat.{mod-lt}
 use native.Mathlib.Omega.{arith}
-use lib.ListN.{length, take, drop, length-append, length-drop}
+use lib.ListN.{length, take, drop, length-append, length-drop, take-append-drop}
 use lib.Seq.{length-take-le}
 use Rattle.basics.specs.Logic.{all}
-use Rattle.basics.specs.Lists.{Below, total}
+use Rattle.basics.specs.Lists.{joined, total}
 use Rattle.basics.specs.Numbers.{accepted}
 use Rattle.basics.proofs.Below.{below-nil, below-cons, below-take}
 use Rattle.basics.proofs.Cases.{and-left, and-right, all-both, all-append}
@@ -24,10 +24,10 @@ use Rattle.session.specs.Calls.{start, absorb, squeeze, finish}
 use Rattle.session.specs.declared.Session.{Session}
 use Rattle.runs.proofs.Opened.{accepted-start}
 use Rattle.runs.proofs.Counted.{start-field}
-use Rattle.seal.specs.Seal.{Context, absorbWord, squeezeWord, blockWords, sealWords, started, keyed, keystream, afterBlock, afterBlocks, minus, plainBlocks, blocksOf}
+use Rattle.seal.specs.Seal.{Context, absorbWord, squeezeWord, blockWords, sealWords, started, keyed, keystream, afterBlock, afterBlocks, plus, minus, cipherBlocks, plainBlocks, blocksOf}
 use Rattle.seal.specs.Steps.{Squeezes}
 use Rattle.seal.proofs.Lengths.{declarable, Declarable, length-bounds}
-use Rattle.seal.proofs.Blocks.{minus-length}
+use Rattle.seal.proofs.Blocks.{plus-length, minus-length}
 use Rattle.seal.proofs.Pattern.{words-merged, words-accepted}
 use Rattle.seal.proofs.Phases.{At, Squeezed, Absorbed, at-start, at-end, squeeze-phase, absorb-phase}
 use Rattle.seal.proofs.Rows.{Passed}
@@ -48,7 +48,20 @@ module _ (f : Field) where
       (text-fits ns (drop n text) (omega (arith, length-drop n text)) (below-drop n text e))
     where
       below-drop : (n : ℕ) (text : List ℕ) → all (isElement f) text ≡ true → all (isElement f) (drop n text) ≡ true
-      below-drop n text e = all-append (isElement f) (take n text) (drop n text) (rw (lib.ListN.take-append-drop n text) e) .1
+      below-drop n text e = all-append (isElement f) (take n text) (drop n text) (rw (take-append-drop n text) e) .1
+
+  -- how many elements they have
+  pub fit-long : {ns : List ℕ} {blocks : List (List ℕ)} → Fit f ns blocks → length (joined blocks) ≡ total ns
+  unfolding total joined
+  fit-long none = refl
+  fit-long (more {block = block} {blocks = blocks} size _ fit) = omega (arith, length-append block (joined blocks), size, fit-long fit)
+
+  pub cipher-long : {ns : List ℕ} {blocks : List (List ℕ)} → Fit f ns blocks → (r : Session) → length (joined (cipherBlocks r blocks)) ≡ total ns
+  unfolding total joined cipherBlocks
+  cipher-long none r = refl
+  cipher-long (more {block = block} {blocks = blocks} size _ fit) r =
+      let cipher = plus (fieldIn r) block (keystream r block) in
+      omega (arith, length-append cipher (joined (cipherBlocks (afterBlock r block) blocks)), plus-length r block (fieldIn r), size, cipher-long fit (afterBlock r block))
 
   -- a session that is to squeeze and absorb blocks of these lengths next, and then to squeeze the mark
   pub record Ready (ns : List ℕ) (r : Session) : Type 0 where

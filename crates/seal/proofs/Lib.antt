@@ -9,3 +9,5 @@ pub mod Pattern
 pub mod Phases
 pub mod Rows
 pub mod Accepted
+pub mod Outcomes
+pub mod Parts

@@ -13,12 +13,13 @@ use Rattle.basics.specs.Numbers.{accepted}
 use Rattle.basics.specs.Refusals.{firstNumber}
 use Rattle.basics.proofs.Cases.{by, and-left, and-right}
 use Rattle.field.specs.Field.{isField, fieldOf, isElement}
-use Rattle.seal.specs.Seal.{Context, areElements, noteRows}
+use Rattle.seal.specs.Seal.{Context, soundLengths, areElements, noteRows}
 use Rattle.seal.proofs.Lengths.{Declarable, lengths-sound}
 
 pub record Passed (c : Context) (text : List ℕ) (textMark buffer bufferMark : ℕ) : Type 0 where
   pub known : isField (c .field) ≡ true
   pub short : length (c .separator) ≤ 256
+  pub sound : soundLengths (c .lengths) ≡ true
   pub lengths : Declarable (c .lengths)
   pub key-long : length (c .key) ≡ 8
   pub nonce-long : length (c .nonce) ≡ 8
@@ -48,6 +49,7 @@ module _ (c : Context) (text : List ℕ) (textMark buffer bufferMark : ℕ) wher
       record {
         known = not-false _ known;
         short = ltb-false 256 _ short;
+        sound = not-false _ lengths;
         lengths = lengths-sound _ (not-false _ lengths);
         key-long = eqb-true _ _ (not-false _ key);
         nonce-long = eqb-true _ _ (not-false _ nonce);
