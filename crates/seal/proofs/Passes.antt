@@ -76,12 +76,13 @@ module _ (outs : Session → List (List ℕ) → List (List ℕ)) (ends : Sessio
           record {
             within = omega arith;
             sum = omega (arith, p .sum, total-step lengths i h);
-            long = omega
-                (arith,
-                length-append (take at out) (block ++ behind),
-                length-append block behind,
-                length-drop n (drop at out),
-                length-drop at out);
+            long = omega (
+              arith,
+              length-append (take at out) (block ++ behind),
+              length-append block behind,
+              length-drop n (drop at out),
+              length-drop at out,
+            );
             written = ap (λ (l : List ℕ). take (at + n) l ++ joined (outs next blocks)) (sym (append-assoc (take at out) block behind))
                 ∙ ap (λ (l : List ℕ). l ++ joined (outs next blocks))
                 (take-at (take at out ++ block) behind (at + n) (omega (arith, length-append (take at out) block)))

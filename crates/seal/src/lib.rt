@@ -148,7 +148,13 @@ fn key_and_nonce(key: &[u32], nonce: &[u32]) -> [u32; 16]
 }
 
 // The session of a note, with key and nonce absorbed.
-fn open_session(field: u32, key: &[u32], nonce: &[u32], separator: &[u8], lengths: &[u32]) -> Session
+fn open_session(
+    field: u32,
+    key: &[u32],
+    nonce: &[u32],
+    separator: &[u8],
+    lengths: &[u32],
+) -> Session
     requires { ⌜ (length (now key) ≡ 8) × (length (now nonce) ≡ 8) × (soundLengths (now lengths) ≡ true) ⌝ }
     ensures { λ r. ⌜ r ≡ keyed (context field (now (key .entry)) (now (nonce .entry)) (now (separator .entry)) (now (lengths .entry))) ⌝ }
 {
@@ -290,7 +296,17 @@ pub fn seal(
         sealNote (context field (now (key .entry)) (now (nonce .entry)) (now (separator .entry)) (now (lengths .entry))) (now (plain .entry))
         (now (out .entry)) ⌝ }
 {
-    let number = note_number(field, key, nonce, separator, lengths, plain, 0, out.len(), MARK_LENGTH);
+    let number = note_number(
+        field,
+        key,
+        nonce,
+        separator,
+        lengths,
+        plain,
+        0,
+        out.len(),
+        MARK_LENGTH,
+    );
     if number != basics::ACCEPTED {
         return number;
     }
@@ -316,7 +332,17 @@ pub fn open(
         openNote (context field (now (key .entry)) (now (nonce .entry)) (now (separator .entry)) (now (lengths .entry))) (now (note .entry))
         (now (out .entry)) ⌝ }
 {
-    let number = note_number(field, key, nonce, separator, lengths, note, MARK_LENGTH, out.len(), 0);
+    let number = note_number(
+        field,
+        key,
+        nonce,
+        separator,
+        lengths,
+        note,
+        MARK_LENGTH,
+        out.len(),
+        0,
+    );
     if number != basics::ACCEPTED {
         return number;
     }

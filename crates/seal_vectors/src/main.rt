@@ -32,7 +32,16 @@ fn number_in(bytes: &[u8; 2048]) -> u32 {
     words[0]
 }
 
-fn call(seals: bool, field: u32, key: &[u32], nonce: &[u32], separator: &[u8], lengths: &[u32], text: &[u32], out: &mut [u32]) -> u32 {
+fn call(
+    seals: bool,
+    field: u32,
+    key: &[u32],
+    nonce: &[u32],
+    separator: &[u8],
+    lengths: &[u32],
+    text: &[u32],
+    out: &mut [u32],
+) -> u32 {
     if seals {
         return seal::seal(field, key, nonce, separator, lengths, text, out);
     }
