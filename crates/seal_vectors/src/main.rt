@@ -26,10 +26,22 @@ fn print_answer(number: u32, buffer: &[u32; 512], count: usize) {
     print_first(buffer, count);
 }
 
-// The first word of a field.
-fn number_in(bytes: &[u8; 2048]) -> u32 {
-    let words = hex_fields::words_of(bytes);
-    words[0]
+// The words of a field, how many they are, and the place behind it.
+struct Words {
+    list: [u32; 512],
+    count: usize,
+    next: usize,
+}
+
+fn words_at(text: &[u8], at: usize) -> Words
+    ensures { λ r. ⌜ (r .count ≤ length (r .list)) × (at ≤ r .next) ⌝ }
+{
+    let field = hex_fields::field_at(text, at);
+    Words {
+        list: hex_fields::words_of(&field.bytes),
+        count: field.count / 4,
+        next: field.next,
+    }
 }
 
 fn call(
@@ -48,41 +60,67 @@ fn call(
     seal::open(field, key, nonce, separator, lengths, text, out)
 }
 
+// The answer to a call, printed.
+fn print_call(
+    seals: bool,
+    field: u32,
+    key: Words,
+    nonce: Words,
+    separator: &[u8],
+    lengths: Words,
+    text: Words,
+    buffer: Words,
+)
+    requires { ⌜ (key .count ≤ length (key .list)) × (nonce .count ≤ length (nonce .list)) × (lengths .count ≤ length (lengths .list)) ×
+        (text .count ≤ length (text .list)) × (buffer .count ≤ length (buffer .list)) ⌝ }
+{
+    let key_list = key.list;
+    let key_count = key.count;
+    let nonce_list = nonce.list;
+    let nonce_count = nonce.count;
+    let lengths_list = lengths.list;
+    let lengths_count = lengths.count;
+    let text_list = text.list;
+    let text_count = text.count;
+    let mut out = buffer.list;
+    let count = buffer.count;
+    let number = call(
+        seals,
+        field,
+        &key_list[..key_count],
+        &nonce_list[..nonce_count],
+        separator,
+        &lengths_list[..lengths_count],
+        &text_list[..text_count],
+        &mut out[..count],
+    );
+    print_answer(number, &out, count);
+}
+
 // The place behind the line.
 fn note_line(text: &[u8], at: usize, seals: bool) -> usize
     ensures { λ r. ⌜ at ≤ r ⌝ }
 {
-    let first = hex_fields::field_at(text, at);
-    let second = hex_fields::field_at(text, first.next);
-    let third = hex_fields::field_at(text, second.next);
-    let fourth = hex_fields::field_at(text, third.next);
-    let fifth = hex_fields::field_at(text, fourth.next);
-    let sixth = hex_fields::field_at(text, fifth.next);
-    let seventh = hex_fields::field_at(text, sixth.next);
-    let key = hex_fields::words_of(&second.bytes);
-    let key_length = second.count / 4;
-    let nonce = hex_fields::words_of(&third.bytes);
-    let nonce_length = third.count / 4;
-    let separator = fourth.bytes;
-    let separator_length = fourth.count;
-    let lengths = hex_fields::words_of(&fifth.bytes);
-    let blocks = fifth.count / 4;
-    let note = hex_fields::words_of(&sixth.bytes);
-    let note_length = sixth.count / 4;
-    let mut out = hex_fields::words_of(&seventh.bytes);
-    let out_length = seventh.count / 4;
-    let number = call(
+    let number = words_at(text, at);
+    let key = words_at(text, number.next);
+    let nonce = words_at(text, key.next);
+    let field = hex_fields::field_at(text, nonce.next);
+    let lengths = words_at(text, field.next);
+    let note = words_at(text, lengths.next);
+    let buffer = words_at(text, note.next);
+    let separator = field.bytes;
+    let length = field.count;
+    print_call(
         seals,
-        number_in(&first.bytes),
-        &key[..key_length],
-        &nonce[..nonce_length],
-        &separator[..separator_length],
-        &lengths[..blocks],
-        &note[..note_length],
-        &mut out[..out_length],
+        number.list[0],
+        key,
+        nonce,
+        &separator[..length],
+        lengths,
+        note,
+        buffer,
     );
-    print_answer(number, &out, out_length);
-    seventh.next
+    buffer.next
 }
 
 fn print_line(text: &[u8], at: usize) -> usize
