@@ -34,6 +34,8 @@ ANSWERS = {
     "cards": ("crates/cards/stdout", r"\((?:ok|no (\d+))"),
     "check owners": ("crates/owner_vectors/stdout", r"c (\d+)"),
     "owner": ("crates/owner_vectors/stdout", r"c .*, o (\d+)"),
+    "seal": ("bindings/rust/tests/seal_vectors/stdout", r"s (\d+)"),
+    "open": ("bindings/rust/tests/seal_vectors/stdout", r"o (\d+)"),
 }
 Row = namedtuple("Row", "number name condition message reason example calls")
 
@@ -179,7 +181,7 @@ def orders(path):
 
 def checked():
     """Whether the comments of the exported functions say that they check the numbers which they give, each in the order that documents 01 and 02 have:
-    18, then the others as they rise, with 19 after 2 and before 3."""
+    18, then the others as they rise, with 19 after 2 and before 3, and 20 after 6 and before 10."""
     wanted = {name: {row.number for row in table() if row.number and call in row.calls} for call, name in exports().items() if name}
     for path in (HEADER, DECLARED):
         said = orders(path)
@@ -188,7 +190,7 @@ def checked():
             if set(said[function]) != wanted[function]:
                 yield f"{path}: {function} is said to check {sorted(said[function])}, and gives {sorted(wanted[function])}"
         for function, order in said.items():
-            if order != sorted(order, key=lambda number: {18: 0, 19: 2.5}.get(number, number)):
+            if order != sorted(order, key=lambda number: {18: 0, 19: 2.5, 20: 6.5}.get(number, number)):
                 yield f"{path}: {function} is said to check {order}, in this order"
 
 
@@ -224,13 +226,15 @@ MISTAKES = [
     (NUMBERS, "| 7 | record not open", "| 17 | record not open", "one after the other"),
     (NUMBERS, "| record not open |", "| record not sound |", "the name record not sound"),
     (NUMBERS, "| 14 | not card |", "| 14 | not card line |", "NOT_CARD"),
-    (NUMBERS, "| 19 | call", "| 19 | another one | of something | | | an example | write |\n| 20 | call", "TUILARDER_ANOTHER_ONE"),
+    (NUMBERS, "| 21 | mark", "| 21 | another one | of something | | | an example | write |\n| 22 | mark", "TUILARDER_ANOTHER_ONE"),
     (NUMBERS, "80000001 00000001 | |", "80000001 00000001 | START, write, cards |", "START gives [0, 1, 2, 3, 6, 18, 19]"),
     (NUMBERS, "| | | | owner |", "| | | | check owners, owner |", "check owners gives [0, 15, 16]"),
     (NUMBERS, "| | | | check owners, owner |", "| | | | check owners |", "owner gives [0, 15, 16, 17]"),
-    (NUMBERS, "ABSORB, permute |", "ABSORB |", "permute gives [0, 10, 18]"),
-    (NUMBERS, "START, permute, generate |", "START, permute |", "generate gives [0, 18]"),
-    (NUMBERS, "START, permute, generate |", "permute, generate |", "START gives [0, 1, 2, 3, 6, 18, 19]"),
+    (NUMBERS, "ABSORB, permute, ", "ABSORB, ", "permute gives [0, 10, 18]"),
+    (NUMBERS, "START, permute, generate, seal", "START, permute, seal", "generate gives [0, 18]"),
+    (NUMBERS, "START, permute, generate, seal", "permute, generate, seal", "START gives [0, 1, 2, 3, 6, 18, 19]"),
+    (NUMBERS, "| the mark differs | | | | open |", "| the mark differs | | | | seal, open |", "seal gives [0, 6, 10, 18, 20]"),
+    (NUMBERS, "| the mark differs | | | | open |", "| the mark differs | | | | |", "open gives [0, 6, 10, 18, 20, 21]"),
     (NUMBERS, "| not a card line | | | (card) | cards |", "| not a card line | | | (card) | |", "NotCard"),
     (NUMBERS, "| permute | `tuilarder_permute` |", "| permute | |", "lacks tuilarder_permute"),
     (NUMBERS, "| FINISH |\n| 12", "| FINISH, SHUT |\n| 12", "no call SHUT"),
@@ -250,6 +254,11 @@ MISTAKES = [
     (HEADER, "Checks 18, then 10.", "Checks 10.", "tuilarder_permute is said to check [10]"),
     (DECLARED, "Checks 18, then 10.", "Checks 10, then 18.", "tuilarder_permute is said to check [10, 18], in this order"),
     (DECLARED, "Checks 6 (of the length given), then 13.", "Checks 13.", "tuilarder_read_tag is said to check [13]"),
+    (HEADER, "Checks 18, 6, 20 and 10 (", "Checks 18, 6, 10 and 20 (", "tuilarder_seal is said to check [18, 6, 10, 20], in this order"),
+    (HEADER, "(of key, nonce and cipher, the mark too)\n * and 21,", "(of key, nonce and cipher, the mark too),",
+     "tuilarder_open is said to check [6, 10, 18, 20]"),
+    (DECLARED, "Checks 18, 6, 20 and 10 (", "Checks 6, 18, 20 and 10 (", "tuilarder_seal is said to check [6, 18, 20, 10], in this order"),
+    (RUST, "21 MarkDiffers", "22 MarkDiffers", "22 MarkDiffers"),
     (HEADER, "Checks 15, then 16.", "Checks 16, then 15.", "tuilarder_check_owners is said to check [16, 15], in this order"),
     (HEADER, "Checks 18, 1, 2, 19, 3 and 6,", "Checks 1, 2, 19, 3, 6 and 18,", "[1, 2, 19, 3, 6, 18], in this order"),
     (DECLARED, "Checks 18, 1, 2, 19, 3 and 6,", "Checks 18, 1, 2, 3, 6 and 19,", "[18, 1, 2, 3, 6, 19], in this order"),
@@ -264,6 +273,7 @@ MISTAKES = [
     ("crates/cards/stdout", "(no 14)", "(no 7)", "cards gives"),
     ("crates/owner_vectors/stdout", "c 16", "c 17", "check owners gives [0, 15, 16, 17]"),
     ("crates/owner_vectors/stdout", "o 16", "o 6", "owner gives [0, 6, 15, 16, 17]"),
+    ("bindings/rust/tests/seal_vectors/stdout", "s 20", "s 21", "seal gives [0, 6, 10, 18, 20, 21]"),
 ]
 
 if __name__ == "__main__":

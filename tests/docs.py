@@ -276,6 +276,27 @@ def stream(out):
     out.append(f"random {random[:3]}, reseeded {random[3:]}")
 
 
+def sealed_note(out):
+    """Two blocks, of 3 and 2 elements; the buffer that is opened into holds sevens before."""
+    def called(call, text, length):
+        return call(1, [*range(1, 9)], [0] * 7 + [1], b"coin", [3, 2], text, [7] * length)
+    def ciphers(*notes):
+        return [called(oracle.seal, note, 13)[1][:5] for note in notes]
+    opened(out, "a16 s3 a3 s2 a2 s8", b"coin")
+    note = [10, 20, 30, 400, 500]
+    number, sealed = called(oracle.seal, note, 13)
+    refuse(number)
+    out += [f"cipher {sealed[:5]}", f"mark {sealed[5:]}"]
+    number, plain = called(oracle.open_note, sealed, 5)
+    refuse(number)
+    out.append(f"the sealed note opens to {plain}")
+    number, plain = called(oracle.open_note, sealed[:4] + [(sealed[4] + 1) % P] + sealed[5:], 5)
+    out.append(f"with an element changed it is {Refused(number)}; it gives {plain}")
+    for other in ([10, 20, 30, 401, 502], [11, 20, 30, 400, 500]):
+        first, second = ciphers(note, other)
+        out.append(f"{note} and {other}: ciphers differ by {[(y - x) % P for x, y in zip(first, second)]}")
+
+
 def shared_separator(out):
     for payment, refund in ((b"house", b"house"), (b"house/p", b"house/r")):
         out.append(f"payment {whole(out, 'a4 s1', payment, [5, 6, 7, 8])[0]}")
@@ -388,7 +409,7 @@ FIGURES = {
                       "| power in a round | {power1} | {power2} |", "| round constants | {c1} | {c2} |", "from 0 to {largest} for BabyBear",
                       "| rounds of a permutation: full, partial, full | {full}, {partial1}, {full} | {full}, {partial2}, {full} |",
                       "at most {words} calls, of at most {call} elements each", "One declared call has at most {call} elements.",
-                      "calls of {call} elements and any rest"),
+                      "calls of {call} elements and any rest", "A note has 1 to 31 blocks, of 1 to {call} elements each."),
     "bindings/c/tuilarder.h": ("KoalaBear's. BabyBear has {c1}.", "{c1} of BabyBear, {c2} of KoalaBear"),
     "bindings/rust/src/lib.rs": ("BabyBear (p = {p1}) or KoalaBear (p = {p2})", "{c1} of BabyBear, {c2} of KoalaBear"),
     "bindings/rust/src/field.rs": ("Number 1, with p = {p1}. BabyBear = 1,", "Number 2, with p = {p2}. KoalaBear = 2,"),

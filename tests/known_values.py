@@ -1,7 +1,7 @@
 #!/usr/bin/env python3
 """Whether the elements that the tests in C and Rust expect are those of the second implementation (tests/oracle): what the samples B4 to B7 squeeze in
 either field, a pattern that ends with ABSORB, and the protocol of two rounds; a permuted state of either field; the state that a session begins with;
-round constants and their sums.
+round constants and their sums; sealed notes.
 
   tests/known_values.py test
 """
@@ -13,7 +13,7 @@ from second_implementation import oracle
 from tree import read, report
 
 ABSORB = 1 << 31
-SOURCES = ("bindings/rust/tests/api.rs", "bindings/c/tests/session.c")
+SOURCES = ("bindings/rust/tests/api.rs", "bindings/c/tests/session.c", "bindings/c/tests/seal.c")
 # numbers there that nothing answers with: both p, the longest length, the longest call, and words in hexadecimal digits
 OTHERS = {*oracle.PRIME.values(), oracle.MAX_LENGTH, oracle.MAX_CALL, 80000001, 80000003, 1}
 
@@ -49,6 +49,10 @@ def values():
     yield from oracle.found(2)[695:697]
     for last in (66, 67):
         yield from squeezed(1, (4, 1, 2, 1), b"two rounds", iter([11, 22, 33, 44, 55, last]))
+    for field in (1, 2):
+        for lengths in ((1, 2), (2, 1), (9,), (9, 1)):
+            total = sum(lengths)
+            yield from oracle.seal(field, [*range(1, 9)], [*range(9, 17)], b"note", lengths, [*range(11, 11 + total)], [0] * (total + 8))[1]
     # the state at the start of the session whose fields the C test compares
     yield from oracle.start([ABSORB + 3, 33, ABSORB + 13, 15], b"fields")[1]["state"]
 

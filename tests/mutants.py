@@ -25,8 +25,8 @@ from collections import namedtuple
 
 from tree import ROOT, files, read
 
-SOURCES = [f"bindings/rust/src/{name}.rs" for name in ("lib", "field", "refusal", "owners", "pattern", "protocol", "session", "ffi")]
-LIB, FIELD, REFUSAL, OWNERS, PATTERN, PROTOCOL, SESSION, FFI = SOURCES
+SOURCES = [f"bindings/rust/src/{name}.rs" for name in ("lib", "field", "refusal", "owners", "pattern", "protocol", "seal", "session", "ffi")]
+LIB, FIELD, REFUSAL, OWNERS, PATTERN, PROTOCOL, SEAL, SESSION, FFI = SOURCES
 HEADER = "bindings/c/tuilarder.h"
 WORK = os.path.join(ROOT, "target", "mutants")
 ARCHIVE = os.path.join(ROOT, "target", "staticlib", "libtuilarder.a")
@@ -39,8 +39,8 @@ CARGO = ["--offline", "--locked", "-q"]
 # name and command, the quick ones first
 CRATE_STEPS = [(COMPILED, ["cargo", "build", *CARGO])] + [
     (test, ["cargo", "test", *CARGO, "--test", test, *only]) for test, *only in (
-        ("types",), ("api",), ("layout",), ("wiped_memory",), ("differential", "types::"), ("long_lists", "types_"), ("oracle_sessions", "types_"),
-        ("oracle_owners", "types_"), ("oracle_tags", "types_"), ("published_values",))] + [
+        ("types",), ("api",), ("layout",), ("wiped_memory",), ("seal", "types::"), ("differential", "types::"), ("long_lists", "types_"),
+        ("oracle_sessions", "types_"), ("oracle_owners", "types_"), ("oracle_tags", "types_"), ("oracle_seal", "types_"), ("published_values",))] + [
     ("declarations", ["../c/tests/declarations.py"]), ("differential", ["cargo", "test", *CARGO, "--test", "differential", "functions::"]),
     ("doc tests", ["cargo", "test", *CARGO, "--doc"])]
 HEADER_STEPS = [(COMPILED, ["cc", "-std=c11", "-Wall", "-Wextra", "-Werror", "-pedantic", "-fsyntax-only", "-x", "c", "tuilarder.h"]),
@@ -126,9 +126,14 @@ CRATE = of(
     ("no_error", "impl core::error::Error for Refusal {}\n", "", "a refusal is no `Error`"),
     ("row_message", "\"separator over 256 bytes\"", "\"separator over 255 bytes\"", "a wrong figure in a message"),
     ("result_17_as_6", *before("    if number == 0 {", "    if number == 17 { return Err(Refusal::SeparatorTooLong); }"), "17 is given as 6"),
-    ("row_of_owners", "16 OwnersGap", "20 OwnersGap", "16 is no refusal, and 20 is"),
-    ("row_of_fields", "18 FieldUnknown", "20 FieldUnknown", "18 is no refusal, and 20 is"),
-    ("row_of_calls", "19 CallTooLong", "20 CallTooLong", "19 is no refusal, and 20 is"),
+    ("row_of_owners", "16 OwnersGap", "99 OwnersGap", "16 is no refusal, and 99 is"),
+    ("row_of_fields", "18 FieldUnknown", "99 FieldUnknown", "18 is no refusal, and 99 is"),
+    ("row_of_calls", "19 CallTooLong", "99 CallTooLong", "19 is no refusal, and 99 is"),
+    ("rows_of_notes", "20 SealLengthInvalid", "22 SealLengthInvalid", "20 is no refusal, and 22 is"),
+    ("row_of_marks", "21 MarkDiffers", "99 MarkDiffers", "21 is no refusal, and 99 is"),
+    ("row_of_32_blocks", "no blocks or over 31,", "no blocks or over 32,", "a wrong figure in a message"),
+    ("result_21_accepted", "if number == 0 {", "if number == 0 || number == 21 {", "a note whose mark differs is given as opened"),
+    ("result_20_as_12", *before("    if number == 0 {", "    if number == 20 { return Err(Refusal::BufferTooShort); }"), "20 is given as 12"),
     ("row_call_limit", "above 16,777,216 elements", "of 16,777,216 elements or more", "a message refuses the longest call"),
     ("row_not_unused", "merged length above 2147483647 (unused)", "merged length above 2147483647", "the message of 5 does not say that nothing gives it"),
     ("row_unused_gone", "    5 MergedLengthTooLong \"merged length above 2147483647 (unused)\",\n", "", "5 is no refusal"),
@@ -332,6 +337,50 @@ CRATE = of(
     ("debug_protocol_separator", '&format_args!("\\"{}\\"", self.separator().escape_ascii())', "&self.separator()", "the separator is shown as numbers"),
     ("debug_protocol_field", '            .field("field", &self.field)\n', "", "the field is not shown"),
 ) + of(
+    SEAL,
+    ("seal_key_length", "KEY_LENGTH: usize = 8;", "KEY_LENGTH: usize = 9;", "keys of 9 elements"),
+    ("seal_nonce_length", "NONCE_LENGTH: usize = 8;", "NONCE_LENGTH: usize = 4;", "nonces of 4 elements"),
+    ("seal_mark_length", "MARK_LENGTH: usize = 8;", "MARK_LENGTH: usize = 1;", "marks of 1 element"),
+    ("seal_max_blocks", "MAX_BLOCKS: usize = 31;", "MAX_BLOCKS: usize = 32;", "32 blocks"),
+    ("seal_opens", "self.call(ffi::tuilarder_seal, plain, buffer)", "self.call(ffi::tuilarder_open, plain, buffer)", "sealing is opening"),
+    ("seal_accepts", "self.call(ffi::tuilarder_seal, plain, buffer)", "let _ = self.call(ffi::tuilarder_seal, plain, buffer);\n        Ok(())",
+     "a refused sealing is given as done"),
+    ("seal_clears", *before("        self.call(ffi::tuilarder_seal, plain, buffer)", "        buffer.fill(0);"), "a refused sealing clears the buffer"),
+    ("seal_without_mark", "self.call(ffi::tuilarder_seal, plain, buffer)",
+     "self.call(ffi::tuilarder_seal, plain, buffer)?;\n        if let Some(last) = buffer.last_mut() { *last = 0; }\n        Ok(())", "the mark's last element is lost"),
+    ("open_seals", "self.call(ffi::tuilarder_open, sealed, buffer)", "self.call(ffi::tuilarder_seal, sealed, buffer)", "opening is sealing"),
+    ("open_accepts", "self.call(ffi::tuilarder_open, sealed, buffer)", "let _ = self.call(ffi::tuilarder_open, sealed, buffer);\n        Ok(())",
+     "a wrong mark is accepted"),
+    ("open_clears", "self.call(ffi::tuilarder_open, sealed, buffer)", "self.call(ffi::tuilarder_open, sealed, buffer).inspect_err(|_| buffer.fill(0))",
+     "every refused opening clears the buffer"),
+    ("open_leaves", "self.call(ffi::tuilarder_open, sealed, buffer)",
+     "if self.call(ffi::tuilarder_open, sealed, buffer) == Err(Refusal::MarkDiffers) {\n            buffer.copy_from_slice(&sealed[..buffer.len()]);\n"
+     "            return Err(Refusal::MarkDiffers);\n        }\n        self.call(ffi::tuilarder_open, sealed, buffer)", "with 21 the buffer holds the cipher"),
+    ("open_mark_as_10", "self.call(ffi::tuilarder_open, sealed, buffer)",
+     "self.call(ffi::tuilarder_open, sealed, buffer).map_err(|refusal| match refusal {\n            Refusal::MarkDiffers => Refusal::ElementNotReduced,\n"
+     "            other => other,\n        })", "21 is given as 10"),
+    ("open_length_first", *before("        self.call(ffi::tuilarder_open, sealed, buffer)", "        if sealed.len() != buffer.len() + 8 { return Err(Refusal::SealLengthInvalid); }"),
+     "20 is given before 6"),
+    ("note_in_field_1", "                self.field.number(),\n                self.key", "                1,\n                self.key", "every note is of BabyBear"),
+    ("note_keys_exchanged", "                self.key.as_ptr(),\n                self.key.len(),\n                self.nonce.as_ptr(),\n",
+     "                self.nonce.as_ptr(),\n                self.key.len(),\n                self.key.as_ptr(),\n", "key and nonce exchanged"),
+    ("note_key_twice", "                self.nonce.as_ptr(),", "                self.key.as_ptr(),", "the key is the nonce too"),
+    ("note_separator_100", "                self.separator.len(),", "                self.separator.len().min(100),", "100 bytes of the separator at most"),
+    ("note_separator_256", "                self.separator.len(),", "                self.separator.len().min(256),", "a separator of 257 bytes is cut and accepted"),
+    ("note_separator_32_bits", "                self.separator.len(),", "                self.separator.len() as u32 as usize,", "the separator's length is cut to 32 bits"),
+    ("note_lengths_31", "                self.lengths.len(),", "                self.lengths.len().min(31),", "the blocks past the 31st are passed over"),
+    ("note_lengths_8_bits", "                self.lengths.len(),", "                self.lengths.len() as u8 as usize,", "257 blocks are one"),
+    ("note_lengths_32_bits", "                self.lengths.len(),", "                self.lengths.len() as u32 as usize,", "how many blocks there are is cut to 32 bits"),
+    ("note_text_16_bits", "                text.len(),", "                text.len() as u16 as usize,", "the text's length is cut to 16 bits"),
+    ("note_text_32_bits", "                text.len(),", "                text.len() as u32 as usize,", "the text's length is cut to 32 bits"),
+    ("note_buffer_32_bits", "                buffer.len(),", "                buffer.len() as u32 as usize,", "the buffer's length is cut to 32 bits"),
+    ("note_buffer_longer", "                buffer.len(),", "                buffer.len().min(text.len() + 8),", "the buffer may be longer than what is sealed"),
+    ("note_empty", *before("        // SAFETY: the slices are valid for their lengths, and `&mut`", "        if self.lengths.is_empty() && text.is_empty() { return Ok(()); }"),
+     "no blocks are accepted"),
+    ("seal_shows_key", '            .field("nonce", &self.nonce)', '            .field("key", &self.key)\n            .field("nonce", &self.nonce)', "the key is shown"),
+    ("seal_shows_field", '            .field("field", &self.field)\n            .field("nonce"', '            .field("nonce"', "the field is not shown"),
+    ("seal_by_move", "#[derive(Clone, Copy)]\npub struct Seal", "#[derive(Clone)]\npub struct Seal", "a seal is moved"),
+) + of(
     SESSION,
     ("session_field_open", "Field::from_number(self.record.field)", "Field::from_number(self.record.field * (self.record.status & 1))",
      "the field of a closed record is not given"),
@@ -449,6 +498,14 @@ CRATE = of(
     ("ffi_owner_lengths", "table_len: usize,\n        separator: *const u8,\n        separator_len: usize,\n        value",
      "separator_len: usize,\n        separator: *const u8,\n        table_len: usize,\n        value", "the lengths' names exchanged"),
     ("ffi_owner_const", "value: *mut u32,\n", "value: *const u32,\n", "the value is lent as read only"),
+    ("ffi_seal_open", *called_for("tuilarder_seal", "tuilarder_open"), "sealing is opening"),
+    ("ffi_seal_name", "plain: *const u32,", "text: *const u32,", "a parameter has another name"),
+    ("ffi_seal_const", "plain_len: usize,\n        out: *mut u32,", "plain_len: usize,\n        out: *const u32,", "what is written is lent as read only"),
+    ("ffi_seal_text", "plain: *const u32,", "plain: *mut u32,", "what is only read is lent as written"),
+    ("ffi_open_seal", *called_for("tuilarder_open", "tuilarder_seal"), "opening is sealing"),
+    ("ffi_open_lengths", "cipher_len: usize,\n        out: *mut u32,\n        out_len: usize,", "out_len: usize,\n        out: *mut u32,\n        cipher_len: usize,",
+     "the lengths' names exchanged"),
+    ("ffi_open_const", "cipher_len: usize,\n        out: *mut u32,", "cipher_len: usize,\n        out: *const u32,", "what is written is lent as read only"),
 )
 
 C = of(
@@ -476,6 +533,12 @@ C = of(
     ("c_digest", "TUILARDER_DIGEST_LENGTH 32", "TUILARDER_DIGEST_LENGTH 31", "digests of 31 bytes"),
     ("c_number", "TUILARDER_ELEMENT_NOT_REDUCED = 10", "TUILARDER_ELEMENT_NOT_REDUCED = 9", "two numbers are one"),
     ("c_call_number", "TUILARDER_CALL_TOO_LONG = 19", "TUILARDER_CALL_TOO_LONG = 5", "19 is 5"),
+    ("c_note_number", "TUILARDER_SEAL_LENGTH_INVALID = 20", "TUILARDER_SEAL_LENGTH_INVALID = 12", "20 is 12"),
+    ("c_mark_number", "TUILARDER_MARK_DIFFERS = 21", "TUILARDER_MARK_DIFFERS = 20", "two numbers are one"),
+    ("c_key_length", "TUILARDER_KEY_LENGTH 8", "TUILARDER_KEY_LENGTH 16", "keys of 16 elements"),
+    ("c_nonce_length", "TUILARDER_NONCE_LENGTH 8", "TUILARDER_NONCE_LENGTH 4", "nonces of 4 elements"),
+    ("c_mark_length", "TUILARDER_MARK_LENGTH 8", "TUILARDER_MARK_LENGTH 1", "marks of 1 element"),
+    ("c_max_note_blocks", "TUILARDER_MAX_NOTE_BLOCKS 31", "TUILARDER_MAX_NOTE_BLOCKS 32", "32 blocks"),
     ("c_unused_number", "    TUILARDER_MERGED_LENGTH_TOO_LONG = 5,\n", "", "5 has no name"),
     ("c_unused_number_4", "    TUILARDER_LAST_WORD_ABSORB = 4,\n", "", "4 has no name"),
     ("c_numbers", "RECORD_NOT_OPEN = 7,\n    /* open record not sound */\n    TUILARDER_RECORD_NOT_SOUND = 8",
@@ -551,6 +614,16 @@ C = of(
      "size_t separator_length, const uint8_t *separator, size_t table_length,\n                                 uint32_t *value", "the lengths' names exchanged"),
     ("c_owner_value", "uint32_t *value", "uint16_t *value", "the value that is written has 16 bits"),
     ("c_owner_answer", "TUILARDER_ANSWER tuilarder_owner(", "uint32_t tuilarder_owner(", "its answer need not be looked at"),
+    ("c_seal_answer", "TUILARDER_ANSWER tuilarder_seal(", "uint32_t tuilarder_seal(", "its answer need not be looked at"),
+    ("c_seal_field_64_bits", "tuilarder_seal(uint32_t field", "tuilarder_seal(uint64_t field", "the field's number has 64 bits"),
+    ("c_seal_plain", "const uint32_t *plain", "uint32_t *plain", "the note, which is only read, is not const"),
+    ("c_seal_out", "size_t plain_length, uint32_t *out", "size_t plain_length, const uint32_t *out", "what is written is const"),
+    ("c_seal_keys", "tuilarder_seal(uint32_t field, const uint32_t *key, size_t key_length, const uint32_t *nonce, size_t nonce_length",
+     "tuilarder_seal(uint32_t field, const uint32_t *nonce, size_t nonce_length, const uint32_t *key, size_t key_length", "the names of key and nonce exchanged"),
+    ("c_open_answer", "TUILARDER_ANSWER tuilarder_open(", "uint32_t tuilarder_open(", "its answer need not be looked at"),
+    ("c_open_lengths", "size_t cipher_length, uint32_t *out, size_t out_length", "size_t out_length, uint32_t *out, size_t cipher_length", "the lengths' names exchanged"),
+    ("c_open_out_32_bits", "size_t cipher_length, uint32_t *out, size_t out_length", "size_t cipher_length, uint32_t *out, uint32_t out_length",
+     "the buffer's length has 32 bits"),
 )
 
 FAULTS = CRATE + C
@@ -569,7 +642,7 @@ NONE = {
 
 # What the crate's or the header's own assertions or types turn down, before any test.
 COMPILER = {"rate", "record_layout", "record_fields", "record_positions", "record_words", "record_without_field", "max_round_constants", "field_by_move",
-            "c_width", "c_max_words", "c_fields", "c_positions", "c_offset", "c_size", "max_words"}
+            "ffi_seal_const", "ffi_seal_text", "ffi_open_const", "c_width", "c_max_words", "c_fields", "c_positions", "c_offset", "c_size", "max_words"}
 
 
 # ---- the list of faults

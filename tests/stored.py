@@ -19,6 +19,8 @@ from tree import ROOT, files, read, report
 
 # of each stored file: the command that prints it, and the stored file that it reads
 STORED = {
+    "bindings/rust/tests/seal_vectors/stdin": ("tests/seal.py cases", None),
+    "bindings/rust/tests/seal_vectors/stdout": ("tests/seal.py answers", "bindings/rust/tests/seal_vectors/stdin"),
     "crates/cards/stdin": ("tests/cards.py book", None),
     "crates/cards/stdout": ("tests/cards.py oracle", "crates/cards/stdin"),
     "crates/generator_check/stdout": ("tests/constants.py", None),

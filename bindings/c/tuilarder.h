@@ -79,6 +79,12 @@ extern "C" {
 #define TUILARDER_OWNER_ROW_BYTES 10
 #define TUILARDER_MAX_OWNER_ROWS 128
 
+/* The elements of a sealed note's key, of its nonce and of its mark, and the most blocks of a note. */
+#define TUILARDER_KEY_LENGTH 8
+#define TUILARDER_NONCE_LENGTH 8
+#define TUILARDER_MARK_LENGTH 8
+#define TUILARDER_MAX_NOTE_BLOCKS 31
+
 /* The numbers that the functions answer with. */
 enum tuilarder_number {
     /* the call is accepted */
@@ -118,7 +124,11 @@ enum tuilarder_number {
     /* field number neither 1 nor 2 */
     TUILARDER_FIELD_UNKNOWN = 18,
     /* a declared call above 16,777,216 elements */
-    TUILARDER_CALL_TOO_LONG = 19
+    TUILARDER_CALL_TOO_LONG = 19,
+    /* no blocks or over 31, a block length of 0 or above 16,777,216, or any other lent list or buffer whose length isn't exactly what is needed */
+    TUILARDER_SEAL_LENGTH_INVALID = 20,
+    /* the mark differs */
+    TUILARDER_MARK_DIFFERS = 21
 };
 
 /*
@@ -252,6 +262,30 @@ TUILARDER_ANSWER tuilarder_check_owners(const uint8_t *table, size_t length, uin
  */
 TUILARDER_ANSWER tuilarder_owner(const uint8_t *table, size_t table_length, const uint8_t *separator, size_t separator_length,
                                  uint32_t *value);
+
+/*
+ * Seals a note (encryption that authenticates, SAFE's Algorithm 7): writes every cipher element, and then a mark of TUILARDER_MARK_LENGTH elements,
+ * to out. lengths says how many elements each of the note's blocks has: 1 to TUILARDER_MAX_NOTE_BLOCKS blocks, of 1 to TUILARDER_MAX_CALL elements
+ * each. plain has the blocks one behind the other. Key and nonce have TUILARDER_KEY_LENGTH and TUILARDER_NONCE_LENGTH elements, and out has
+ * TUILARDER_MARK_LENGTH more than plain. Checks 18, 6, 20 and 10 (of key, nonce and plain), in this order. Refused, it writes nothing to out.
+ *
+ * A KEY AND A NONCE SERVE ONCE. Two notes that are sealed with the same field, key, nonce, separator and lengths have the same elements added to their
+ * first block, and to each later block as long as all plain blocks before it are equal. So in these blocks the difference of two cipher elements is
+ * that of the plain ones, up to and with the first block in which the notes differ: who sees both has it without the key. Lengths are not hidden.
+ */
+TUILARDER_ANSWER tuilarder_seal(uint32_t field, const uint32_t *key, size_t key_length, const uint32_t *nonce, size_t nonce_length,
+                                const uint8_t *separator, size_t separator_length, const uint32_t *lengths, size_t lengths_length,
+                                const uint32_t *plain, size_t plain_length, uint32_t *out, size_t out_length);
+
+/*
+ * Opens a note, with the field, key, nonce, separator and lengths that it was sealed with. cipher is what sealing left in out, the mark behind the
+ * cipher elements, and out gets the plain blocks: TUILARDER_MARK_LENGTH elements less. Checks 18, 6, 20, 10 (of key, nonce and cipher, the mark too)
+ * and 21, in this order. With 21 every place of out holds 0: where the mark is not the note's, none of its contents is handed out. Refused with
+ * another number, it writes nothing to out.
+ */
+TUILARDER_ANSWER tuilarder_open(uint32_t field, const uint32_t *key, size_t key_length, const uint32_t *nonce, size_t nonce_length,
+                                const uint8_t *separator, size_t separator_length, const uint32_t *lengths, size_t lengths_length,
+                                const uint32_t *cipher, size_t cipher_length, uint32_t *out, size_t out_length);
 
 #undef TUILARDER_ANSWER
 

@@ -29,6 +29,11 @@ IS(TUILARDER_DIGEST_LENGTH, 32);
 /* "ten a row", "at most 128 rows" */
 IS(TUILARDER_OWNER_ROW_BYTES, 10);
 IS(TUILARDER_MAX_OWNER_ROWS, 128);
+/* "A key of 8 elements and a nonce of 8", "8 elements are squeezed as the mark", "1 to 31 blocks" */
+IS(TUILARDER_KEY_LENGTH, 8);
+IS(TUILARDER_NONCE_LENGTH, 8);
+IS(TUILARDER_MARK_LENGTH, 8);
+IS(TUILARDER_MAX_NOTE_BLOCKS, 31);
 /* version 2, and a record of 95 numbers of four bytes, four bytes of padding and a number of eight */
 IS(TUILARDER_LAYOUT, 2 * 4294967296 + 95 * 4 + 4 + 8);
 HAS_TYPE(TUILARDER_LAYOUT, uint64_t);
@@ -60,6 +65,8 @@ IS(TUILARDER_OWNERS_GAP, 16);
 IS(TUILARDER_SEPARATOR_TOO_SHORT, 17);
 IS(TUILARDER_FIELD_UNKNOWN, 18);
 IS(TUILARDER_CALL_TOO_LONG, 19);
+IS(TUILARDER_SEAL_LENGTH_INVALID, 20);
+IS(TUILARDER_MARK_DIFFERS, 21);
 
 #define RECORD ((struct tuilarder_session *)0)
 HAS_TYPE(RECORD->status, uint32_t);
@@ -89,6 +96,10 @@ HAS_TYPE(&tuilarder_layout_2, uint64_t (*)(void));
 HAS_TYPE(&tuilarder_sha3_256, void (*)(const uint8_t *, size_t, uint8_t *));
 HAS_TYPE(&tuilarder_check_owners, uint32_t (*)(const uint8_t *, size_t, uint32_t *));
 HAS_TYPE(&tuilarder_owner, uint32_t (*)(const uint8_t *, size_t, const uint8_t *, size_t, uint32_t *));
+typedef uint32_t of_notes(uint32_t, const uint32_t *, size_t, const uint32_t *, size_t, const uint8_t *, size_t, const uint32_t *, size_t,
+                          const uint32_t *, size_t, uint32_t *, size_t);
+HAS_TYPE(&tuilarder_seal, of_notes *);
+HAS_TYPE(&tuilarder_open, of_notes *);
 
 /* macros that only the header itself needs */
 #if defined TUILARDER_ANSWER || defined TUILARDER_ASSERT || defined TUILARDER_MEMBER_AT

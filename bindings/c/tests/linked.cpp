@@ -82,6 +82,18 @@ static void test_owners()
     CHECK(tuilarder_owner(table, 20, separator, 4, &value) == TUILARDER_ACCEPTED && value == 2);
 }
 
+// A note of one block, sealed and opened; with another nonce it does not open.
+static void test_notes()
+{
+    const uint32_t key[TUILARDER_KEY_LENGTH] = {1}, nonce[TUILARDER_NONCE_LENGTH] = {2}, lengths[1] = {2}, plain[2] = {3, 4};
+    uint32_t sealed[2 + TUILARDER_MARK_LENGTH], opened[2] = {0, 0};
+    CHECK(tuilarder_seal(TUILARDER_BABY_BEAR, key, 8, nonce, 8, nullptr, 0, lengths, 1, plain, 2, sealed, 10) == TUILARDER_ACCEPTED);
+    CHECK(tuilarder_open(TUILARDER_BABY_BEAR, key, 8, nonce, 8, nullptr, 0, lengths, 1, sealed, 10, opened, 2) == TUILARDER_ACCEPTED);
+    CHECK(opened[0] == 3 && opened[1] == 4);
+    CHECK(tuilarder_open(TUILARDER_BABY_BEAR, key, 8, key, 8, nullptr, 0, lengths, 1, sealed, 10, opened, 2) == TUILARDER_MARK_DIFFERS);
+    CHECK(opened[0] == 0 && opened[1] == 0);
+}
+
 int main()
 {
     CHECK(tuilarder_layout_2() == TUILARDER_LAYOUT);
@@ -91,5 +103,6 @@ int main()
     test_cut();
     test_permutation_and_hash();
     test_owners();
+    test_notes();
     return failed;
 }

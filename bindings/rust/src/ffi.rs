@@ -155,4 +155,41 @@ extern "C" {
         separator_len: usize,
         value: *mut u32,
     ) -> u32;
+
+    /// Seals a note of so many blocks, whose elements `plain` has one behind the other: writes every cipher element and then the mark to `out`.
+    /// Checks 18, 6, 20 and 10 (of key, nonce and `plain`), in this order. Refused, it writes nothing. [`Seal`](crate::Seal) says what a
+    /// nonce that serves twice gives away.
+    pub fn tuilarder_seal(
+        field: u32,
+        key: *const u32,
+        key_len: usize,
+        nonce: *const u32,
+        nonce_len: usize,
+        separator: *const u8,
+        separator_len: usize,
+        lengths: *const u32,
+        lengths_len: usize,
+        plain: *const u32,
+        plain_len: usize,
+        out: *mut u32,
+        out_len: usize,
+    ) -> u32;
+
+    /// Opens a note as sealing left it, cipher elements and mark: writes the plain blocks to `out`. Checks 18, 6, 20, 10 (of key, nonce and
+    /// `cipher`, the mark too) and 21, in this order. With 21 it leaves zeros in all of `out`; refused with another number, it writes nothing.
+    pub fn tuilarder_open(
+        field: u32,
+        key: *const u32,
+        key_len: usize,
+        nonce: *const u32,
+        nonce_len: usize,
+        separator: *const u8,
+        separator_len: usize,
+        lengths: *const u32,
+        lengths_len: usize,
+        cipher: *const u32,
+        cipher_len: usize,
+        out: *mut u32,
+        out_len: usize,
+    ) -> u32;
 }

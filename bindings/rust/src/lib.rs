@@ -16,6 +16,8 @@
 //!
 //! Where a house hands out separators to its product lines, [`Owners`] is the table of which line has which.
 //!
+//! A note that is sealed by [`Seal`] is a session too: its separator is one of the verifier's, and no other protocol has it.
+//!
 //! # A protocol of two rounds
 //!
 //! The prover commits to four elements and gets a challenge, answers with two elements and gets another. Both sides open a session of the
@@ -65,6 +67,7 @@ mod owners;
 mod pattern;
 mod protocol;
 mod refusal;
+mod seal;
 mod session;
 
 pub use field::Field;
@@ -72,6 +75,7 @@ pub use owners::{Owners, OwnersFault};
 pub use pattern::{Call, Pattern};
 pub use protocol::Protocol;
 pub use refusal::Refusal;
+pub use seal::Seal;
 pub use session::Session;
 
 /// The state's outer elements, which are absorbed into and squeezed from.

@@ -74,6 +74,11 @@ refusals! {
     /// It is checked behind 2 and before 3. A longer phase is declared as several calls of one kind
     /// ([`Pattern::MAX_CALL`](crate::Pattern::MAX_CALL)).
     19 CallTooLong "a declared call above 16,777,216 elements",
+    /// A [`Seal`](crate::Seal) has lengths for its blocks, at most [`Seal::MAX_BLOCKS`](crate::Seal::MAX_BLOCKS); of a sealed note the list has
+    /// [`Seal::MARK_LENGTH`](crate::Seal::MARK_LENGTH) elements more than the plain one. It is checked behind 6 and before 10.
+    20 SealLengthInvalid "no blocks or over 31, a block length of 0 or above 16,777,216, or any other lent list or buffer whose length isn't exactly what is needed",
+    /// The buffer holds zeros, and nothing of the note.
+    21 MarkDiffers "the mark differs",
 }
 
 impl core::error::Error for Refusal {}

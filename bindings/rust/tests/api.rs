@@ -2,14 +2,14 @@
 //!
 //! Squeezed elements, permuted states and round constants are from the second implementation, in Python, of documents 01 and 02. The numbers
 //! and their conditions are those of docs/NUMBERS.md, the examples those of document 01's table, "Calls turned away"; B1 to B7 are its samples.
-//! What tables of owners give, and how words are cut, is worked out by hand from document 02.
+//! What tables of owners give, and how words are cut, is worked out by hand from document 02. Sealed notes are from the second implementation too.
 
 use std::mem::{size_of, ManuallyDrop};
 use std::ptr;
 
 use tuilarder::ffi::Record;
 use tuilarder::{
-    permute, round_constants, sha3_256, Call, Field, Owners, OwnersFault, Pattern, Protocol, Refusal, Session,
+    permute, round_constants, sha3_256, Call, Field, Owners, OwnersFault, Pattern, Protocol, Refusal, Seal, Session,
     CAPACITY, MAX_ROUND_CONSTANTS, RATE, WIDTH,
 };
 use Call::{Absorb, Squeeze};
@@ -46,6 +46,7 @@ fn refused_with(number: u32) -> Vec<Result<(), Refusal>> {
         15..=17 => owners_refused_with(number),
         // a field's number is known
         18 => vec![],
+        20 | 21 => notes_refused_with(number),
         _ => sessions_refused_with(number),
     }
 }
@@ -87,6 +88,16 @@ fn strings_refused_with(number: u32) -> Vec<Result<(), Refusal>> {
             Protocol::new(KoalaBear, &one_and_one(), &long).map(drop),
             one_and_one().tag_string(&long, &mut [0; 1024]).map(drop),
             Pattern::read(&long, 257).map(drop),
+            Seal {
+                separator: &long,
+                ..note()
+            }
+            .seal(&[11, 12, 13], &mut [0; 11]),
+            Seal {
+                separator: &long,
+                ..note()
+            }
+            .open(&SEALED, &mut [0; 3]),
         ],
         12 => vec![b1().tag_string(b"AB", &mut [0; 9]).map(drop)],
         _ => vec![
@@ -120,6 +131,18 @@ fn sessions_refused_with(number: u32) -> Vec<Result<(), Refusal>> {
             opened_in(KoalaBear).absorb(&[2130706433]),
             permute(BabyBear, &mut [2013265921; WIDTH]),
             permute(KoalaBear, &mut [2130706433; WIDTH]),
+            note().seal(&[11, 12, 2013265921], &mut [0; 11]),
+            Seal {
+                key: &[2013265921; 8],
+                ..note()
+            }
+            .seal(&[11, 12, 13], &mut [0; 11]),
+            Seal {
+                nonce: &[2013265921; 8],
+                ..note()
+            }
+            .open(&SEALED, &mut [0; 3]),
+            note().open(&[2013265921; 11], &mut [0; 3]),
         ],
         _ => vec![opened().finish()],
     }
@@ -143,6 +166,69 @@ fn owners_refused_with(number: u32) -> Vec<Result<(), Refusal>> {
         }
     }
 }
+
+fn notes_refused_with(number: u32) -> Vec<Result<(), Refusal>> {
+    let of = |lengths: &[u32]| Seal { lengths, ..note() }.seal(&[11, 12, 13], &mut [0; 11]);
+    match number {
+        20 => vec![
+            of(&[]),
+            of(&[0, 3]),
+            of(&[1, 1]),
+            of(&[LIMIT + 1]),
+            of(&[u32::MAX, 4]),
+            of(&[1; 32]),
+            note().seal(&[11, 12], &mut [0; 11]),
+            note().seal(&[11, 12, 13, 14], &mut [0; 11]),
+            note().seal(&[11, 12, 13], &mut [0; 10]),
+            note().seal(&[11, 12, 13], &mut [0; 12]),
+            note().open(&SEALED[..10], &mut [0; 3]),
+            note().open(&SEALED, &mut [0; 2]),
+            note().open(&SEALED, &mut [0; 4]),
+            Seal { lengths: &[], ..note() }.open(&SEALED[..8], &mut []),
+        ],
+        _ => vec![
+            note().open(&[0; 11], &mut [0; 3]),
+            Seal { key: &[1; 8], ..note() }.open(&SEALED, &mut [0; 3]),
+            Seal {
+                nonce: &[1; 8],
+                ..note()
+            }
+            .open(&SEALED, &mut [0; 3]),
+            Seal {
+                separator: b"Note",
+                ..note()
+            }
+            .open(&SEALED, &mut [0; 3]),
+            Seal {
+                lengths: &[2, 1],
+                ..note()
+            }
+            .open(&SEALED, &mut [0; 3]),
+            Seal {
+                field: KoalaBear,
+                ..note()
+            }
+            .open(&SEALED, &mut [0; 3]),
+        ],
+    }
+}
+
+/// Key, nonce, separator and lengths of the notes below.
+fn note() -> Seal<'static> {
+    Seal {
+        field: BabyBear,
+        key: &[1, 2, 3, 4, 5, 6, 7, 8],
+        nonce: &[9, 10, 11, 12, 13, 14, 15, 16],
+        separator: b"note",
+        lengths: &[1, 2],
+    }
+}
+
+/// 11, 12 and 13, sealed.
+const SEALED: [u32; 11] = [
+    66389202, 1443427996, 462144109, 1229790208, 1927009522, 1729851417, 732943435, 37725734, 1631910697, 620663441,
+    249189492,
+];
 
 /// A table of owners, of rows with first and last number and product line.
 fn table_of(rows: &[(u32, u32, u16)]) -> Vec<u8> {
@@ -708,8 +794,84 @@ fn a_fault_has_its_number_and_words() {
     }
 }
 
+/// The second has the same plain elements in other blocks, the third the other field.
+#[test]
+fn notes_are_sealed_as_the_second_implementation_does() {
+    let recut = [
+        1458194105, 808597398, 217240143, 1981289057, 163452074, 947003184, 803774788, 649466184, 874519142, 369329501,
+        1347534137,
+    ];
+    let of_koala_bear = [
+        437837158, 1764386920, 1872267143, 818096143, 2092123784, 1836624386, 964786226, 1651910454, 849010409,
+        1939835346, 821863827,
+    ];
+    let of_9 = [
+        1669906439, 471972643, 187627341, 854946435, 608041471, 483797980, 691322869, 398365688, 830951245, 1149834582,
+        572297998, 309910, 1631066130, 1289890704, 6110375, 912306309, 1056122441,
+    ];
+    let plain = [11, 12, 13, 14, 15, 16, 17, 18, 19];
+    for (seal, sealed) in [
+        (note(), &SEALED[..]),
+        (
+            Seal {
+                lengths: &[2, 1],
+                ..note()
+            },
+            &recut,
+        ),
+        (
+            Seal {
+                field: KoalaBear,
+                ..note()
+            },
+            &of_koala_bear,
+        ),
+        (
+            Seal {
+                lengths: &[9],
+                ..note()
+            },
+            &of_9,
+        ),
+    ] {
+        let length = sealed.len() - Seal::MARK_LENGTH;
+        let (mut buffer, mut opened) = (vec![7; sealed.len()], vec![7; length]);
+        assert_eq!(seal.seal(&plain[..length], &mut buffer), Ok(()));
+        assert_eq!(buffer, sealed);
+        assert_eq!(
+            (seal.open(sealed, &mut opened), &opened[..]),
+            (Ok(()), &plain[..length])
+        );
+        // a refused call leaves the buffer, and a wrong mark zeros
+        assert_eq!(seal.seal(&[], &mut buffer), Err(Refusal::SealLengthInvalid));
+        assert_eq!(buffer, sealed);
+        assert_eq!(seal.open(&sealed[1..], &mut opened), Err(Refusal::SealLengthInvalid));
+        assert_eq!(opened, &plain[..length]);
+        buffer[length] ^= 1;
+        assert_eq!(seal.open(&buffer, &mut opened), Err(Refusal::MarkDiffers));
+        assert_eq!(opened, vec![0; length]);
+    }
+}
+
+#[test]
+fn a_seal_shows_no_key() {
+    assert_eq!(
+        format!(
+            "{:?}",
+            Seal {
+                key: &[77; 8],
+                separator: b"n\"",
+                ..note()
+            }
+        ),
+        r#"Seal { field: BabyBear, nonce: [9, 10, 11, 12, 13, 14, 15, 16], separator: "n\"", lengths: [1, 2], .. }"#
+    );
+}
+
 #[test]
 fn the_figures_are_the_documents() {
+    assert_eq!((Seal::KEY_LENGTH, Seal::NONCE_LENGTH), (8, 8));
+    assert_eq!((Seal::MARK_LENGTH, Seal::MAX_BLOCKS), (8, 31));
     assert_eq!((RATE, CAPACITY, WIDTH, MAX_ROUND_CONSTANTS), (8, 16, 24, 744));
     assert_eq!(Pattern::MAX_CALL, LIMIT);
     assert_eq!(BabyBear.prime(), 15 * (1 << 27) + 1);
@@ -730,6 +892,7 @@ const _: () = {
     shared_between_threads::<Refusal>();
     shared_between_threads::<Owners>();
     shared_between_threads::<OwnersFault>();
+    shared_between_threads::<Seal>();
 };
 
 /// Here every program has `std`, so the attribute is looked for in the text.

@@ -8,6 +8,7 @@ mod independent;
 #[macro_use]
 mod same_fields;
 mod inputs;
+#[macro_use]
 mod interfaces;
 mod run;
 
@@ -25,28 +26,6 @@ const UNSOUND_CALLS: u64 = 45_000;
 const FAR_CALLS: u64 = 15_000;
 const _: () = assert!(START_CALLS + SESSION_CALLS + UNSOUND_CALLS + FAR_CALLS >= 100_000);
 
-/// Each test by the functions and by the types.
-macro_rules! by_both {
-    ($($test:ident)*) => {
-        mod functions {
-            $(
-                #[test]
-                fn $test() {
-                    super::$test(&super::interfaces::Functions);
-                }
-            )*
-        }
-        mod types {
-            $(
-                #[test]
-                fn $test() {
-                    super::$test(&super::interfaces::Types);
-                }
-            )*
-        }
-    };
-}
-
 by_both! {
     start_on_any_pattern_and_separator
     sessions_with_forks_and_refused_calls
@@ -63,6 +42,7 @@ by_both! {
     elements_between_the_primes
     records_of_the_other_field
     owners_by_any_table
+    notes_sealed_and_opened
 }
 
 fn start_on_any_pattern_and_separator(library: &'static dyn Interface) {
@@ -428,4 +408,25 @@ fn owners_by_any_table(library: &'static dyn Interface) {
     run.assert_numbers("owner", &[0, 15, 16, 17]);
     run.assert_reached("128 rows", &[0, 15, 16]);
     run.assert_reached("row 129", &[15]);
+}
+
+/// A note is sealed and opened, and then each once more with one or several things changed.
+fn notes_sealed_and_opened(library: &'static dyn Interface) {
+    let run = Run::of("notes_sealed_and_opened", library, 600, |run| {
+        let sealing = any_note(&mut run.random);
+        let (number, sealed) = run.note(&sealing);
+        assert_eq!(number, 0);
+        let opening = sealing.opening(sealed);
+        assert_eq!(run.note(&opening), (0, sealing.text.clone()));
+        for good in [&sealing, &opening, &opening] {
+            let mut call = good.clone();
+            for _ in 0..run.random.pick(&[1, 1, 1, 2, 3]) {
+                damage_note(&mut run.random, &mut call);
+            }
+            run.note(&call);
+        }
+    });
+    run.assert_numbers("seal", &[0, 6, 10, 18, 20]);
+    run.assert_numbers("open", &[0, 6, 10, 18, 20, 21]);
+    assert_eq!(run.total(&["seal", "open"]), 3_000);
 }

@@ -33,3 +33,22 @@ const _: unsafe extern "C" fn(*const u32, usize, *mut [u32; 64], *mut usize) -> 
 const _: unsafe extern "C" fn(*const u8, usize, *mut [u8; 32]) = ffi::tuilarder_sha3_256;
 const _: unsafe extern "C" fn(*const u8, usize, *mut u32) -> u32 = ffi::tuilarder_check_owners;
 const _: unsafe extern "C" fn(*const u8, usize, *const u8, usize, *mut u32) -> u32 = ffi::tuilarder_owner;
+
+/// Field, key, nonce, separator, lengths, text and buffer; each list with its length.
+type OfNotes = unsafe extern "C" fn(
+    u32,
+    *const u32,
+    usize,
+    *const u32,
+    usize,
+    *const u8,
+    usize,
+    *const u32,
+    usize,
+    *const u32,
+    usize,
+    *mut u32,
+    usize,
+) -> u32;
+const _: OfNotes = ffi::tuilarder_seal;
+const _: OfNotes = ffi::tuilarder_open;

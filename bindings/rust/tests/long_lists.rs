@@ -6,7 +6,7 @@ use std::ops::{Deref, DerefMut};
 use std::{ptr, slice};
 
 use tuilarder::ffi::{self, Record};
-use tuilarder::{Call, Field, Owners, OwnersFault, Pattern, Protocol, Refusal, Session};
+use tuilarder::{Call, Field, Owners, OwnersFault, Pattern, Protocol, Refusal, Seal, Session};
 
 const LENGTH: usize = (1 << 32) + 5;
 
@@ -182,6 +182,115 @@ fn separator_of_more_than_32_bits_is_asked_about() {
     assert_eq!((number, value), (0, 7));
 }
 
+/// What is lent to sealing and opening alike.
+#[derive(Clone, Copy)]
+struct Lists<'a> {
+    key: &'a [u32],
+    nonce: &'a [u32],
+    separator: &'a [u8],
+    lengths: &'a [u32],
+}
+
+/// Of a note with blocks of 1 and 2 elements.
+const LISTS: Lists = Lists {
+    key: &[1; 8],
+    nonce: &[2; 8],
+    separator: b"note",
+    lengths: &[1, 2],
+};
+
+type OfNotes = unsafe extern "C" fn(
+    u32,
+    *const u32,
+    usize,
+    *const u32,
+    usize,
+    *const u8,
+    usize,
+    *const u32,
+    usize,
+    *const u32,
+    usize,
+    *mut u32,
+    usize,
+) -> u32;
+
+impl Lists<'_> {
+    /// The number that a function gives.
+    fn number(&self, function: OfNotes, text: &[u32], out: &mut [u32]) -> u32 {
+        // SAFETY: the pointers are to that many cells, and the lists are apart.
+        unsafe {
+            function(
+                1,
+                self.key.as_ptr(),
+                self.key.len(),
+                self.nonce.as_ptr(),
+                self.nonce.len(),
+                self.separator.as_ptr(),
+                self.separator.len(),
+                self.lengths.as_ptr(),
+                self.lengths.len(),
+                text.as_ptr(),
+                text.len(),
+                out.as_mut_ptr(),
+                out.len(),
+            )
+        }
+    }
+
+    /// The number that sealing and opening both give, which leave the buffer.
+    fn refused(&self) -> u32 {
+        let (mut sealed, mut opened) = ([7; 11], [7; 3]);
+        let number = self.number(ffi::tuilarder_seal, &[3; 3], &mut sealed);
+        assert_eq!(number, self.number(ffi::tuilarder_open, &[3; 11], &mut opened));
+        assert_eq!((sealed, opened), ([7; 11], [7; 3]));
+        number
+    }
+}
+
+/// How many numbers 32 bits count: so much longer than needed is each list, alone.
+const MORE: usize = 1 << 32;
+
+#[test]
+fn lists_of_a_note_of_more_than_32_bits_are_of_another_length() {
+    let (elements, bytes, mut lengths) = (
+        Zeros::<u32>::of(MORE + 8),
+        Zeros::<u8>::of(MORE + 4),
+        Zeros::<u32>::of(MORE + 2),
+    );
+    let (mut with_key, mut with_nonce, mut with_separator, mut with_lengths) = (LISTS, LISTS, LISTS, LISTS);
+    lengths[..2].copy_from_slice(&[1, 2]);
+    with_key.key = &elements;
+    with_nonce.nonce = &elements;
+    with_separator.separator = &bytes;
+    with_lengths.lengths = &lengths;
+    assert_eq!((with_key.refused(), with_nonce.refused()), (20, 20));
+    assert_eq!((with_separator.refused(), with_lengths.refused()), (6, 20));
+}
+
+#[test]
+fn texts_and_buffers_of_more_than_32_bits_are_of_another_length() {
+    let (mut short, mut long) = (Zeros::<u32>::of(MORE + 3), Zeros::<u32>::of(MORE + 11));
+    assert_eq!(LISTS.number(ffi::tuilarder_seal, &short, &mut [7; 11]), 20);
+    assert_eq!(LISTS.number(ffi::tuilarder_open, &long, &mut [7; 3]), 20);
+    assert_eq!(LISTS.number(ffi::tuilarder_seal, &[3; 3], &mut long), 20);
+    assert_eq!(LISTS.number(ffi::tuilarder_open, &[3; 11], &mut short), 20);
+    assert_eq!((&short[..12], &long[..12]), (&[0; 12][..], &[0; 12][..]));
+}
+
+/// 10, of the nonce, shows that a length was accepted, and spares the sealing.
+#[test]
+fn a_block_has_16777216_elements_at_most() {
+    for (length, number) in [(16_777_216_usize, 10), (16_777_217, 20)] {
+        let mut lists = LISTS;
+        let lengths = [length as u32];
+        (lists.nonce, lists.lengths) = (&[u32::MAX; 8], &lengths);
+        let (text, mut out) = (Zeros::<u32>::of(length + 8), Zeros::<u32>::of(length + 8));
+        assert_eq!(lists.number(ffi::tuilarder_seal, &text[..length], &mut out), number);
+        assert_eq!(lists.number(ffi::tuilarder_open, &text, &mut out[..length]), number);
+    }
+}
+
 // By the types
 
 fn pattern() -> Pattern {
@@ -271,4 +380,56 @@ fn types_refuse_a_table_of_more_than_32_bits() {
 fn types_ask_about_a_separator_of_more_than_32_bits() {
     let separator = Zeros::<u8>::of((1 << 32) + 3);
     assert_eq!(Owners::new(&WHOLE).unwrap().owner(&separator), Ok(7));
+}
+
+const SEAL: Seal = Seal {
+    field: Field::BabyBear,
+    key: &[1; 8],
+    nonce: &[2; 8],
+    separator: b"note",
+    lengths: &[1, 2],
+};
+
+/// That sealing and opening are both refused so, and leave the buffer.
+fn assert_refused(seal: &Seal, refusal: Refusal) {
+    let (mut sealed, mut opened) = ([7; 11], [7; 3]);
+    assert_eq!(seal.seal(&[3; 3], &mut sealed), Err(refusal));
+    assert_eq!(seal.open(&[3; 11], &mut opened), Err(refusal));
+    assert_eq!((sealed, opened), ([7; 11], [7; 3]));
+}
+
+#[test]
+fn types_refuse_lists_of_a_note_of_more_than_32_bits() {
+    let (separator, mut lengths) = (Zeros::<u8>::of(MORE + 4), Zeros::<u32>::of(MORE + 2));
+    lengths[..2].copy_from_slice(&[1, 2]);
+    let (mut with_separator, mut with_lengths) = (SEAL, SEAL);
+    with_separator.separator = &separator;
+    with_lengths.lengths = &lengths;
+    assert_refused(&with_separator, Refusal::SeparatorTooLong);
+    assert_refused(&with_lengths, Refusal::SealLengthInvalid);
+}
+
+#[test]
+fn types_refuse_texts_and_buffers_of_more_than_32_bits() {
+    let (mut short, mut long) = (Zeros::<u32>::of(MORE + 3), Zeros::<u32>::of(MORE + 11));
+    assert_eq!(SEAL.seal(&short, &mut [7; 11]), Err(Refusal::SealLengthInvalid));
+    assert_eq!(SEAL.open(&long, &mut [7; 3]), Err(Refusal::SealLengthInvalid));
+    assert_eq!(SEAL.seal(&[3; 3], &mut long), Err(Refusal::SealLengthInvalid));
+    assert_eq!(SEAL.open(&[3; 11], &mut short), Err(Refusal::SealLengthInvalid));
+    assert_eq!((&short[..12], &long[..12]), (&[0; 12][..], &[0; 12][..]));
+}
+
+/// 10, of the key, shows that a length was accepted, and spares the sealing.
+#[test]
+fn types_refuse_a_block_of_more_than_16777216_elements() {
+    for (length, refusal) in [
+        (16_777_216_usize, Refusal::ElementNotReduced),
+        (16_777_217, Refusal::SealLengthInvalid),
+    ] {
+        let (mut seal, lengths) = (SEAL, [length as u32]);
+        (seal.key, seal.lengths) = (&[u32::MAX; 8], &lengths);
+        let (text, mut out) = (Zeros::<u32>::of(length + 8), Zeros::<u32>::of(length + 8));
+        assert_eq!(seal.seal(&text[..length], &mut out), Err(refusal));
+        assert_eq!(seal.open(&text, &mut out[..length]), Err(refusal));
+    }
 }

@@ -1,6 +1,6 @@
 //! The independent implementation, held to what is published: the samples B1 to B10 and the table of refused calls in document
-//! 01, document 02's sentences about tables of owners, fields, declared calls and sessions that end by absorbing, and examples of SHA3-256
-//! from NIST. What the library is compared with must itself be right.
+//! 01, document 02's sentences about tables of owners, fields, declared calls, sessions that end by absorbing and sealed notes, and examples of
+//! SHA3-256 from NIST. What the library is compared with must itself be right.
 
 mod guarded;
 mod independent;
@@ -543,4 +543,192 @@ fn sentences_about_tables_of_owners() {
     assert_eq!(check_owners(&rows[..1280]), (16, 128));
     assert_eq!((check_owners(&WHOLE), owner(&WHOLE, b"abc")), ((0, 0), (17, 0)));
     assert_eq!((owner(&WHOLE, b"abcd"), owner(&WHOLE, &[7; 300])), ((0, 258), (0, 258)));
+}
+
+/// All that is lent to `seal`, or with `opening` to `open`.
+#[derive(Clone)]
+struct SealCall {
+    opening: bool,
+    field: u32,
+    key: Vec<u32>,
+    nonce: Vec<u32>,
+    separator: Vec<u8>,
+    lengths: Vec<u32>,
+    text: Vec<u32>,
+    out: Vec<u32>,
+}
+
+impl SealCall {
+    /// A note to be sealed, whose elements all differ. The buffer holds no element.
+    fn sealing(field: u32, lengths: &[u32]) -> SealCall {
+        let total = lengths.iter().sum::<u32>();
+        SealCall {
+            opening: false,
+            field,
+            key: (1..9).collect(),
+            nonce: (11..19).collect(),
+            separator: b"note".to_vec(),
+            lengths: lengths.to_vec(),
+            text: (0..total).map(|k| P_1 - 1 - k).collect(),
+            out: vec![u32::MAX; total as usize + 8],
+        }
+    }
+
+    /// What opens the list that this one seals.
+    fn opening(&self) -> SealCall {
+        let mut sealing = self.clone();
+        assert_eq!(sealing.perform(), 0);
+        SealCall {
+            opening: true,
+            out: vec![u32::MAX; self.text.len()],
+            text: sealing.out,
+            ..self.clone()
+        }
+    }
+
+    fn perform(&mut self) -> u32 {
+        let inputs = SealInputs {
+            field: self.field,
+            key: &self.key,
+            nonce: &self.nonce,
+            separator: &self.separator,
+            lengths: &self.lengths,
+        };
+        let call = if self.opening { open } else { seal };
+        call(&inputs, &self.text, &mut self.out)
+    }
+}
+
+/// 001, Algorithm 7, with "one call of 16" and "8 elements" as the mark: "as many elements are squeezed as the block holds, added to it to give
+/// cipher elements, and the plain block is absorbed". Gives the sealed list.
+fn sealed_by_session_calls(note: &SealCall) -> Vec<u32> {
+    let p = if note.field == 1 { P_1 } else { P_2 };
+    let mut words = vec![ABSORB + 16];
+    for length in &note.lengths {
+        words.extend([*length, ABSORB + *length]);
+    }
+    words.push(8);
+    let mut record = started(note.field, &words, &note.separator);
+    assert_eq!(absorb(&mut record, &note.key), 0);
+    assert_eq!(absorb(&mut record, &note.nonce), 0);
+    let mut sealed = vec![];
+    for length in &note.lengths {
+        let block = &note.text[sealed.len()..][..*length as usize];
+        let mut squeezed = vec![0; block.len()];
+        assert_eq!(squeeze(&mut record, &mut squeezed), 0);
+        assert_eq!(absorb(&mut record, block), 0);
+        let sums = block.iter().zip(squeezed).map(|(a, b)| u64::from(*a) + u64::from(b));
+        sealed.extend(sums.map(|sum| (sum % u64::from(p)) as u32));
+    }
+    let mut mark = [0; 8];
+    assert_eq!((squeeze(&mut record, &mut mark), finish(&mut record)), (0, 0));
+    sealed.extend(mark);
+    sealed
+}
+
+/// "What was sealed opens to the same blocks under the same field, key, nonce, separator and lengths."
+#[test]
+fn sealed_notes_are_those_of_session_calls_and_open() {
+    for field in [1, 2] {
+        for lengths in [vec![1], vec![8], vec![9, 7], vec![16, 1, 8], vec![3; 31]] {
+            let note = SealCall::sealing(field, &lengths);
+            let mut opening = note.opening();
+            assert_eq!(opening.text, sealed_by_session_calls(&note));
+            assert_eq!((opening.perform(), opening.out), (0, note.text));
+        }
+    }
+}
+
+/// "a wrong mark leaves zeros where the blocks would be."
+#[test]
+fn notes_with_a_changed_element_do_not_open() {
+    for field in [1, 2] {
+        let opening = SealCall::sealing(field, &[1, 9]).opening();
+        for place in 0..opening.text.len() {
+            let mut changed = opening.clone();
+            changed.text[place] = if changed.text[place] == 0 {
+                1
+            } else {
+                changed.text[place] - 1
+            };
+            assert_eq!((changed.perform(), changed.out), (21, vec![0; 10]));
+        }
+        for lengths in [vec![9, 1], vec![10], vec![1, 8, 1]] {
+            let mut recut = SealCall {
+                lengths,
+                ..opening.clone()
+            };
+            assert_eq!((recut.perform(), recut.out), (21, vec![0; 10]));
+        }
+    }
+}
+
+/// A number and what earns it in a good call. A list is cut short by at least two elements, so that it does not get the length needed when one
+/// element is added too.
+type SealFault = (u32, fn(&mut SealCall));
+
+const SEAL_FAULTS: [SealFault; 19] = [
+    (18, |call| call.field = 0),
+    (18, |call| call.field = 3),
+    (6, |call| call.separator = vec![0; 257]),
+    (20, |call| call.lengths = vec![]),
+    (20, |call| call.lengths = vec![1; 32]),
+    (20, |call| call.lengths.push(0)),
+    (20, |call| call.lengths[..].fill(u32::MAX)),
+    (20, |call| call.lengths.push(1)),
+    (20, |call| call.key.truncate(6)),
+    (20, |call| call.key.push(1)),
+    (20, |call| call.nonce.truncate(6)),
+    (20, |call| call.nonce.push(1)),
+    (20, |call| call.text.truncate(1)),
+    (20, |call| call.text.push(1)),
+    (20, |call| call.out.truncate(1)),
+    (20, |call| call.out.push(u32::MAX)),
+    (10, |call| call.key[0] = P_2),
+    (10, |call| call.nonce[5] = P_2),
+    (10, |call| *call.text.last_mut().unwrap() = P_2),
+];
+
+/// "after START's own 18 and 6, before 10"; "21: the mark differs, last." "A refused seal or open writes nothing".
+#[test]
+fn first_number_counts_when_sealing_and_opening() {
+    const ORDER: [u32; 4] = [18, 6, 20, 10];
+    let rank = |number: u32| ORDER.iter().position(|other| *other == number).unwrap();
+    for field in [1, 2] {
+        let sealing = SealCall::sealing(field, &[1, 2]);
+        let opening = sealing.opening();
+        let mut wrong_mark = opening.clone();
+        wrong_mark.text[3] ^= 1;
+        for good in [sealing, opening, wrong_mark] {
+            for (first, change) in SEAL_FAULTS {
+                for (second, change_again) in SEAL_FAULTS {
+                    let mut call = good.clone();
+                    change(&mut call);
+                    change_again(&mut call);
+                    let before = call.out.clone();
+                    let number = ORDER[rank(first).min(rank(second))];
+                    assert_eq!((call.perform(), call.out), (number, before), "{first} and {second}");
+                }
+            }
+        }
+    }
+}
+
+/// "a block length of 0 or above 16,777,216": with all else exact, so that nothing but the length is at fault. Number 10 shows that a length was
+/// accepted, and spares the sealing.
+#[test]
+fn longest_block() {
+    for (length, number) in [(LIMIT, 10), (LIMIT + 1, 20)] {
+        let mut call = SealCall::sealing(2, &[length]);
+        call.key[7] = P_2;
+        let before = call.out.clone();
+        assert_eq!(call.perform(), number);
+        assert!(call.out == before);
+        // What was the buffer has the length of a sealed list, and what was the text that of the blocks.
+        call.opening = true;
+        std::mem::swap(&mut call.text, &mut call.out);
+        let before = call.out.clone();
+        assert_eq!(call.perform(), number);
+        assert!(call.out == before);
+    }
 }

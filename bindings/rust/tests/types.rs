@@ -1,6 +1,6 @@
 //! The crate's types against the independent implementation, where `differential.rs` does not reach: fields by their numbers, patterns by their
 //! calls, protocols, each length of a separator and of a hashed string, sessions that live through all of their calls, forks, challenges, records
-//! of every status, and tables of owners that are asked often.
+//! of every status, tables of owners that are asked often, and what is seen of a seal.
 
 mod guarded;
 mod independent;
@@ -24,7 +24,7 @@ use std::ptr;
 use tuilarder::ffi::Record;
 use tuilarder::Call::{Absorb, Squeeze};
 use tuilarder::{
-    Field, Owners, OwnersFault, Pattern, Protocol, Refusal, Session, CAPACITY, MAX_ROUND_CONSTANTS, RATE, WIDTH,
+    Field, Owners, OwnersFault, Pattern, Protocol, Refusal, Seal, Session, CAPACITY, MAX_ROUND_CONSTANTS, RATE, WIDTH,
 };
 
 /// A call that a pattern declares; `Call` here is one of a session.
@@ -42,6 +42,15 @@ fn figures_are_those_of_the_documents() {
         (64, 256, 512)
     );
     assert_eq!((Owners::ROW_BYTES, Owners::MAX_ROWS), (10, 128));
+    assert_eq!(
+        (
+            Seal::KEY_LENGTH,
+            Seal::NONCE_LENGTH,
+            Seal::MARK_LENGTH,
+            Seal::MAX_BLOCKS
+        ),
+        (8, 8, 8, 31)
+    );
     let wiped = independent::WIPED;
     assert_eq!(Record::WIPED, same_fields!(Record, wiped));
 }
@@ -69,13 +78,13 @@ const _: fn(Field) = |field| match field {
 };
 
 #[test]
-fn refusals_have_the_numbers_1_to_13_and_15_to_19() {
-    for number in (1..=13).chain(15..=19) {
+fn refusals_have_the_numbers_1_to_13_and_15_to_21() {
+    for number in (1..=13).chain(15..=21) {
         let refusal = Refusal::from_number(number).expect("a refusal");
         assert_eq!(number_of::<()>(&Err(refusal)), number);
     }
-    let others = (20..1 << 20)
-        .chain((5..32).map(|k| (1 << k) + 19))
+    let others = (22..1 << 20)
+        .chain((5..32).map(|k| (1 << k) + 21))
         .chain([0, 14, u32::MAX]);
     for number in others {
         assert_eq!(Refusal::from_number(number), None, "{number}");
@@ -95,7 +104,7 @@ fn others_are_possible(refusal: Refusal) -> bool {
         WordCountOutOfRange | WordLengthZero | FirstWordSqueeze | LastWordAbsorb | MergedLengthTooLong => false,
         SeparatorTooLong | RecordNotOpen | RecordNotSound | CallNotInPattern | ElementNotReduced => false,
         PatternNotDone | BufferTooShort | NotTagString | OwnersRowInvalid | OwnersGap | SeparatorTooShort => false,
-        FieldUnknown | CallTooLong => false,
+        FieldUnknown | CallTooLong | SealLengthInvalid | MarkDiffers => false,
         _ => true,
     }
 }
@@ -104,6 +113,7 @@ fn others_are_possible(refusal: Refusal) -> bool {
 const fn plain<T: Copy + Eq + Hash + Debug>() {}
 const fn cloned<T: Clone + Eq + Hash + Debug>() {}
 const fn printed<T: Debug>() {}
+const fn copied<T: Copy>() {}
 const _: () = {
     plain::<Refusal>();
     plain::<Field>();
@@ -113,6 +123,8 @@ const _: () = {
     cloned::<Pattern>();
     cloned::<Protocol>();
     printed::<Session>();
+    printed::<Seal>();
+    copied::<Seal>();
 };
 
 // That a session is no `Clone`, and so no `Copy`: if it were, there would be two candidates for `_`, and this would not compile.
@@ -753,4 +765,57 @@ fn tables_of_owners_far_too_long() {
         assert!(Owners::new(&table[..10]).is_ok());
         assert_eq!(Owners::new(&table).map(drop), Err(OwnersFault::Row(2)), "{length}");
     }
+}
+
+// Seals
+
+/// All but the key is shown, which has elements that nothing else has.
+#[test]
+fn seals_show_no_key() {
+    let run = Run::of("seals_show_no_key", &Types, 200, |run| {
+        let call = any_note(&mut run.random);
+        run.last = Box::new(call.clone());
+        let key: [u32; 8] = std::array::from_fn(|k| 1_234_567_890 + k as u32);
+        let field = field_of(call.field).expect("a field");
+        let seal = Seal {
+            field,
+            key: &key,
+            nonce: call.nonce[..].try_into().expect("8 elements"),
+            separator: &call.separator,
+            lengths: &call.lengths,
+        };
+        let (nonce, escaped, lengths) = (&call.nonce, call.separator.escape_ascii(), &call.lengths);
+        let expected = format!(
+            "Seal {{ field: {field:?}, nonce: {nonce:?}, separator: \"{escaped}\", lengths: {lengths:?}, .. }}"
+        );
+        assert_eq!(format!("{seal:?}"), expected);
+        run.answered("field", field.number());
+    });
+    run.assert_numbers("field", &[1, 2]);
+}
+
+/// A seal is lent all that it has, so it and a copy of it serve for many notes.
+#[test]
+fn seals_serve_again() {
+    Run::of("seals_serve_again", &Types, 50, |run| {
+        let call = any_note(&mut run.random);
+        run.last = Box::new(call.clone());
+        let seal = Seal {
+            field: field_of(call.field).expect("a field"),
+            key: call.key[..].try_into().expect("8 elements"),
+            nonce: call.nonce[..].try_into().expect("8 elements"),
+            separator: &call.separator,
+            lengths: &call.lengths,
+        };
+        let mut expected = call.out.clone();
+        assert_eq!(independent::seal(&call.inputs(), &call.text, &mut expected), 0);
+        for seal in [seal, seal, Seal { ..seal }] {
+            let (mut sealed, mut plain) = (call.out.clone(), vec![FILLED; call.text.len()]);
+            assert_eq!((seal.seal(&call.text, &mut sealed), &sealed), (Ok(()), &expected));
+            assert_eq!((seal.open(&sealed, &mut plain), &plain), (Ok(()), &call.text));
+            sealed[0] ^= 1;
+            assert_eq!(seal.open(&sealed, &mut plain), Err(Refusal::MarkDiffers));
+            assert_eq!(plain, vec![0; plain.len()]);
+        }
+    });
 }

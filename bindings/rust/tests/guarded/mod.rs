@@ -4,6 +4,7 @@
 // Each program that takes this file in uses only a part of it.
 #![allow(dead_code)]
 
+use crate::independent::SealInputs;
 use std::fmt::Debug;
 use tuilarder::ffi::{self, Record};
 
@@ -314,4 +315,57 @@ pub fn owner(random: &mut Random, table: &[u8], separator: &[u8]) -> (u32, u32) 
     table.only_read();
     separator.only_read();
     (number, value.returned()[0])
+}
+
+/// Sealing or opening: field, key, nonce, separator, lengths, text and buffer, each list with its length.
+type OfNotes = unsafe extern "C" fn(
+    u32,
+    *const u32,
+    usize,
+    *const u32,
+    usize,
+    *const u8,
+    usize,
+    *const u32,
+    usize,
+    *const u32,
+    usize,
+    *mut u32,
+    usize,
+) -> u32;
+
+fn note(function: OfNotes, random: &mut Random, inputs: &SealInputs, text: &[u32], out: &mut [u32]) -> u32 {
+    let [mut key, mut nonce, mut lengths, mut text, mut lent] =
+        [inputs.key, inputs.nonce, inputs.lengths, text, out].map(|list| Lent::new(list, random));
+    let mut separator = Lent::new(inputs.separator, random);
+    // SAFETY: the pointers are to that many cells, and the lists are apart.
+    let number = unsafe {
+        function(
+            inputs.field,
+            key.pointer(),
+            key.len,
+            nonce.pointer(),
+            nonce.len,
+            separator.pointer(),
+            separator.len,
+            lengths.pointer(),
+            lengths.len,
+            text.pointer(),
+            text.len,
+            lent.pointer(),
+            lent.len,
+        )
+    };
+    [key, nonce, lengths, text].iter().for_each(Lent::only_read);
+    separator.only_read();
+    out.copy_from_slice(lent.returned());
+    number
+}
+
+pub fn seal(random: &mut Random, inputs: &SealInputs, plain: &[u32], out: &mut [u32]) -> u32 {
+    note(ffi::tuilarder_seal, random, inputs, plain, out)
+}
+
+pub fn open(random: &mut Random, inputs: &SealInputs, sealed: &[u32], out: &mut [u32]) -> u32 {
+    note(ffi::tuilarder_open, random, inputs, sealed, out)
 }

@@ -1,17 +1,19 @@
 //! An independent implementation of the challenge sponge, written from document 01 and P3, P4 and P6 of document 02 alone,
-//! and of the owners of separators, written from P1 of document 02 alone (`owners.rs`). It shares no code with the library,
-//! which the tests compare with it, and is plain rather than fast. Quotations here are from document 01 unless another source
-//! is named.
+//! of the owners of separators, written from P1 of document 02 alone (`owners.rs`), and of sealed notes, written from document
+//! 02 and Algorithm 7 of source document 001 alone (`seal.rs`). It shares no code with the library, which the tests compare
+//! with it, and is plain rather than fast. Quotations here are from document 01 unless another source is named.
 
 // Each program that takes this file in uses only a part of it.
 #![allow(dead_code, unused_imports)]
 
 mod owners;
+mod seal;
 
 use std::collections::VecDeque;
 use std::sync::OnceLock;
 
 pub use owners::{check_owners, owner};
+pub use seal::{open, seal, SealInputs, KEY_LENGTH, MARK_LENGTH, MOST_BLOCKS, NONCE_LENGTH};
 
 /// "p = 2013265921 = 15 × 2^27 + 1." P3: "2130706433 = 2^31 − 2^24 + 1."
 pub const P_1: u32 = 2013265921;

@@ -1,10 +1,10 @@
-//! Random inputs, most of them good and others damaged: patterns, separators, fields, elements, calls, records, strings and tables of owners.
+//! Random inputs, most of them good and others damaged: patterns, separators, fields, elements, calls, records, strings, tables of owners and notes.
 
 // Each program that takes this file in uses only a part of it.
 #![allow(dead_code)]
 
 use crate::guarded::{Any, Random};
-use crate::independent::{self, length, ABSORB, LONGEST, LONGEST_CALL, MOST_WORDS, P_1, P_2};
+use crate::independent::{self, length, SealInputs, ABSORB, LONGEST, LONGEST_CALL, MOST_WORDS, P_1, P_2};
 use std::collections::BTreeSet;
 use tuilarder::ffi::Record;
 
@@ -572,3 +572,154 @@ pub fn asked_separator(random: &mut Random, table: &[u8]) -> Vec<u8> {
     separator.truncate(size);
     separator
 }
+
+// Notes
+
+/// What every place of a note's buffer holds before the call: no element of either field, so that a place that is left shows.
+pub const FILLED: u32 = 0xa5a5a5a5;
+
+/// All that is lent to `seal`, or with `opening` to `open`.
+#[derive(Clone, Debug, PartialEq)]
+pub struct NoteCall {
+    pub opening: bool,
+    pub field: u32,
+    pub key: Vec<u32>,
+    pub nonce: Vec<u32>,
+    pub separator: Vec<u8>,
+    pub lengths: Vec<u32>,
+    pub text: Vec<u32>,
+    pub out: Vec<u32>,
+}
+
+impl NoteCall {
+    /// A note of random elements, to be sealed.
+    pub fn sealing(random: &mut Random, field: u32, lengths: &[u32]) -> NoteCall {
+        let total = lengths.iter().sum::<u32>() as usize;
+        let mut elements = |count| (0..count).map(|_| good_element(random, field)).collect();
+        NoteCall {
+            opening: false,
+            field,
+            key: elements(8),
+            nonce: elements(8),
+            separator: b"note".to_vec(),
+            lengths: lengths.to_vec(),
+            text: elements(total),
+            out: vec![FILLED; total + 8],
+        }
+    }
+
+    /// What opens a list that this one sealed.
+    pub fn opening(&self, sealed: Vec<u32>) -> NoteCall {
+        assert!(!self.opening);
+        NoteCall {
+            opening: true,
+            out: vec![FILLED; self.text.len()],
+            text: sealed,
+            ..self.clone()
+        }
+    }
+
+    pub fn inputs(&self) -> SealInputs<'_> {
+        SealInputs {
+            field: self.field,
+            key: &self.key,
+            nonce: &self.nonce,
+            separator: &self.separator,
+            lengths: &self.lengths,
+        }
+    }
+}
+
+/// Lengths of blocks: few or many, and most of them short.
+pub fn block_lengths(random: &mut Random) -> Vec<u32> {
+    let count = random.pick(&[1, 1, 2, 2, 3, 4, 5, 30, 31]);
+    let length = |random: &mut Random| match random.below(40) {
+        0 => random.pick(&[63, 64, 65, 200]),
+        _ => random.pick(&[1, 2, 7, 8, 8, 9, 15, 16, 17]),
+    };
+    (0..count).map(|_| length(random)).collect()
+}
+
+pub fn any_note(random: &mut Random) -> NoteCall {
+    let (field, lengths) = (known_field(random), block_lengths(random));
+    let mut call = NoteCall::sealing(random, field, &lengths);
+    call.separator = good_separator(random);
+    call
+}
+
+/// Makes a list longer or shorter, at times by all of it.
+fn damage_length(random: &mut Random, list: &mut Vec<u32>) {
+    match random.below(6) {
+        0 => list.clear(),
+        1 => drop(list.pop()),
+        2 => list.push(1),
+        3 => list.truncate(list.len() / 2),
+        4 => list.extend([1; 8]),
+        _ => list.extend_from_within(..),
+    }
+}
+
+/// Another element, by one or by any difference.
+fn damage_element(random: &mut Random, field: u32, list: &mut [u32]) {
+    if list.is_empty() {
+        return;
+    }
+    let p = prime(random, field);
+    let k = random.below(list.len() as u64) as usize;
+    let step = match random.below(3) {
+        0 => 1,
+        1 => p - 1,
+        _ => 1 + random.below(u64::from(p) - 1) as u32,
+    };
+    list[k] = ((u64::from(list[k]) + u64::from(step)) % u64::from(p)) as u32;
+}
+
+fn damage_lengths(random: &mut Random, lengths: &mut Vec<u32>) {
+    let k = random.below(lengths.len() as u64 + 1) as usize;
+    let other = random.below(lengths.len() as u64 + 1) as usize;
+    match random.below(6) {
+        0 => *lengths = vec![1; random.pick(&[0, 32, 33, 64, 1000])],
+        1 if k < lengths.len() => lengths[k] = random.pick(&[0, LONGEST_CALL, LONGEST_CALL + 1, ABSORB, u32::MAX]),
+        2 => lengths.insert(k, random.pick(&[0, 1, u32::MAX])),
+        // as many elements in other blocks
+        3 if k < lengths.len() && lengths[k] > 1 => {
+            lengths[k] -= 1;
+            lengths.insert(k, 1);
+        }
+        4 if k < lengths.len() && other < lengths.len() => lengths.swap(k, other),
+        _ => damage_length(random, lengths),
+    }
+}
+
+/// Changes one thing of a call, which may then be turned away, or open to nothing, or still be good.
+pub fn damage_note(random: &mut Random, call: &mut NoteCall) {
+    match random.below(10) {
+        0 => call.field = random.pick(&[1, 2, 0, 3, ABSORB + 1, u32::MAX]),
+        1 => {
+            let size = random.pick(&[0, 3, 5, 255, 256, 257, 258, 600]);
+            call.separator = random.list(size);
+        }
+        2 | 3 => damage_lengths(random, &mut call.lengths),
+        4 => {
+            let list = random.pick(&NOTE_LISTS);
+            damage_length(random, list(call));
+        }
+        5 => damage_length(random, &mut call.out),
+        6 => {
+            let (element, list) = (bad_element(random, call.field), random.pick(&NOTE_LISTS)(call));
+            let last = list.len().saturating_sub(1);
+            let k = random.pick(&[0, last, last / 2]);
+            list.get_mut(k).into_iter().for_each(|place| *place = element);
+        }
+        _ => {
+            let list = random.pick(&NOTE_LISTS);
+            damage_element(random, call.field, list(call));
+        }
+    }
+}
+
+/// A list of a note's call.
+pub type NoteList = fn(&mut NoteCall) -> &mut Vec<u32>;
+
+/// Those of elements.
+pub const NOTE_LISTS: [NoteList; 3] = [|call| &mut call.key, |call| &mut call.nonce, |call| &mut call.text];

@@ -1,14 +1,14 @@
 //! The same calls by three: the functions of `ffi`, the crate's types, and the independent implementation.
 
 // Each program that takes this file in uses only a part of it.
-#![allow(dead_code)]
+#![allow(dead_code, unused_macros)]
 
 use crate::guarded::{self, Any, Lent, Random};
-use crate::independent::{self, Session as Other};
+use crate::independent::{self, SealInputs, Session as Other};
 use crate::inputs::Call;
 use std::ptr;
 use tuilarder::ffi::Record;
-use tuilarder::{Field, Owners, OwnersFault, Pattern, Protocol, Refusal, Session};
+use tuilarder::{Field, Owners, OwnersFault, Pattern, Protocol, Refusal, Seal, Session};
 
 /// What takes calls, and answers each with a number. The random numbers are for what surrounds the lent lists.
 pub trait Interface {
@@ -30,6 +30,30 @@ pub trait Interface {
     fn check_owners(&self, noise: &mut Random, table: &[u8]) -> (u32, u32);
     /// The number, and the value that comes with it.
     fn owner(&self, noise: &mut Random, table: &[u8], separator: &[u8]) -> (u32, u32);
+    fn seal(&self, noise: &mut Random, inputs: &SealInputs, plain: &[u32], out: &mut [u32]) -> u32;
+    fn open(&self, noise: &mut Random, inputs: &SealInputs, sealed: &[u32], out: &mut [u32]) -> u32;
+}
+
+/// Each test by the functions and by the types.
+macro_rules! by_both {
+    ($($test:ident)*) => {
+        mod functions {
+            $(
+                #[test]
+                fn $test() {
+                    super::$test(&super::interfaces::Functions);
+                }
+            )*
+        }
+        mod types {
+            $(
+                #[test]
+                fn $test() {
+                    super::$test(&super::interfaces::Types);
+                }
+            )*
+        }
+    };
 }
 
 /// Does a session's call: its name, the number, and the buffer it left.
@@ -94,12 +118,18 @@ impl Interface for Functions {
     fn owner(&self, noise: &mut Random, table: &[u8], separator: &[u8]) -> (u32, u32) {
         guarded::owner(noise, table, separator)
     }
+    fn seal(&self, noise: &mut Random, inputs: &SealInputs, plain: &[u32], out: &mut [u32]) -> u32 {
+        guarded::seal(noise, inputs, plain, out)
+    }
+    fn open(&self, noise: &mut Random, inputs: &SealInputs, sealed: &[u32], out: &mut [u32]) -> u32 {
+        guarded::open(noise, inputs, sealed, out)
+    }
 }
 
 // The types
 
 /// The refusals, each with the number that documents 01 and 02 have for it; 14 belongs to cards.
-const REFUSALS: [(u32, Refusal); 18] = [
+const REFUSALS: [(u32, Refusal); 20] = [
     (1, Refusal::WordCountOutOfRange),
     (2, Refusal::WordLengthZero),
     (3, Refusal::FirstWordSqueeze),
@@ -118,6 +148,8 @@ const REFUSALS: [(u32, Refusal); 18] = [
     (17, Refusal::SeparatorTooShort),
     (18, Refusal::FieldUnknown),
     (19, Refusal::CallTooLong),
+    (20, Refusal::SealLengthInvalid),
+    (21, Refusal::MarkDiffers),
 ];
 
 /// The number of an answer by its variant, which has to be the one that the crate gives it.
@@ -182,6 +214,32 @@ pub fn check_protocol(protocol: &Protocol, field: Field, words: &[u32], separato
     assert_eq!(protocol.pattern().words(), words, "the protocol's words");
     assert_eq!(protocol.separator(), separator, "the protocol's separator");
     assert_eq!(protocol.tag_string(), &string[..size], "the protocol's tag string");
+}
+
+/// Sealing or opening, of a text and a buffer.
+type OfSeal = fn(&Seal, &[u32], &mut [u32]) -> Result<(), Refusal>;
+
+/// A note sealed or opened by the types, in lent lists. No type holds an unknown field, or a key or nonce of another length than eight: these are not
+/// asked for, and get nothing.
+fn note_by_types(noise: &mut Random, inputs: &SealInputs, text: &[u32], out: &mut [u32], call: OfSeal) -> Option<u32> {
+    let field = field_of(inputs.field)?;
+    let (key, nonce) = (inputs.key.try_into().ok()?, inputs.nonce.try_into().ok()?);
+    let (keys, separator) = (Lent::new(&[key, nonce], noise), Lent::new(inputs.separator, noise));
+    let [lengths, text, mut lent] = [inputs.lengths, text, out].map(|list| Lent::new(list, noise));
+    let seal = Seal {
+        field,
+        key: &keys.part()[0],
+        nonce: &keys.part()[1],
+        separator: separator.part(),
+        lengths: lengths.part(),
+    };
+    let number = number_of(&call(&seal, text.part(), lent.part_mut()));
+    keys.only_read();
+    separator.only_read();
+    lengths.only_read();
+    text.only_read();
+    out.copy_from_slice(lent.returned());
+    Some(number)
 }
 
 /// Words with zeros behind them.
@@ -345,6 +403,16 @@ impl Interface for Types {
         separator.only_read();
         (number_of(&answer), answer.map_or(0, u32::from))
     }
+
+    fn seal(&self, noise: &mut Random, inputs: &SealInputs, plain: &[u32], out: &mut [u32]) -> u32 {
+        let answer = note_by_types(noise, inputs, plain, out, |seal, plain, out| seal.seal(plain, out));
+        answer.unwrap_or_else(|| independent::seal(inputs, plain, out))
+    }
+
+    fn open(&self, noise: &mut Random, inputs: &SealInputs, sealed: &[u32], out: &mut [u32]) -> u32 {
+        let answer = note_by_types(noise, inputs, sealed, out, |seal, sealed, out| seal.open(sealed, out));
+        answer.unwrap_or_else(|| independent::open(inputs, sealed, out))
+    }
 }
 
 // The independent implementation
@@ -400,5 +468,11 @@ impl Interface for Independent {
     }
     fn owner(&self, _: &mut Random, table: &[u8], separator: &[u8]) -> (u32, u32) {
         independent::owner(table, separator)
+    }
+    fn seal(&self, _: &mut Random, inputs: &SealInputs, plain: &[u32], out: &mut [u32]) -> u32 {
+        independent::seal(inputs, plain, out)
+    }
+    fn open(&self, _: &mut Random, inputs: &SealInputs, sealed: &[u32], out: &mut [u32]) -> u32 {
+        independent::open(inputs, sealed, out)
     }
 }

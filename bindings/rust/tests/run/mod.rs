@@ -7,7 +7,7 @@
 #![allow(dead_code)]
 
 use crate::guarded::Random;
-use crate::inputs::Call;
+use crate::inputs::{Call, NoteCall};
 use crate::interfaces::{perform, Independent, Interface};
 use std::collections::BTreeMap;
 use std::fmt::Debug;
@@ -221,5 +221,34 @@ impl Run {
         let answer = self.library.owner(&mut self.noise, table, separator);
         assert_eq!(answer, expected, "the number and the value");
         self.answered("owner", answer.0);
+    }
+
+    /// A note sealed or opened by both. Gives the number and what the buffer holds afterwards, which is also compared with the document's words.
+    pub fn note(&mut self, call: &NoteCall) -> (u32, Vec<u32>) {
+        self.last = Box::new(call.clone());
+        let (inputs, mut out, mut expected) = (call.inputs(), call.out.clone(), call.out.clone());
+        let (name, noise) = (if call.opening { "open" } else { "seal" }, &mut self.noise);
+        let (answer, number) = if call.opening {
+            (
+                self.library.open(noise, &inputs, &call.text, &mut out),
+                Independent.open(noise, &inputs, &call.text, &mut expected),
+            )
+        } else {
+            (
+                self.library.seal(noise, &inputs, &call.text, &mut out),
+                Independent.seal(noise, &inputs, &call.text, &mut expected),
+            )
+        };
+        assert_eq!(answer, number, "the number");
+        assert_eq!(out, expected, "the buffer");
+        match number {
+            0 => (),
+            // "a wrong mark leaves zeros where the blocks would be"
+            21 => assert_eq!(out, vec![0; call.out.len()]),
+            // "A refused seal or open writes nothing"
+            _ => assert_eq!(out, call.out),
+        }
+        self.answered(name, number);
+        (number, out)
     }
 }
