@@ -4,23 +4,33 @@ use mathlib.Core.Path.{_≡_, refl, ap₂, _∙_}
 use mathlib.Core.Bool.{true, false, false≢true}
 use mathlib.Core.List.{List, [], _∷_}
 use Prim.Native.Nat.{ℕ, suc, _+_, _≤_, _<_}
+use native.Mathlib.Nat.{add-zero}
 use native.Mathlib.Numerals.{add-one}
-use borrow.Author.Tests.{eqb-true, eq-eqb}
+use native.Mathlib.Omega.{arith}
+use borrow.Author.Tests.{eqb-true, eq-eqb, ne-eqb}
 use lib.Dec.{eqb}
 use lib.ListN.{length, getD, drop, drop-of-length-le}
 use lib.Seq.{drop-cons}
-use Rattle.basics.specs.Logic.{_and_}
-use Rattle.basics.proofs.Cases.{and-left, and-right, and-both}
+use Rattle.basics.specs.Logic.{_and_, if_then_else_}
+use Rattle.basics.proofs.Cases.{by, cases, and-left, and-right, and-both, and-false}
 use Rattle.seal.specs.Seal.{isMark}
+use Rattle.seal.specs.Steps.{differenceOf}
 
-module _ (xs ys : List ℕ) (i : ℕ) (hx : i < length xs) (hy : i < length ys) where
-  pub mark-step : eqb (getD xs i 0) (getD ys i 0) ≡ true → isMark (drop i xs) (drop i ys) ≡ isMark (drop (i + 1) xs) (drop (i + 1) ys)
-  unfolding isMark _and_
-  mark-step e = rw (add-one, drop-cons xs i 0, drop-cons ys i 0, e)
+pub difference-least : (x y : ℕ) → differenceOf x y ≤ 1
+unfolding differenceOf
+difference-least x y = by (λ (d : ℕ). d ≤ 1) (eqb x y) 0 1 (λ _. omega arith) λ _. omega arith
 
-  pub mark-stop : eqb (getD xs i 0) (getD ys i 0) ≡ false → isMark (drop i xs) (drop i ys) ≡ false
-  unfolding isMark _and_
-  mark-stop e = rw (drop-cons xs i 0, drop-cons ys i 0, e)
+-- one element further, with n differences before it
+pub compared : (n : ℕ) (xs ys : List ℕ) (i : ℕ) → i < length xs → i < length ys
+    → (eqb n 0 and isMark (drop i xs) (drop i ys))
+    ≡ (eqb (n + differenceOf (getD xs i 0) (getD ys i 0)) 0 and isMark (drop (i + 1) xs) (drop (i + 1) ys))
+unfolding isMark _and_ if_then_else_ differenceOf
+compared n xs ys i hx hy =
+    cases (eqb (getD xs i 0) (getD ys i 0))
+    (λ e. rw (add-one, drop-cons xs i 0, drop-cons ys i 0, e, add-zero n))
+    λ e.
+    let some : eqb (n + 1) 0 ≡ false = ne-eqb (n + 1) 0 (λ z. omega arith) in
+    rw (drop-cons xs i 0, drop-cons ys i 0, e, some) (and-false (eqb n 0))
 
 pub mark-end : (xs ys : List ℕ) (i : ℕ) → length xs ≤ i → length ys ≤ i → isMark (drop i xs) (drop i ys) ≡ true
 unfolding isMark

@@ -14,7 +14,7 @@ ghost use Rattle.field.specs.Field.{modulus};
 ghost use Rattle.session.specs.Record.{fieldIn, squeezedAll};
 ghost use Rattle.session.specs.Calls.{squeeze};
 ghost use Rattle.seal.specs.Seal.{context, sealWords, keyed, keystream, afterBlock, afterBlocks, plus, minus, cipherBlocks, plainBlocks, blocksOf, isMark, soundLengths, areElements, noteRows, leaving, sealNote, openNote};
-ghost use Rattle.seal.specs.Steps.{Squeezes};
+ghost use Rattle.seal.specs.Steps.{Squeezes, differenceOf};
 
 // How many elements a key, a nonce and a mark have.
 const KEY_LENGTH: usize = 8;
@@ -250,17 +250,23 @@ fn open_blocks(record: Session, lengths: &[u32], note: &[u32], out: &mut [u32]) 
     last
 }
 
-// Whether a mark is what stands in a list.
+// 1 where two elements differ, else 0.
+fn difference(a: u32, b: u32) -> u32
+    ensures { λ r. ⌜ r ≡ differenceOf a b ⌝ }
+{
+    if a == b { 0 } else { 1 }
+}
+
+// Whether a mark is what stands in a list. Differences are counted to the end, so that the time does not tell which element is the first that differs.
 fn is_mark(mark: &[u32], given: &[u32]) -> bool
-    requires { ⌜ length (now mark) ≡ length (now given) ⌝ }
+    requires { ⌜ (length (now mark) ≡ length (now given)) × (length (now given) ≤ 8) ⌝ }
     ensures { λ r. ⌜ r ≡ isMark (now (mark .entry)) (now (given .entry)) ⌝ }
 {
+    let mut differences: u32 = 0;
     for i in 0..given.len() {
-        if mark[i] != given[i] {
-            return false;
-        }
+        differences += difference(mark[i], given[i]);
     }
-    true
+    differences == 0
 }
 
 // Whether what a record squeezes last is the given mark.

@@ -1,41 +1,65 @@
 -- `seal::is_mark` meets its contract.
 -- Assumes nothing.
-use mathlib.Core.Path.{_≡_, refl, sym, _∙_}
-use Prim.Native.Nat.{ℕ, _-_, _≤_, _<_}
+use mathlib.Core.Path.{_≡_, refl, sym, ap, _∙_}
+use mathlib.Core.Bool.{Bool, true, false}
+use Prim.Native.Nat.{ℕ, _+_, _-_, _≤_}
 use native.Mathlib.Omega.{arith}
-use borrow.Author.Tests.{eq-eqb, ne-eqb}
+use lib.Dec.{eqb}
 use lib.ListN.{length, getD, drop}
+use Rattle.basics.specs.Logic.{_and_}
 use Rattle.seal.specs.Seal.{isMark}
-use Rattle.seal.proofs.Marks.{mark-step, mark-stop, mark-end}
+use Rattle.seal.specs.Steps.{differenceOf}
+use Rattle.seal.proofs.Marks.{difference-least, compared, mark-end}
 use borrow.Author.Needs.{needs}
 use Rattle.seal.proofs.is_mark.Statement.{statement}
 use Rattle.seal.proofs.is_mark.Tie as tie
 
 abbrev Inv-loop : tie.InvT-loop
-Inv-loop mark given i₀ i-end i = (i ≤ length given) × (isMark mark given ≡ isMark (drop i mark) (drop i given))
+Inv-loop mark given differences₀ i₀ i-end differences i =
+    (i ≤ length given) × (differences ≤ i) × (isMark mark given ≡ (eqb differences 0 and isMark (drop i mark) (drop i given)))
 
 abbrev μ-loop : tie.MeasureT-loop
-μ-loop mark given i₀ i-end i = length given - i
+μ-loop mark given differences₀ i₀ i-end differences i = length given - i
 
 loop-holds : tie.Need-loop-holds Inv-loop μ-loop
-loop-holds c = (search needs, refl)
+unfolding _and_
+loop-holds c = (search needs, search needs, refl)
 
-returns : tie.Need-returns Inv-loop μ-loop
-returns c =
+add-differences : tie.Need-add-differences Inv-loop μ-loop
+add-differences c =
     let at-loop = c .before .before .before .before in
-    let args = at-loop .before .args in
-    sym (at-loop .loop .inv .1 ∙ mark-stop (args .mark .now) (args .given .now) (at-loop .loop .i) (search needs) (search needs) (ne-eqb _ _ (c .if1 .taken)))
+    let args = at-loop .before .before .before .args in
+    let i = at-loop .loop .i in
+    let least = difference-least (getD (args .mark .now) i 0) (getD (args .given .now) i 0) in
+    let one = c .difference .ensures in
+    search needs
 
 loop-again : tie.Need-loop-again Inv-loop μ-loop
 loop-again c =
     let at-loop = c .before .before .before .before in
-    let args = at-loop .before .args in
-    (search needs, at-loop .loop .inv .1 ∙ mark-step (args .mark .now) (args .given .now) (at-loop .loop .i) (search needs) (search needs) (eq-eqb _ _ (c .if1 .left)))
+    let args = at-loop .before .before .before .args in
+    let i = at-loop .loop .i in
+    let mark = args .mark .now in
+    let given = args .given .now in
+    let least = difference-least (getD mark i 0) (getD given i 0) in
+    let one : c .difference .result ≡ differenceOf (getD mark i 0) (getD given i 0) = c .difference .ensures in (
+      search needs,
+      omega (arith, least, one),
+      at-loop .loop .inv .2
+          ∙ compared (at-loop .loop .differences) mark given i (search needs) (search needs)
+          ∙ ap (λ (d : ℕ). eqb (at-loop .loop .differences + d) 0 and isMark (drop (i + 1) mark) (drop (i + 1) given)) (sym one),
+    )
 
-returns-2 : tie.Need-returns-2 Inv-loop μ-loop
-returns-2 c =
-    let args = c .before .before .args in
-    sym (c .before .loop .inv .1 ∙ mark-end (args .mark .now) (args .given .now) (c .before .loop .i) (search needs) (search needs))
+and-done : (a b : Bool) → b ≡ true → (a and b) ≡ a
+unfolding _and_
+and-done true b e = e
+and-done false b e = refl
+
+returns : tie.Need-returns Inv-loop μ-loop
+returns c =
+    let at-loop = c .before in
+    let args = at-loop .before .before .before .args in
+    sym (at-loop .loop .inv .2 ∙ and-done _ _ (mark-end (args .mark .now) (args .given .now) (at-loop .loop .i) (search needs) (search needs)))
 
 pub is-mark-spec : {M : Type 1} → statement M
 is-mark-spec =
@@ -48,8 +72,9 @@ is-mark-spec =
     (λ c. search needs)
     (λ c. search needs)
     (λ c. search needs)
-    returns
+    (λ c κs. search needs)
+    add-differences
     (λ c. search needs)
     (λ c. search needs)
     loop-again
-    returns-2)
+    returns)
