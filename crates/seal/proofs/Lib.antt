@@ -11,3 +11,4 @@ pub mod Rows
 pub mod Accepted
 pub mod Outcomes
 pub mod Parts
+pub mod RoundTrip
