@@ -12,3 +12,4 @@ pub mod Accepted
 pub mod Outcomes
 pub mod Parts
 pub mod RoundTrip
+pub mod Inverse
