@@ -13,3 +13,4 @@ pub mod Outcomes
 pub mod Parts
 pub mod RoundTrip
 pub mod Inverse
+pub mod NoteRun
