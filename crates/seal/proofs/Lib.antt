@@ -14,3 +14,4 @@ pub mod Parts
 pub mod RoundTrip
 pub mod Inverse
 pub mod NoteRun
+pub mod Refusals

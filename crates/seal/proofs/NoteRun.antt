@@ -134,7 +134,7 @@ module _ (c : Context) (plain : List ℕ) {size : ℕ} (p : Passed c plain 0 siz
       let ready = blocks-accepted f (c .lengths) (p .lengths .each) (keyed c) (keyed-ready c p) plain-fit .1 in
       ap (λ (r : Session). finish r .number) (ran-blocks .leaves) ∙ mark-accepted f (afterBlocks (keyed c) blocks) ready .1
 
-  pub note-run : Run
+  unfoldable pub note-run : Run
   unfolding noteCalls leftBy left answered started keyed
   note-run = record { field = c .field; opening = o; before = noteCalls c plain; opens = start-accepts c p; ends = finishes }
 

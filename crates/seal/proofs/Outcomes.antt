@@ -64,12 +64,14 @@ module _ (c : Context) (text buffer : List ℕ) where
   unfolding noteRows all _and_
   no-mark-rows = refl
 
+  pub never-21 : first ≢ markDiffers
+  never-21 = never-given markDiffers _ no-mark-rows (λ e. omega arith)
+
   pub open-refused : first ≢ accepted → openNote c text buffer ≡ leaving first buffer
   unfolding openNote openRows
   open-refused z =
       let number = refused-before (noteRows c text 8 (length buffer) 0) _ z in
-      let other = never-given markDiffers _ no-mark-rows (λ e. omega arith) in
-      ap₂ leaving number (if-false _ _ _ (ne-eqb _ 0 (λ e. z (sym number ∙ e))) ∙ if-false _ _ _ (ne-eqb _ _ (λ e. other (sym number ∙ e))))
+      ap₂ leaving number (if-false _ _ _ (ne-eqb _ 0 (λ e. z (sym number ∙ e))) ∙ if-false _ _ _ (ne-eqb _ _ (λ e. never-21 (sym number ∙ e))))
 
   -- opening is accepted where none of these rows applies, and the mark is right
   pub opened-for : openNote c text buffer .number ≡ accepted → (first ≡ accepted) × (hasMark c text ≡ true)
