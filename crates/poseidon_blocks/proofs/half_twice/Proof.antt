@@ -1,4 +1,4 @@
--- `poseidon_matrix::half_twice` meets its contract.
+-- `poseidon_blocks::half_twice` meets its contract.
 -- Assumes nothing.
 use mathlib.Core.Path.{_≡_, refl}
 use Prim.Native.Nat.{ℕ, _+_, _-_, _%_}
@@ -6,8 +6,8 @@ use native.Mathlib.Omega.{arith}
 use lib.ListN.{getD}
 use Rattle.poseidon_rounds.proofs.Places.{Filling, start, step, end}
 use borrow.Author.Needs.{needs}
-use Rattle.poseidon_matrix.proofs.half_twice.Statement.{statement}
-use Rattle.poseidon_matrix.proofs.half_twice.Tie as tie
+use Rattle.poseidon_blocks.proofs.half_twice.Statement.{statement}
+use Rattle.poseidon_blocks.proofs.half_twice.Tie as tie
 
 abbrev Inv-loop : tie.InvT-loop
 Inv-loop x from out₀ i₀ out i = Filling 24 (λ k e. e ≡ getD x (from + k % 12) 0) out i

@@ -1,9 +1,9 @@
--- `poseidon_matrix::lowered` meets its contract.
+-- `poseidon_blocks::lowered` meets its contract.
 -- Assumes nothing.
-use Rattle.poseidon_matrix.proofs.Blocks.{lowered}
+use Rattle.poseidon_blocks.proofs.Blocks.{lowered}
 use borrow.Author.Needs.{needs}
-use Rattle.poseidon_matrix.proofs.lowered.Statement.{statement}
-use Rattle.poseidon_matrix.proofs.lowered.Tie as tie
+use Rattle.poseidon_blocks.proofs.lowered.Statement.{statement}
+use Rattle.poseidon_blocks.proofs.lowered.Tie as tie
 
 returns : tie.Need-returns
 returns c =

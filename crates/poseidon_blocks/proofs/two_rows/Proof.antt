@@ -1,14 +1,14 @@
--- `poseidon_matrix::two_rows` meets its contract.
+-- `poseidon_blocks::two_rows` meets its contract.
 -- Assumes nothing.
 use mathlib.Core.Path.{_≡_, refl}
 use Prim.Native.Nat.{ℕ, _+_, _-_, _%_, _≤_}
 use native.Mathlib.Omega.{arith}
 use denote.Ref.{now}
-use Rattle.poseidon_matrix.specs.Hankel.{PartialSum}
-use Rattle.poseidon_matrix.proofs.Blocks.{sum-start, block-row}
+use Rattle.poseidon_blocks.specs.Blocks.{PartialSum}
+use Rattle.poseidon_blocks.proofs.Blocks.{sum-start, block-row}
 use borrow.Author.Needs.{needs}
-use Rattle.poseidon_matrix.proofs.two_rows.Statement.{statement}
-use Rattle.poseidon_matrix.proofs.two_rows.Tie as tie
+use Rattle.poseidon_blocks.proofs.two_rows.Statement.{statement}
+use Rattle.poseidon_blocks.proofs.two_rows.Tie as tie
 
 abbrev Inv-loop : tie.InvT-loop
 Inv-loop table first last sums i c e m q r a₀ b₀ s₀ d₀ a b s d =

@@ -18,9 +18,9 @@ use Rattle.poseidon_rounds.specs.Tables.{blockPlace, Blocks}
 use Rattle.poseidon_rounds.proofs.Congruence.{opposite, sum-congruent}
 use Rattle.poseidon_rounds.proofs.Linear.{sum-add}
 use Rattle.poseidon_rounds.proofs.Places.{either}
-use Rattle.poseidon_matrix.specs.Hankel.{blockProducts, PartialSum, Closed, BlockRow, TwoRows, Lowered, HankelRow}
+use Rattle.poseidon_blocks.specs.Blocks.{blockProducts, PartialSum, Closed, BlockRow, TwoRows, Lowered, MatrixRow}
 use Rattle.poseidon_matrix.proofs.Laws.{sum-two, high-bound}
 use Rattle.poseidon_matrix.proofs.Rotation.{around}
 
 term-bound : (a b : ℕ) → a < 2130706433 → b < 2147483648 → a * b ≤ 4575657219277717504
 term-bound a b ha hb = mul-le-mul (le-pred-of-lt ha) (le-pred-of-lt hb)
@@ -274,7 +274,7 @@ module _ (t x first last sums : List ℕ) (m : ℕ) (hf : Each 24 (λ k e. e ≡
     sums-right k l =
         subst (Congruent m (getD sums k 0)) (λ n. hf .each k l n + hl .each k l n) (hs .each k l .right small (first-near k l) (last-near k l) .1)
 
-  pub at-first-rows : {i c q r e : ℕ} → i < 12 → BlockRow t first sums 0 i c m q r e → HankelRow t x c m q r i e
+  pub at-first-rows : {i c q r e : ℕ} → i < 12 → BlockRow t first sums 0 i c m q r e → MatrixRow t x c m q r i e
   at-first-rows {i} {c} hi b =
       record {
         right = λ f A hm ht hx B.
@@ -282,7 +282,7 @@ module _ (t x first last sums : List ℕ) (m : ℕ) (hf : Each 24 (λ k e. e ≡
             record { same = transitive (g .same) (add-congruent (first-row B x i hi first sums (hf .each) (sums-right (hm .small) hx)) (reflexive c)); near = g .near };
       }
 
-  pub at-last-rows : {i c q r e : ℕ} → i < 12 → BlockRow t last sums 1 i c m q r e → HankelRow t x c m q r (12 + i) e
+  pub at-last-rows : {i c q r e : ℕ} → i < 12 → BlockRow t last sums 1 i c m q r e → MatrixRow t x c m q r (12 + i) e
   at-last-rows {i} {c} hi b =
       record {
         right = λ f A hm ht hx B.

@@ -1,14 +1,14 @@
--- `poseidon_matrix::sums_of_halves` meets its contract.
+-- `poseidon_blocks::sums_of_halves` meets its contract.
 -- Assumes nothing.
 use mathlib.Core.Path.{_≡_, refl}
 use Prim.Native.Nat.{ℕ, _-_}
 use native.Mathlib.Omega.{arith}
 use lib.ListN.{getD}
 use Rattle.poseidon_rounds.proofs.Places.{Filling, start, step, end}
-use Rattle.poseidon_matrix.specs.Hankel.{Lowered}
+use Rattle.poseidon_blocks.specs.Blocks.{Lowered}
 use borrow.Author.Needs.{needs}
-use Rattle.poseidon_matrix.proofs.sums_of_halves.Statement.{statement}
-use Rattle.poseidon_matrix.proofs.sums_of_halves.Tie as tie
+use Rattle.poseidon_blocks.proofs.sums_of_halves.Statement.{statement}
+use Rattle.poseidon_blocks.proofs.sums_of_halves.Tie as tie
 
 abbrev Inv-loop : tie.InvT-loop
 Inv-loop x y m out₀ i₀ out i = Filling 24 (λ k. Lowered (getD x k 0) (getD y k 0) m) out i

@@ -1,15 +1,15 @@
--- `poseidon_matrix::close` meets its contract.
+-- `poseidon_blocks::close` meets its contract.
 -- Assumes nothing.
 use mathlib.Core.Path.{_∙_, ap}
 use Prim.Native.Nat.{ℕ, _+_}
 use native.Mathlib.Omega.{arith}
 use Rattle.montgomery.specs.Montgomery.{lowProduct}
 use Rattle.montgomery.proofs.Reduction.{reduced-at}
 use Rattle.poseidon_matrix.proofs.Laws.{high-fits}
-use Rattle.poseidon_matrix.proofs.Blocks.{closed}
+use Rattle.poseidon_blocks.proofs.Blocks.{closed}
 use borrow.Author.Needs.{needs}
-use Rattle.poseidon_matrix.proofs.close.Statement.{statement}
-use Rattle.poseidon_matrix.proofs.close.Tie as tie
+use Rattle.poseidon_blocks.proofs.close.Statement.{statement}
+use Rattle.poseidon_blocks.proofs.close.Tie as tie
 
 add-reduce-2 : tie.Need-add-reduce-2
 add-reduce-2 c =

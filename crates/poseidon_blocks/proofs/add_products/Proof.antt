@@ -1,20 +1,20 @@
--- `poseidon_matrix::add_products` meets its contract.
+-- `poseidon_blocks::add_products` meets its contract.
 -- Assumes nothing.
 use Prim.Native.Nat.{ℕ}
 use native.Mathlib.Omega.{arith}
 use denote.Ref.{now}
-use Rattle.poseidon_matrix.proofs.Blocks.{sum-step}
+use Rattle.poseidon_blocks.proofs.Blocks.{sum-step}
 use borrow.Author.Needs.{needs}
-use Rattle.poseidon_matrix.proofs.add_products.Statement.{statement}
-use Rattle.poseidon_matrix.proofs.add_products.Tie as tie
+use Rattle.poseidon_blocks.proofs.add_products.Statement.{statement}
+use Rattle.poseidon_blocks.proofs.add_products.Tie as tie
 
 returns : tie.Need-returns
 returns c =
     let s = c .before .before .before .before .before .before .before in
     let a = s .args in
     sum-step (now (a .table)) (now (a .x)) (a .block) (a .i) (a .d) (a .sum .low) (a .sum .high) _ _ _ _ _
-    (c .before .before .before .before .before .before .block-term .ensures) (c .before .before .before .before .before .block-term2 .ensures)
-    (c .before .before .before .before .block-term3 .ensures) (c .before .before .before .block-term4 .ensures) (c .before .before .sum-of-four .ensures) (search needs)
+    (c .before .before .before .before .before .before .term .ensures) (c .before .before .before .before .before .term2 .ensures)
+    (c .before .before .before .before .term3 .ensures) (c .before .before .before .term4 .ensures) (c .before .before .sum-of-four .ensures) (search needs)
     (s .pre .3)
 
 pub add-products-spec : {M : Type 1} → statement M

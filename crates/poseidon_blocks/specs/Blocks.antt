@@ -41,10 +41,10 @@ pub record Lowered (a b m s : ℕ) : Type 0 where
   pub right : m ≤ 2130706433 → a < m + 1048576 → b < m + 1048576 → (s < 2147483648) × Congruent m s (a + b)
 
 -- row k of a matrix times the state, and c, for each matrix A that the table holds in blocks
-pub record HankelRow (t x : List ℕ) (c m q r k e : ℕ) : Type 0 where
+pub record MatrixRow (t x : List ℕ) (c m q r k e : ℕ) : Type 0 where
   pub right : (f : ℕ) (A : ℕ → ℕ → ℕ) → Modulus m q r → Below 2130706433 t → ((j : ℕ) → j < 24 → getD x j 0 < m + 1048576) → Blocks m f A t
       → Element m (sum 24 (λ j. f * A k j * getD x j 0) + c) e
 
 -- all rows, each with an addend from the table's row of 24
-abbrev pub HankelProduct : List ℕ → List ℕ → List ℕ → ℕ → ℕ → ℕ → ℕ → List ℕ → Type 0
-HankelProduct t x addends row m q r out = Each 24 (λ k. HankelRow t x (getD addends (24 * (row % 11) + k) 0) m q r k) out
+abbrev pub Product : List ℕ → List ℕ → List ℕ → ℕ → ℕ → ℕ → ℕ → List ℕ → Type 0
+Product t x addends row m q r out = Each 24 (λ k. MatrixRow t x (getD addends (24 * (row % 11) + k) 0) m q r k) out
