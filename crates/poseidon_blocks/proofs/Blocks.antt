@@ -275,19 +275,25 @@ module _ (t x first last sums : List ℕ) (m : ℕ) (hf : Each 24 (λ k e. e ≡
         subst (Congruent m (getD sums k 0)) (λ n. hf .each k l n + hl .each k l n) (hs .each k l .right small (first-near k l) (last-near k l) .1)
 
   pub at-first-rows : {i c q r e : ℕ} → i < 12 → BlockRow t first sums 0 i c m q r e → MatrixRow t x c m q r i e
-  at-first-rows {i} {c} hi b =
+  at-first-rows {i} {c} {q} {r} {e} hi b =
+      let row : Modulus m q r → Below 2130706433 t → ((j : ℕ) → j < 24 → getD x j 0 < m + 1048576)
+      → Element m (sum 6 (blockProducts t first 0 i) + sum 6 (blockProducts t sums 2 i) + c) e =
+      λ hm ht hx. b .right hm ht (first-below (hm .small) hx) (sums-below (hm .small) hx) in
       record {
-        right = λ f A hm ht hx B.
-            let g = b .right hm ht (first-below (hm .small) hx) (sums-below (hm .small) hx) in
-            record { same = transitive (g .same) (add-congruent (first-row B x i hi first sums (hf .each) (sums-right (hm .small) hx)) (reflexive c)); near = g .near };
+        near = λ hm ht hx. row hm ht hx .near;
+        same = λ f A hm ht hx B.
+            transitive (row hm ht hx .same) (add-congruent (first-row B x i hi first sums (hf .each) (sums-right (hm .small) hx)) (reflexive c));
       }
 
   pub at-last-rows : {i c q r e : ℕ} → i < 12 → BlockRow t last sums 1 i c m q r e → MatrixRow t x c m q r (12 + i) e
-  at-last-rows {i} {c} hi b =
+  at-last-rows {i} {c} {q} {r} {e} hi b =
+      let row : Modulus m q r → Below 2130706433 t → ((j : ℕ) → j < 24 → getD x j 0 < m + 1048576)
+      → Element m (sum 6 (blockProducts t last 1 i) + sum 6 (blockProducts t sums 2 i) + c) e =
+      λ hm ht hx. b .right hm ht (last-below (hm .small) hx) (sums-below (hm .small) hx) in
       record {
-        right = λ f A hm ht hx B.
-            let g = b .right hm ht (last-below (hm .small) hx) (sums-below (hm .small) hx) in
-            record { same = transitive (g .same) (add-congruent (last-row B x i hi last sums (hl .each) (sums-right (hm .small) hx)) (reflexive c)); near = g .near };
+        near = λ hm ht hx. row hm ht hx .near;
+        same = λ f A hm ht hx B.
+            transitive (row hm ht hx .same) (add-congruent (last-row B x i hi last sums (hl .each) (sums-right (hm .small) hx)) (reflexive c));
       }
 
 -- a loop that fills a list of 24 elements from the front of either half

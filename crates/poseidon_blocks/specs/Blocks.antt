@@ -40,10 +40,11 @@ pub record TwoRows (t first last sums : List ℕ) (i c d m q r e f : ℕ) : Type
 pub record Lowered (a b m s : ℕ) : Type 0 where
   pub right : m ≤ 2130706433 → a < m + 1048576 → b < m + 1048576 → (s < 2147483648) × Congruent m s (a + b)
 
--- row k of a matrix times the state, and c, for each matrix A that the table holds in blocks
+-- row k of a matrix times the state, and c, divided by the word, for each matrix A that the table holds in blocks; all but below m whatever the table holds
 pub record MatrixRow (t x : List ℕ) (c m q r k e : ℕ) : Type 0 where
-  pub right : (f : ℕ) (A : ℕ → ℕ → ℕ) → Modulus m q r → Below 2130706433 t → ((j : ℕ) → j < 24 → getD x j 0 < m + 1048576) → Blocks m f A t
-      → Element m (sum 24 (λ j. f * A k j * getD x j 0) + c) e
+  pub near : Modulus m q r → Below 2130706433 t → ((j : ℕ) → j < 24 → getD x j 0 < m + 1048576) → e < m + 1048576
+  pub same : (f : ℕ) (A : ℕ → ℕ → ℕ) → Modulus m q r → Below 2130706433 t → ((j : ℕ) → j < 24 → getD x j 0 < m + 1048576) → Blocks m f A t
+      → Congruent m (e * 4294967296) (sum 24 (λ j. f * A k j * getD x j 0) + c)
 
 -- all rows, each with an addend from the table's row of 24
 abbrev pub Product : List ℕ → List ℕ → List ℕ → ℕ → ℕ → ℕ → ℕ → List ℕ → Type 0
