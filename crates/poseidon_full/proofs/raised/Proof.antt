@@ -20,7 +20,6 @@ returns c =
     (getD p (168 + i) 0) (getD p (192 + i) 0) (c .power-of-any .result))
     (c .before .before .before .before .before .before .before .before .before .before .wide .ensures) (c .power-of-any .ensures)
 
-
 pub raised-spec : {M : Type 1} → statement M
 raised-spec =
     tie.close
