@@ -10,9 +10,11 @@ tables are made of. That the tables are right is proved, and not taken from here
 
 The word is 2^32, and R is the word modulo p; a power divides R out once for each of its products, and so does each product with a table. With n
 partial rounds and a power k:
-- MATRIX: the matrix times R^k, by pairs of diagonals: entry (i, i + d) and entry (i, i + d + 12), counted round, side by side.
-- PRE_SPARSE: the same of the matrix before the partial rounds, the first row that of the matrix, the others (R N)^n times it, and times R, where N
-  is the matrix without its first row and column.
+- MATRIX: the matrix times R^k, in blocks of 12 rows and columns. The block of the first rows and last columns is also that of the last rows and first
+  columns; the table has the first and the last block, each less this one, and then this one. Each is by pairs of diagonals: entry (i, i + d) and entry
+  (i, i + d + 6), counted round, side by side.
+- PRE_SPARSE: the matrix before the partial rounds, times R^k: the first row is that of the matrix, the others (R N)^n times it, and times R, where N is
+  the matrix without its first row and column. By pairs of diagonals: entry (i, i + d) and entry (i, i + d + 12).
 - SPARSE: pairs of a column's entry and a row's, 24 to a round. Pair row 0 has no column and the row of the first partial round; pair row s + 1 the
   column of round s and the row of the next. Each has a 0 for element 0.
 - FIRST_CONSTANTS: what is added to element 0 in each partial round, times R.
@@ -51,7 +53,15 @@ def inverse(rows, p):
 
 
 def diagonals(rows, p):
-    return [rows[i][(i + d + far) % 24] % p for d in range(12) for i in range(24) for far in (0, 12)]
+    size = len(rows)
+    return [rows[i][(i + d + far) % size] % p for d in range(size // 2) for i in range(size) for far in (0, size // 2)]
+
+
+def blocks(rows, p):
+    """The first and the last block of 12 rows less the one that they share, and that one."""
+    shared = [row[12:] for row in rows[:12]]
+    less = lambda block: [[x - y for x, y in zip(*both)] for both in zip(block, shared)]
+    return diagonals(less([row[:12] for row in rows[:12]]), p) + diagonals(less([row[12:] for row in rows[12:]]), p) + diagonals(shared, p)
 
 
 def numbers(field):
@@ -89,7 +99,7 @@ def tables(field):
     addends = constants[:96] + [constants[96] * WORD % p] + [0] * 24 + [x * WORD % p for x in running] + constants[24 * (4 + n):] + [0] * 24
     p, q, r, _, _ = numbers(field)
     return {
-        "MATRIX": ("u32", diagonals([[x * power(k) for x in row] for row in matrix], p)),
+        "MATRIX": ("u32", blocks([[x * power(k) for x in row] for row in matrix], p)),
         "PRE_SPARSE": ("u32", diagonals([[x * power(k) for x in row] for row in pre_sparse], p)),
         "SPARSE": ("u32", sparse + [0] * (1152 - len(sparse))),
         "FIRST_CONSTANTS": ("u32", first + [0] * (24 - len(first))),
@@ -119,20 +129,37 @@ def permuted(field, state):
             return reduced(folded(square * x))
         return reduced(folded(reduced(square * x) * reduced(square * square)))
 
-    def full_round(state, matrix, at, start):
-        x, out = [raised(a + c) for a, c in zip(state, table["ADDENDS"][at:])], []
-        for i in range(24):
-            low = high = 0
-            for d in range(0, 12, 2):
-                four = sum(matrix[48 * (d + e) + 2 * i + far] * x[(i + d + e + 12 * far) % 24] for e in (0, 1) for far in (0, 1))
-                assert four < 2 ** 64
-                low, high = low + four % 2 ** 48, high + four // 2 ** 48
-            out.append(reduced(low + high * r + table["ADDENDS"][start + i]))
+    def row_parts(entries, x, i):
+        """Row i of a table by pairs of diagonals times x: the low and the high parts of sums of four products."""
+        size, low, high = len(x), 0, 0
+        for d in range(0, size // 2, 2):
+            four = sum(entries[2 * size * (d + e) + 2 * i + far] * x[(i + d + e + size // 2 * far) % size] for e in (0, 1) for far in (0, 1))
+            assert four < 2 ** 64
+            low, high = low + four % 2 ** 48, high + four // 2 ** 48
+        return low, high
+
+    def powers(state, at):
+        return [raised(a + c) for a, c in zip(state, table["ADDENDS"][at:])]
+
+    def lowered(a):
+        a -= a // 2 ** 31 * p
+        assert 0 <= a < 2 ** 31
+        return a
+
+    def full_round(state, at):
+        x, matrix = powers(state, at), table["MATRIX"]
+        sums = [lowered(a + b) for a, b in zip(x[:12], x[12:])]
+        out = []
+        for block, half in (matrix[:144], x[:12]), (matrix[144:288], x[12:]):
+            for i in range(12):
+                (low, high), (shared_low, shared_high) = row_parts(block, half, i), row_parts(matrix[288:], sums, i)
+                out.append(reduced(low + shared_low + (high + shared_high) * r))
         return out
 
     for at in (0, 24, 48):
-        state = full_round(state, table["MATRIX"], at, 240)
-    state = full_round(state, table["PRE_SPARSE"], 72, 96)
+        state = full_round(state, at)
+    parts = [row_parts(table["PRE_SPARSE"], powers(state, 72), i) for i in range(24)]
+    state = [reduced(low + high * r + c) for (low, high), c in zip(parts, table["ADDENDS"][96:])]
     first, rest = state[0], [reduced(a) for a in state]
     for s in range(oracle.PARTIAL[field]):
         row = sum(a * b for a, b in zip(table["SPARSE"][48 * s + 1:48 * s + 48:2], rest))
@@ -141,7 +168,7 @@ def permuted(field, state):
         rest = [reduced(a * y + b) for a, b in zip(table["SPARSE"][48 * s + 48:48 * s + 96:2], rest)]
     state = [reduced(folded(a * word + c)) for a, c in zip([first] + rest[1:], table["ADDENDS"][120:])]
     for at in (144, 168, 192, 216):
-        state = full_round(state, table["MATRIX"], at, 240)
+        state = full_round(state, at)
     return [a - p if p <= a else a for a in state]
 
 
@@ -151,7 +178,7 @@ def lower_camel(name):
 
 
 ABOUT = {
-    "MATRIX": "the matrix by pairs of diagonals",
+    "MATRIX": "the matrix in three blocks of 12 rows, each by pairs of diagonals",
     "PRE_SPARSE": "the matrix before the partial rounds, by pairs of diagonals",
     "SPARSE": "columns and rows of the sparse matrices, in pairs",
     "FIRST_CONSTANTS": "what is added to element 0 in each partial round",

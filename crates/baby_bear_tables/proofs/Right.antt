@@ -11,10 +11,10 @@ use Rattle.montgomery.specs.Montgomery.{scale}
 use Rattle.poseidon_tables.specs.Tables.{constants, inverses, babyBearConstants, babyBearInverses}
 use Rattle.poseidon_rounds.specs.Instance.{Instance, instanceOf, matrix}
 use Rattle.poseidon_rounds.specs.Sparse.{carried, SparseTables}
-use Rattle.poseidon_rounds.specs.Tests.{alike, every, dot, products, turned, columnOf, rowOf, columnTest, rowTest, zeroTest, runningWith, runningOf, firstConstantsFrom, sparseTest, firstConstantsTest, scaledBy, afterTest, beforeTest, constantsTest, zerosTest, rowProducts, matrixProduct, rowsFrom, lowerRows, exponent, squared, raisedTo, diagonalRow, matrixTest, preSparseFrom, preSparseTest}
+use Rattle.poseidon_rounds.specs.Tests.{alike, every, dot, products, turned, columnOf, rowOf, columnTest, rowTest, zeroTest, runningWith, runningOf, firstConstantsFrom, sparseTest, firstConstantsTest, scaledBy, afterTest, beforeTest, constantsTest, zerosTest, rowProducts, matrixProduct, rowsFrom, lowerRows, exponent, squared, raisedTo, diagonalRow, sharedRow, wholeRow, matrixTest, preSparseFrom, preSparseTest}
 use Rattle.poseidon_rounds.specs.Tables.{Diagonals, preSparse, TablesOf}
 use Rattle.poseidon_rounds.proofs.Tests.{sparse-tables}
-use Rattle.poseidon_rounds.proofs.Tables.{matrix-diagonals, pre-sparse-diagonals, tables-of}
+use Rattle.poseidon_rounds.proofs.Tables.{matrix-blocks, pre-sparse-diagonals, tables-of}
 use Rattle.baby_bear_tables.specs.Tables as tables
 
 abbrev F : Instance
@@ -22,7 +22,7 @@ F = instanceOf BabyBear
 
 -- the word to the power 7
 matrix-passes : matrixTest F 1465352594 tables.matrix ≡ true
-unfolding matrixTest every alike diagonalRow _and_ tabulate matrix instanceOf inverses babyBearInverses tables.matrix
+unfolding matrixTest every alike sharedRow wholeRow _and_ tabulate matrix instanceOf inverses babyBearInverses tables.matrix
 matrix-passes = refl
 
 pre-sparse-passes : preSparseTest F 4294967296 1465352594 tables.preSparse (true ∷ false ∷ true ∷ false ∷ []) ≡ true
@@ -70,7 +70,7 @@ right =
     (record { same = refl })
     (record { same = refl })
     (record { same = refl })
-    (matrix-diagonals F 1465352594 tables.matrix matrix-passes)
+    (matrix-blocks F 1465352594 tables.matrix matrix-passes)
     (pre-sparse-diagonals F 4294967296 1465352594 tables.preSparse (true ∷ false ∷ true ∷ false ∷ []) pre-sparse-passes)
     sparse-right
     early-pass

@@ -4,14 +4,16 @@ mod tables;
 ghost use mathlib.Core.Path.{_≡_};
 ghost use Rattle.baby_bear_tables.specs.Tables.{matrix, preSparse, sparse, firstConstants, addends, copies};
 
-// The matrix, by pairs of diagonals: entries (i, i + d) and (i, i + d + 12), counted round, at 48 * d + 2 * i and behind it.
-pub fn matrix() -> [u32; 576]
+// The matrix in blocks of 12 rows and columns: the first less the shared one, the last less it, and the shared one. Each is by pairs of diagonals: entries
+// (i, i + d) and (i, i + d + 6), counted round, at 24 * d + 2 * i of its 144 and behind it.
+pub fn matrix() -> [u32; 432]
     ensures { λ r. ⌜ r ≡ matrix ⌝ }
 {
     tables::MATRIX
 }
 
-// The pre-sparse matrix, by which the state goes into the partial rounds, in the same order.
+// The pre-sparse matrix, by which the state goes into the partial rounds, by pairs of diagonals: entries (i, i + d) and (i, i + d + 12), counted round, at
+// 48 * d + 2 * i and behind it.
 pub fn pre_sparse() -> [u32; 576]
     ensures { λ r. ⌜ r ≡ preSparse ⌝ }
 {

@@ -21,7 +21,7 @@ use Rattle.field.proofs.Moduli.{positive, small, few-rounds}
 use Rattle.montgomery.specs.Montgomery.{Modulus, Power, Copies}
 use Rattle.poseidon_rounds.specs.Instance.{instanceOf}
 use Rattle.poseidon_rounds.specs.Places.{Each}
-use Rattle.poseidon_rounds.specs.Tables.{TablesOf}
+use Rattle.poseidon_rounds.specs.Tables.{Diagonals, TablesOf}
 use Rattle.baby_bear_tables.specs.Tables as babyBear
 use Rattle.baby_bear_tables.proofs.Right as babyBearRight
 use Rattle.koala_bear_tables.specs.Tables as koalaBear
@@ -56,7 +56,7 @@ pub permuted-given : (G : Parameters) (state : List ℕ) {m q r power n word fir
     → Given G m q r power n word firstEntry T
     → s ≡ remainders m state
     → Rounds m q r power (T .matrix) (T .addends) (T .copies) 0 3 s b
-    → Round m q r power (T .«pre_sparse») (T .addends) (T .copies) 3 4 b x
+    → Round Diagonals m q r power (T .«pre_sparse») (T .addends) (T .copies) 3 4 b x
     → PartialRounds m q r power firstEntry n (T .sparse) (T .«first_constants») x d
     → Rescaled d word (T .addends) m q r f
     → Rounds m q r power (T .matrix) (T .addends) (T .copies) 6 10 f g

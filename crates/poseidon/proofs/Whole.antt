@@ -16,7 +16,7 @@ use Rattle.poseidon_rounds.specs.Instance.{Instance, FullRound, PartialRound}
 use Rattle.poseidon_rounds.specs.Linear.{times}
 use Rattle.poseidon_rounds.specs.Places.{Each, Alike}
 use Rattle.poseidon_rounds.specs.Sparse.{running, carried, lower, Represents}
-use Rattle.poseidon_rounds.specs.Tables.{preSparse, addendBefore, addendAfter, TablesOf}
+use Rattle.poseidon_rounds.specs.Tables.{Diagonals, preSparse, addendBefore, addendAfter, TablesOf}
 use Rattle.poseidon_rounds.proofs.Congruence.{opposite, sum-congruent, cancel, equal-below}
 use Rattle.poseidon_rounds.proofs.Sparse.{represents-start, represents-end}
 use Rattle.poseidon_rounds.specs.Instance as any
@@ -49,7 +49,7 @@ remainder-congruent m s i l = record { same = ap (λ (x : ℕ). x % m) (remainde
 -- the parts of the code, one behind the other
 module _ (G : Parameters) (state : List ℕ) {m q r power n word firstEntry : ℕ} {t e sparse firstConstants addends b x d f g : List ℕ} (pos : 0 < m) (modulus : Modulus m q r)
     (wordBelow : word < 4294967296)
-    (hb : FullRun m power t addends 0 3 (remainders m state) b) (hx : Each 24 (RoundOf m power e addends 3 4 b) x)
+    (hb : FullRun m power t addends 0 3 (remainders m state) b) (hx : Each 24 (RoundOf Diagonals m power e addends 3 4 b) x)
     (hd : PartialRun m power firstEntry n sparse firstConstants x d) (hf : Rescaled d word addends m q r f) (hg : FullRun m power t addends 6 4 f g)
     (u c : ℕ) (T : TablesOf (instance G) m power n word firstEntry u c t e sparse firstConstants addends) where
   abbrev F : Instance

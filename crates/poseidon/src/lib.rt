@@ -15,10 +15,10 @@ pub struct Permuted {
     pub state: [u32; 24],
 }
 
-// What a permutation reads: the matrix and the pre-sparse matrix, the columns and rows of the partial rounds, the constants of element 0 in these, what
+// What a permutation reads: the matrix in blocks and the pre-sparse matrix, the columns and rows of the partial rounds, the constants of element 0 in these, what
 // the other rounds add, and copies of the modulus' numbers.
 pub struct Tables {
-    pub matrix: [u32; 576],
+    pub matrix: [u32; 432],
     pub pre_sparse: [u32; 576],
     pub sparse: [u32; 1152],
     pub first_constants: [u32; 24],
@@ -154,7 +154,7 @@ fn rescale(x: &[u32; 24], word: u32, addends: &[u32; 264], m: u32, q: u32, r: u3
 pub fn permutation_by<'a>(
     field: Field,
     state: [u32; 24],
-    matrix: &'a [u32; 576],
+    matrix: &'a [u32; 432],
     pre_sparse: &'a [u32; 576],
     sparse: &'a [u32; 1152],
     first_constants: &'a [u32; 24],

@@ -15,13 +15,14 @@ use Rattle.field.proofs.Congruence.{Congruent, reflexive, transitive, add-congr
 use Rattle.montgomery.specs.Montgomery.{Modulus, Element, scale, PowerOf, Power, Copies, Raised}
 use Rattle.poseidon_rounds.specs.Instance.{Instance, matrix, constant, FullRound}
 use Rattle.poseidon_rounds.specs.Places.{Each, Alike}
-use Rattle.poseidon_rounds.specs.Tables.{Diagonals, FullTable, Constants}
+use Rattle.poseidon_rounds.specs.Tables.{Diagonals, Blocks, FullTable, Constants}
 use Rattle.poseidon_rounds.proofs.Congruence.{opposite, sum-congruent, pow-congruent, cancel}
 use Rattle.poseidon_rounds.proofs.Places.{either}
 use Rattle.poseidon_rounds.proofs.PlainSums.{plain-sum-at}
 use Rattle.poseidon_matrix.specs.Matrix.{rowSum, Row, Product}
+use Rattle.poseidon_blocks.specs.Blocks as blocks
 use Rattle.poseidon_matrix.proofs.Rotation.{Twice, row-is-matrix}
-use Rattle.poseidon_full.specs.Full.{Summed, Sums, RaisedAt, Powers, Numbers, Setting, Near, RoundOf, Round, FullRun, Rounds}
+use Rattle.poseidon_full.specs.Full.{Summed, Sums, RaisedAt, Powers, PowersOnce, Numbers, Setting, Near, RoundOf, Round, FullRun, Rounds}
 
 -- the loop that raises all elements
 pub record Raising (power : ℕ) (x p out : List ℕ) (i : ℕ) : Type 0 where
@@ -81,17 +82,18 @@ copies-at {m} {q} {r} {p} i h n =
 
 -- the powers of numbers of 32 bits, in a setting
 module _ {m q r power : ℕ} {t addends p : List ℕ} (s : Setting m q r power t addends p) where
-  power-at : {x y : List ℕ} → Powers power x p y → ((k : ℕ) → k < 24 → getD x k 0 < 4294967296) → (k : ℕ) → k < 24 → PowerOf m power (getD x k 0) (getD y k 0)
-  power-at {x} {y} f hx k h =
+  power-at : (x y : List ℕ) → ((k : ℕ) → k < 24 → RaisedAt power x p k (getD y k 0)) → ((k : ℕ) → k < 24 → getD x k 0 < 4294967296)
+      → (k : ℕ) → k < 24 → PowerOf m power (getD x k 0) (getD y k 0)
+  power-at x y f hx k h =
       let n = s .numbers in
       let e = n .at-m k h in
       subst (λ (z : ℕ). PowerOf z power (getD x k 0) (getD y k 0)) e
-      (f .first k h .right (modulus-at k h n (s .modulus)) (subst (λ (z : ℕ). Power z power) (sym e) (s .power-right)) (copies-at k h n) (hx k h))
+      (f k h .right (modulus-at k h n (s .modulus)) (subst (λ (z : ℕ). Power z power) (sym e) (s .power-right)) (copies-at k h n) (hx k h))
 
   powers-below : {x y : List ℕ} → Powers power x p y → ((k : ℕ) → k < 24 → getD x k 0 < 4294967296) → Below 2131755009 y
   powers-below {x} {y} f hx =
       let small = s .modulus .small in
-      let low : (k : ℕ) → k < 24 → getD y k 0 < 2131755009 = λ k h. omega (arith, power-at f hx k h .near) in
+      let low : (k : ℕ) → k < 24 → getD y k 0 < 2131755009 = λ k h. omega (arith, power-at x y (f .first) hx k h .near) in
       let high : (k : ℕ) → 24 ≤ k → k < 48 → getD y k 0 < 2131755009 =
       λ k a b. subst (λ (z : ℕ). getD y z 0 < 2131755009) (let z : 24 + (k - 24) ≡ k = omega arith in z)
       (subst (λ (z : ℕ). z < 2131755009) (sym (f .again (k - 24) (omega arith))) (low (k - 24) (omega arith))) in
@@ -116,52 +118,94 @@ term m B K c a P y hc hy =
     (subst (λ (z : ℕ). Congruent m z (a * P * B)) (sym e) (mul-congruent (mul-congruent (reflexive a) hy) (reflexive B)))
 
 -- element k: row k of the matrix times the powers, and what is added
-element : (m power u c : ℕ) (A : ℕ → ℕ → ℕ) (t w y : List ℕ) (start begin k e : ℕ)
-    → Congruent m (u * 4294967296) 1 → Congruent m c (4294967296 * scale power) → Diagonals m c A t
-    → ((j : ℕ) → j < 24 → PowerOf m power (getD w j 0) (getD y j 0)) → ((j : ℕ) → j < 24 → getD y (24 + j) 0 ≡ getD y j 0)
-    → Element m (rowSum t y k + start) e → Congruent m start (begin * 4294967296) → k < 24
+element : (m power u c : ℕ) (A : ℕ → ℕ → ℕ) (w y : List ℕ) (row start begin k e : ℕ)
+    → Congruent m (u * 4294967296) 1 → Congruent m c (4294967296 * scale power) → Congruent m row (sum 24 (λ j. c * A k j * getD y j 0))
+    → ((j : ℕ) → j < 24 → PowerOf m power (getD w j 0) (getD y j 0)) → Element m (row + start) e → Congruent m start (begin * 4294967296)
     → Congruent m e (sum 24 (λ j. A k j * getD w j 0 ^ power) + begin)
-element m power u c A t w y start begin k e hu hc d hp again he hs h =
-    let rows : Congruent m (rowSum t y k) (sum 24 (λ j. c * A k j * getD y j 0)) = row-is-matrix m c A t y k h d (record { again = again }) in
+element m power u c A w y row start begin k e hu hc rows hp he hs =
     let terms : Congruent m (sum 24 (λ j. c * A k j * getD y j 0)) (sum 24 (λ j. A k j * getD w j 0 ^ power * 4294967296)) =
     sum-congruent 24 (λ j. c * A k j * getD y j 0) (λ j. A k j * getD w j 0 ^ power * 4294967296)
     (λ j l. term m 4294967296 (scale power) c (A k j) (getD w j 0 ^ power) (getD y j 0) hc (hp j l .same)) in
-    let scaled : Congruent m (rowSum t y k) (sum 24 (λ j. A k j * getD w j 0 ^ power) * 4294967296) =
-    subst (Congruent m (rowSum t y k)) (sum-scale 24 4294967296 (λ j. A k j * getD w j 0 ^ power)) (transitive rows terms) in
+    let scaled : Congruent m row (sum 24 (λ j. A k j * getD w j 0 ^ power) * 4294967296) =
+    subst (Congruent m row) (sum-scale 24 4294967296 (λ j. A k j * getD w j 0 ^ power)) (transitive rows terms) in
     let whole : Congruent m (e * 4294967296) ((sum 24 (λ j. A k j * getD w j 0 ^ power) + begin) * 4294967296) =
     subst (Congruent m (e * 4294967296)) (sym (add-mul (sum 24 (λ j. A k j * getD w j 0 ^ power)) begin 4294967296))
     (transitive (he .same) (add-congruent scaled hs)) in
     cancel m 4294967296 u e (sum 24 (λ j. A k j * getD w j 0 ^ power) + begin) hu whole
 
+-- the sums with constants that the powers are taken of, in a setting
+module _ {m q r power : ℕ} {t addends p : List ℕ} (s : Setting m q r power t addends p) {constantsRow : ℕ} {x w : List ℕ} (hc : constantsRow < 11) (near : Near m x)
+    (hw : Sums x addends constantsRow w) where
+  addend-below : (k : ℕ) → getD addends k 0 < 2130706433
+  addend-below = below-at 2130706433 (zero-lt-suc _) addends (s .addends-below)
+
+  sum-is : (j : ℕ) → j < 24 → getD w j 0 ≡ getD x j 0 + getD addends (24 * constantsRow + j) 0
+  sum-is j l =
+      let small = s .modulus .small in
+      let at = plain-sum-at addends (constantsRow % 11) x j l in
+      subst (λ (n : ℕ). getD w j 0 ≡ getD x j 0 + getD addends (24 * n + j) 0) (mod-eq-of-lt hc)
+      (hw .each j l (omega (arith, at, near .each j l, addend-below (24 * (constantsRow % 11) + j))) ∙ at)
+
+  sum-wide : (j : ℕ) → j < 24 → getD w j 0 < 4294967296
+  sum-wide j l =
+      let small = s .modulus .small in
+      omega (arith, sum-is j l, near .each j l, addend-below (24 * constantsRow + j))
+
+  -- the powers of the sums, in a row of the matrix
+  of-sums : (A : ℕ → ℕ → ℕ) (k e begin : ℕ) → Congruent m e (sum 24 (λ j. A k j * getD w j 0 ^ power) + begin)
+      → Congruent m e (sum 24 (λ j. A k j * (getD x j 0 + getD addends (24 * constantsRow + j) 0) ^ power) + begin)
+  of-sums A k e begin h =
+      subst (λ (n : ℕ). Congruent m e (n + begin))
+      (sum-same 24 (λ j. A k j * getD w j 0 ^ power) (λ j. A k j * (getD x j 0 + getD addends (24 * constantsRow + j) 0) ^ power)
+      (λ j l. ap (λ (n : ℕ). A k j * n ^ power) (sum-is j l)))
+      h
+
 -- a round of the code, from its three parts
 pub round-of : {m q r power : ℕ} {t addends p : List ℕ} {constantsRow addendsRow : ℕ} {x w y out : List ℕ}
     → Sums x addends constantsRow w → Powers power w p y → Product t y addends addendsRow m q r out
-    → Round m q r power t addends p constantsRow addendsRow x out
+    → Round Diagonals m q r power t addends p constantsRow addendsRow x out
 round-of {m} {q} {r} {power} {t} {addends} {p} {constantsRow} {addendsRow} {x} {w} {y} {out} hw hy ho =
     record {
       right = λ s hc ha near.
-          let small = s .modulus .small in
-          let ec : constantsRow % 11 ≡ constantsRow = mod-eq-of-lt hc in
-          let ea : addendsRow % 11 ≡ addendsRow = mod-eq-of-lt ha in
-          let below : (k : ℕ) → getD addends k 0 < 2130706433 = below-at 2130706433 (zero-lt-suc _) addends (s .addends-below) in
-          let sum-is : (j : ℕ) → j < 24 → getD w j 0 ≡ getD x j 0 + getD addends (24 * constantsRow + j) 0 =
-          λ j l. let at = plain-sum-at addends (constantsRow % 11) x j l in
-          subst (λ (n : ℕ). getD w j 0 ≡ getD x j 0 + getD addends (24 * n + j) 0) ec
-          (hw .each j l (omega (arith, at, near .each j l, below (24 * (constantsRow % 11) + j))) ∙ at) in
-          let wide : (j : ℕ) → j < 24 → getD w j 0 < 4294967296 = λ j l. omega (arith, sum-is j l, near .each j l, below (24 * constantsRow + j)) in
+          let wide = sum-wide s hc near hw in
           let e : (k : ℕ) → k < 24 → Element m (rowSum t y k + getD addends (24 * addendsRow + k) 0) (getD out k 0) =
-          λ k l. subst (λ (n : ℕ). Element m (rowSum t y k + getD addends (24 * n + k) 0) (getD out k 0)) ea
+          λ k l. subst (λ (n : ℕ). Element m (rowSum t y k + getD addends (24 * n + k) 0) (getD out k 0)) (mod-eq-of-lt ha)
           (ho .each k l .right (s .modulus) (s .table-below) (powers-below s hy wide)) in
           record {
             long = ho .long;
             each = λ k l.
                 record {
                   near = e k l .near;
-                  same = λ u c A begin hu hc d hs.
-                      subst (λ (n : ℕ). Congruent m (getD out k 0) (n + begin k))
-                      (sum-same 24 (λ j. A k j * getD w j 0 ^ power) (λ j. A k j * (getD x j 0 + getD addends (24 * constantsRow + j) 0) ^ power)
-                      (λ j h. ap (λ (n : ℕ). A k j * n ^ power) (sum-is j h)))
-                      (element m power u c A t w y (getD addends (24 * addendsRow + k) 0) (begin k) k (getD out k 0) hu hc d (power-at s hy wide) (hy .again) (e k l) (hs k l) l);
+                  same = λ u c A begin hu hf d hs.
+                      of-sums s hc near hw A k (getD out k 0) (begin k)
+                      (element m power u c A w y (rowSum t y k) (getD addends (24 * addendsRow + k) 0) (begin k) k (getD out k 0) hu hf
+                      (row-is-matrix m c A t y k l d (record { again = hy .again })) (power-at s w y (hy .first) wide) (e k l) (hs k l));
+                };
+          };
+    }
+
+-- and one by blocks
+pub round-by-blocks : {m q r power : ℕ} {t addends p : List ℕ} {constantsRow addendsRow : ℕ} {x w y out : List ℕ}
+    → Sums x addends constantsRow w → PowersOnce power w p y → blocks.Product t y addends addendsRow m q r out
+    → Round Blocks m q r power t addends p constantsRow addendsRow x out
+round-by-blocks {m} {q} {r} {power} {t} {addends} {p} {constantsRow} {addendsRow} {x} {w} {y} {out} hw hy ho =
+    record {
+      right = λ s hc ha near.
+          let powers = power-at s w y (hy .each) (sum-wide s hc near hw) in
+          let close : (j : ℕ) → j < 24 → getD y j 0 < m + 1048576 = λ j h. powers j h .near in
+          record {
+            long = ho .long;
+            each = λ k l.
+                let row = ho .each k l in
+                record {
+                  near = row .near (s .modulus) (s .table-below) close;
+                  same = λ u c A begin hu hf b hs.
+                      let e : Element m (sum 24 (λ j. c * A k j * getD y j 0) + getD addends (24 * addendsRow + k) 0) (getD out k 0) =
+                      subst (λ (n : ℕ). Element m (sum 24 (λ j. c * A k j * getD y j 0) + getD addends (24 * n + k) 0) (getD out k 0)) (mod-eq-of-lt ha)
+                      (record { same = row .same c A (s .modulus) (s .table-below) close b; near = row .near (s .modulus) (s .table-below) close }) in
+                      of-sums s hc near hw A k (getD out k 0) (begin k)
+                      (element m power u c A w y (sum 24 (λ j. c * A k j * getD y j 0)) (getD addends (24 * addendsRow + k) 0) (begin k) k (getD out k 0) hu hf
+                      (reflexive (sum 24 (λ j. c * A k j * getD y j 0))) powers e (hs k l));
                 };
           };
     }
@@ -176,7 +220,7 @@ powers-alike {F} {m} {power} {u} {c} {t} {addends} {x} {z} row r T a hc j l =
 
 -- a round with the matrix of F, and nothing added behind it
 plain-round : {F : Instance} {m power u c : ℕ} {t addends x z z' out : List ℕ} (row r : ℕ) → FullTable F m power u c t addends → Alike m x z
-    → ((i : ℕ) → i < 24 → Congruent m (getD addends (24 * row + i) 0) (constant F r i)) → Each 24 (RoundOf m power t addends row 10 x) out → FullRound F r z z'
+    → ((i : ℕ) → i < 24 → Congruent m (getD addends (24 * row + i) 0) (constant F r i)) → Each 24 (RoundOf Blocks m power t addends row 10 x) out → FullRound F r z z'
     → Alike m out z'
 plain-round {F} {m} {power} {u} {c} {t} {addends} {x} {z} {z'} {out} row r T a hc ho hz =
     record {
@@ -185,7 +229,7 @@ plain-round {F} {m} {power} {u} {c} {t} {addends} {x} {z} {z'} {out} row r T a h
           let g : ℕ → ℕ = λ j. matrix F i j * (getD z j 0 + constant F r j) ^ F .power in
           let one : Congruent m (getD out i 0) (sum 24 f) =
           subst (Congruent m (getD out i 0)) (add-zero (sum 24 f))
-          (ho .each i l .same u c (matrix F) (λ k. 0) (T .unit) (T .factor) (T .diagonals)
+          (ho .each i l .same u c (matrix F) (λ k. 0) (T .unit) (T .factor) (T .blocks)
           (λ k h. subst (Congruent m (getD addends (240 + k) 0)) (sym (zero-mul 4294967296)) (T .zeros k h))) in
           let two : Congruent m (sum 24 f) (sum 24 g) = sum-congruent 24 f g (λ j h. mul-congruent (reflexive (matrix F i j)) (powers-alike row r T a hc j h)) in
           let three : Congruent m (getD z' i 0) (sum 24 g) = subst (λ (n : ℕ). Congruent n (getD z' i 0) (sum 24 g)) (T .modulus) (hz .at i l) in
@@ -197,7 +241,7 @@ full-start : {m power : ℕ} {t addends : List ℕ} {first : ℕ} {x : List ℕ}
 full-start h = record { near = h; run = λ F u c r z T C hz a. a }
 
 full-step : {m power : ℕ} {t addends : List ℕ} {first k : ℕ} {x s out : List ℕ} → FullRun m power t addends first k x s
-    → Each 24 (RoundOf m power t addends (first + k) 10 s) out → FullRun m power t addends first (suc k) x out
+    → Each 24 (RoundOf Blocks m power t addends (first + k) 10 s) out → FullRun m power t addends first (suc k) x out
 full-step {m} {power} {t} {addends} {first} {k} {x} {s} {out} f h =
     record {
       near = record { long = h .long; each = λ i l. h .each i l .near };
@@ -219,7 +263,7 @@ running-start {m} {q} {r} {power} {t} {addends} {p} {first} {last} {x} =
     record { from = omega arith; right = λ s h₁ h₂ n. subst (λ (k : ℕ). FullRun m power t addends first k x x) z (full-start n) }
 
 pub running-step : {m q r power : ℕ} {t addends p : List ℕ} {first last : ℕ} {x : List ℕ} {row : ℕ} {state out : List ℕ} → row < last
-    → Running m q r power t addends p first last x row state → Round m q r power t addends p row 10 state out → Running m q r power t addends p first last x (row + 1) out
+    → Running m q r power t addends p first last x row state → Round Blocks m q r power t addends p row 10 state out → Running m q r power t addends p first last x (row + 1) out
 running-step {m} {q} {r} {power} {t} {addends} {p} {first} {last} {x} {row} {state} {out} l f h =
     let from = f .from in
     record {
@@ -229,7 +273,7 @@ running-step {m} {q} {r} {power} {t} {addends} {p} {first} {last} {x} {row} {sta
           let e : first + (row - first) ≡ row = omega arith in
           let e' : suc (row - first) ≡ row + 1 - first = omega arith in
           subst (λ (k : ℕ). FullRun m power t addends first k x out) e'
-          (full-step g (subst (λ (k : ℕ). Each 24 (RoundOf m power t addends k 10 state) out) (sym e) (h .right s (omega arith) (omega arith) (g .near))));
+          (full-step g (subst (λ (k : ℕ). Each 24 (RoundOf Blocks m power t addends k 10 state) out) (sym e) (h .right s (omega arith) (omega arith) (g .near))));
     }
 
 -- no round where first is last or more

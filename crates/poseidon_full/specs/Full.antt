@@ -9,7 +9,7 @@ use Rattle.montgomery.specs.Montgomery.{Modulus, Power, Copies, Raised, scale}
 use Rattle.poseidon_rounds.specs.Instance.{Instance, FullRound}
 use Rattle.poseidon_rounds.specs.PlainSums.{plainSums}
 use Rattle.poseidon_rounds.specs.Places.{Each, Alike}
-use Rattle.poseidon_rounds.specs.Tables.{Diagonals, FullTable, Constants}
+use Rattle.poseidon_rounds.specs.Tables.{FullTable, Constants}
 
 -- the plain sum of an element with its constant in a row of the table, where it fits 32 bits
 abbrev pub Summed : List ℕ → List ℕ → ℕ → ℕ → ℕ → Type 0
@@ -29,6 +29,10 @@ pub record Powers (power : ℕ) (x p y : List ℕ) : Type 0 where
   pub long : length y ≡ 48
   pub first : (k : ℕ) → k < 24 → RaisedAt power x p k (getD y k 0)
   pub again : (k : ℕ) → k < 24 → getD y (24 + k) 0 ≡ getD y k 0
+
+-- the powers of 24 elements, once
+abbrev pub PowersOnce : ℕ → List ℕ → List ℕ → List ℕ → Type 0
+PowersOnce power x p y = Each 24 (RaisedAt power x p) y
 
 -- a table of 24 copies of each number: m and q four times in turn, then r
 pub record Numbers (m q r : ℕ) (p : List ℕ) : Type 0 where
@@ -50,18 +54,18 @@ pub record Setting (m q r power : ℕ) (t addends p : List ℕ) : Type 0 where
 abbrev pub Near : ℕ → List ℕ → Type 0
 Near m x = Each 24 (λ k e. e < m + 1048576) x
 
--- element k after a full round of any matrix A, with what `begin` says added
-pub record RoundOf (m power : ℕ) (t addends : List ℕ) (constantsRow addendsRow : ℕ) (x : List ℕ) (k e : ℕ) : Type 0 where
+-- element k after a full round of any matrix A that the table holds, by diagonals or in blocks, with what `begin` says added
+pub record RoundOf (Holds : ℕ → ℕ → (ℕ → ℕ → ℕ) → List ℕ → Type 0) (m power : ℕ) (t addends : List ℕ) (constantsRow addendsRow : ℕ) (x : List ℕ) (k e : ℕ) : Type 0 where
   pub near : e < m + 1048576
   pub same : (u c : ℕ) (A : ℕ → ℕ → ℕ) (begin : ℕ → ℕ) → Congruent m (u * 4294967296) 1
-      → Congruent m c (4294967296 * scale power) → Diagonals m c A t
+      → Congruent m c (4294967296 * scale power) → Holds m c A t
       → ((i : ℕ) → i < 24 → Congruent m (getD addends (24 * addendsRow + i) 0) (begin i * 4294967296))
       → Congruent m e (sum 24 (λ j. A k j * (getD x j 0 + getD addends (24 * constantsRow + j) 0) ^ power) + begin k)
 
 -- a full round
-pub record Round (m q r power : ℕ) (t addends p : List ℕ) (constantsRow addendsRow : ℕ) (x out : List ℕ) : Type 0 where
+pub record Round (Holds : ℕ → ℕ → (ℕ → ℕ → ℕ) → List ℕ → Type 0) (m q r power : ℕ) (t addends p : List ℕ) (constantsRow addendsRow : ℕ) (x out : List ℕ) : Type 0 where
   pub right : Setting m q r power t addends p → constantsRow < 11 → addendsRow < 11 → Near m x
-      → Each 24 (RoundOf m power t addends constantsRow addendsRow x) out
+      → Each 24 (RoundOf Holds m power t addends constantsRow addendsRow x) out
 
 -- n full rounds of an instance from round first on: z has the states before and behind each
 pub record FullRun (m power : ℕ) (t addends : List ℕ) (first n : ℕ) (x out : List ℕ) : Type 0 where

@@ -24,7 +24,7 @@ wrapped-four a b c d s t r es et er h =
 term-bound : (a b : ℕ) → a < 2130706433 → b < 2131755009 → a * b ≤ 4542144106993811456
 term-bound a b ha hb = mul-le-mul (le-pred-of-lt ha) (le-pred-of-lt hb)
 
-high-bound : (h r : ℕ) → h ≤ 393216 → r < 2130706433 → h * r ≤ 837827860365312
+pub high-bound : (h r : ℕ) → h ≤ 393216 → r < 2130706433 → h * r ≤ 837827860365312
 high-bound h r hh hr = mul-le-mul hh (le-pred-of-lt hr)
 
 -- what is reduced fits, whatever the numbers are
@@ -38,7 +38,7 @@ sum-next : (f : ℕ → ℕ) (n k : ℕ) → k ≡ n + 1 → sum k f ≡ sum n f
 unfolding sum
 sum-next f n k e = rw (e, add-one)
 
-sum-two : (f : ℕ → ℕ) (n : ℕ) → sum (n + 2) f ≡ sum n f + f n + f (n + 1)
+pub sum-two : (f : ℕ → ℕ) (n : ℕ) → sum (n + 2) f ≡ sum n f + f n + f (n + 1)
 sum-two f n =
     let e₁ = sum-next f n (n + 1) refl in
     let e₂ = sum-next f (n + 1) (n + 2) (omega arith) in

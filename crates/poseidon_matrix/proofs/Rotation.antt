@@ -28,14 +28,15 @@ unfolding sum
 shift g zero = refl
 shift g (suc n) = omega (arith, shift g n)
 
-around : (f : ℕ → ℕ) (i : ℕ) → sum 24 (λ d. f ((i + d) % 24)) ≡ sum 24 f
-around f zero = sum-same 24 (λ d. f ((0 + d) % 24)) f (λ d h. ap f (ap (λ (k : ℕ). k % 24) (omega arith) ∙ mod-eq-of-lt h))
-around f (suc i) =
-    let g : ℕ → ℕ = λ d. f ((i + d) % 24) in
-    let ends : g 24 ≡ g 0 = ap f (add-mod-right i 24 ∙ ap (λ (k : ℕ). k % 24) (omega arith)) in
-    let next : sum 24 (λ d. f ((suc i + d) % 24)) ≡ sum 24 (λ d. g (suc d)) =
-    sum-same 24 (λ d. f ((suc i + d) % 24)) (λ d. g (suc d)) (λ d h. ap (λ (k : ℕ). f (k % 24)) (omega arith)) in
-    next ∙ (omega (arith, shift g 24, ends)) ∙ around f i
+-- n places from any place on, counted round, are all
+pub around : (n : ℕ) (f : ℕ → ℕ) (i : ℕ) → sum n (λ d. f ((i + d) % n)) ≡ sum n f
+around n f zero = sum-same n (λ d. f ((0 + d) % n)) f (λ d h. ap f (ap (λ (k : ℕ). k % n) (omega arith) ∙ mod-eq-of-lt h))
+around n f (suc i) =
+    let g : ℕ → ℕ = λ d. f ((i + d) % n) in
+    let ends : g n ≡ g 0 = ap f (add-mod-right i n ∙ ap (λ (k : ℕ). k % n) (omega arith)) in
+    let next : sum n (λ d. f ((suc i + d) % n)) ≡ sum n (λ d. g (suc d)) =
+    sum-same n (λ d. f ((suc i + d) % n)) (λ d. g (suc d)) (λ d h. ap (λ (k : ℕ). f (k % n)) (omega arith)) in
+    next ∙ (omega (arith, shift g n, ends)) ∙ around n f i
 
 -- the place that a place past the first 24 stands for
 round-place : {x : List ℕ} (j : ℕ) → j < 48 → Twice x → getD x j 0 ≡ getD x (j % 24) 0
@@ -59,4 +60,4 @@ row-is-matrix m c A t x i h a w =
     (mul-congruent (a .near i d h l) (reflexive (getD x (i + d) 0))))
     (subst (λ (y : ℕ). Congruent m (getD t (48 * d + 2 * i + 1) 0 * getD x (i + d + 12) 0) (c * A i ((i + d + 12) % 24) * y)) (round-place (i + d + 12) (omega arith) w)
     (mul-congruent (a .far i d h l) (reflexive (getD x (i + d + 12) 0)))))) in
-    subst (Congruent m (sum 12 (twoProducts t x i))) (halves (λ d. f ((i + d) % 24)) ∙ around f i) one
+    subst (Congruent m (sum 12 (twoProducts t x i))) (halves (λ d. f ((i + d) % 24)) ∙ around 24 f i) one

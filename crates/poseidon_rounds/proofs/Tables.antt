@@ -20,8 +20,8 @@ use Rattle.montgomery.specs.Montgomery.{scale}
 use Rattle.poseidon_rounds.specs.Instance.{Instance, matrix}
 use Rattle.poseidon_rounds.specs.Linear.{times}
 use Rattle.poseidon_rounds.specs.Sparse.{running, carried, lower, SparseTables}
-use Rattle.poseidon_rounds.specs.Tests.{alike, every, products, diagonalPlace, diagonalRow, matrixTest, exponent, raisedTo, lowerRows, preSparseFrom, preSparseTest, afterTest, beforeTest, constantsTest, zerosTest}
-use Rattle.poseidon_rounds.specs.Tables.{Diagonals, preSparse, addendBefore, addendAfter, FullTable, Constants, TablesOf}
+use Rattle.poseidon_rounds.specs.Tests.{alike, every, products, diagonalPlace, diagonalRow, sharedRow, wholeRow, matrixTest, exponent, raisedTo, lowerRows, preSparseFrom, preSparseTest, afterTest, beforeTest, constantsTest, zerosTest}
+use Rattle.poseidon_rounds.specs.Tables.{Diagonals, blockPlace, Blocks, preSparse, addendBefore, addendAfter, FullTable, Constants, TablesOf}
 use Rattle.poseidon_rounds.proofs.Congruence.{opposite}
 use Rattle.poseidon_rounds.proofs.Linear.{sum-times}
 use Rattle.poseidon_rounds.proofs.Dots.{alike-at, every-at, products-at}
@@ -66,12 +66,37 @@ module _ (F : Instance) where
   matrix-row c t i e j l =
       subst (Is (getD t (diagonalPlace i j) 0)) (tabulate-at 24 (λ k. c * matrix F i k) j l) (row-at t (tabulate 24 (λ k. c * matrix F i k)) i e j l)
 
-  -- the matrix
-  pub matrix-diagonals : (c : ℕ) (t : List ℕ) → matrixTest F c t ≡ true → Diagonals (F .modulus) c (matrix F) t
-  unfolding matrixTest
-  matrix-diagonals c t e =
-      diagonals (F .modulus) c (matrix F) t
-      (λ i j hi hj. matrix-row c t i (every-at (λ k. alike (F .modulus) (diagonalRow t k) (tabulate 24 (λ j. c * matrix F k j))) 24 i (23 - i) e (omega arith)) j hj)
+  -- the matrix in blocks; its entries depend on the sum of row and column alone
+  module _ (c : ℕ) (t : List ℕ) (e : matrixTest F c t ≡ true) where
+    test-at : (i : ℕ) → i < 12
+        → (alike (F .modulus) (sharedRow t i) (tabulate 12 (λ j. c * matrix F i (12 + j)))
+        and alike (F .modulus) (wholeRow t 0 i) (tabulate 12 (λ j. c * matrix F i j))
+        and alike (F .modulus) (wholeRow t 1 i) (tabulate 12 (λ j. c * matrix F (12 + i) (12 + j)))) ≡ true
+    unfolding matrixTest
+    test-at i h = every-at _ 12 i (11 - i) e (omega arith)
+
+    tabulated : (f g : ℕ → ℕ) → alike (F .modulus) (tabulate 12 f) (tabulate 12 g) ≡ true → (j : ℕ) → j < 12 → Is (f j) (g j)
+    tabulated f g h j l =
+        subst (λ (x : ℕ). Is x (g j)) (tabulate-at 12 f j l)
+        (subst (Is (getD (tabulate 12 f) j 0)) (tabulate-at 12 g j l) (alike-at (F .modulus) (tabulate 12 f) (tabulate 12 g) h j))
+
+    shared-at : (i j : ℕ) → i < 12 → j < 12 → Is (getD t (blockPlace 2 i j) 0) (c * matrix F i (12 + j))
+    unfolding sharedRow
+    shared-at i j hi hj = tabulated (λ k. getD t (blockPlace 2 i k) 0) (λ k. c * matrix F i (12 + k)) (and-left _ _ (test-at i hi)) j hj
+
+    pub matrix-blocks : Blocks (F .modulus) c (matrix F) t
+    unfolding wholeRow matrix
+    matrix-blocks =
+        record {
+          first = λ i j hi hj.
+              tabulated (λ k. getD t (blockPlace 0 i k) 0 + getD t (blockPlace 2 i k) 0) (λ k. c * matrix F i k) (and-left _ _ (and-right _ _ (test-at i hi))) j hj;
+          last = λ i j hi hj.
+              tabulated (λ k. getD t (blockPlace 1 i k) 0 + getD t (blockPlace 2 i k) 0) (λ k. c * matrix F (12 + i) (12 + k)) (and-right _ _ (and-right _ _ (test-at i hi))) j hj;
+          columns = shared-at;
+          rows = λ i j hi hj.
+              let place : i + (12 + j) ≡ 12 + i + j = omega arith in
+              subst (λ (k : ℕ). Is (getD t (blockPlace 2 i j) 0) (c * getD (F .inverses) k 0)) place (shared-at i j hi hj);
+        }
 
   from-at : (B c : ℕ) (t : List ℕ) (i : ℕ) (rows : List (List ℕ)) → preSparseFrom F B c t i rows ≡ true → (k : ℕ) → k < length rows
       → alike (F .modulus) (diagonalRow t (i + k)) (products (F .modulus) (c * B) 24 (getD rows k []) (drop 1 (F .inverses))) ≡ true
@@ -133,14 +158,14 @@ module _ (F : Instance) where
 
   pub tables-of : (word firstEntry u c : ℕ) (t e sparse firstConstants addends : List ℕ)
       → Is (u * 4294967296) 1 → Is c (4294967296 * scale (F .power)) → Is word 4294967296
-      → Diagonals (F .modulus) c (matrix F) t → Diagonals (F .modulus) c (preSparse F 4294967296) e
+      → Blocks (F .modulus) c (matrix F) t → Diagonals (F .modulus) c (preSparse F 4294967296) e
       → SparseTables F 4294967296 (scale (F .power)) firstEntry sparse firstConstants
       → constantsTest F addends 0 0 ≡ true → constantsTest F addends 144 (4 + F .partialRounds) ≡ true
       → beforeTest F 4294967296 addends 96 ≡ true → afterTest F 4294967296 addends 120 ≡ true → zerosTest F addends 240 ≡ true
       → TablesOf F (F .modulus) (F .power) (F .partialRounds) word firstEntry u c t e sparse firstConstants addends
   tables-of word firstEntry u c t e sparse firstConstants addends hu hc hw dt de hs c1 c2 h1 h2 hz =
       record {
-        full = record { modulus = refl; power-right = refl; unit = hu; factor = hc; diagonals = dt; zeros = zeros-right F addends 240 hz };
+        full = record { modulus = refl; power-right = refl; unit = hu; factor = hc; blocks = dt; zeros = zeros-right F addends 240 hz };
         rounds = refl;
         early = record { right = constants-right F addends 0 0 c1 };
         late = record { right = constants-right F addends 144 (4 + F .partialRounds) c2 };

@@ -1,7 +1,7 @@
 -- The tables of the fast permutation, for an instance F. The word is 2^32.
 use mathlib.Core.Path.{_≡_}
 use mathlib.Core.List.{List}
-use Prim.Native.Nat.{ℕ, zero, suc, _+_, _*_, _-_, _%_, _^_, _<_}
+use Prim.Native.Nat.{ℕ, zero, suc, _+_, _*_, _-_, _%_, _/_, _^_, _<_}
 use lib.ListN.{getD}
 use Rattle.field.proofs.Congruence.{Congruent}
 use Rattle.montgomery.specs.Montgomery.{scale}
@@ -13,6 +13,18 @@ use Rattle.poseidon_rounds.specs.Sparse.{running, carried, lower, Sparse
 pub record Diagonals (m c : ℕ) (A : ℕ → ℕ → ℕ) (t : List ℕ) : Type 0 where
   pub near : (i d : ℕ) → i < 24 → d < 12 → Congruent m (getD t (48 * d + 2 * i) 0) (c * A i ((i + d) % 24))
   pub far : (i d : ℕ) → i < 24 → d < 12 → Congruent m (getD t (48 * d + 2 * i + 1) 0) (c * A i ((i + d + 12) % 24))
+
+-- the place of the entry in row i and column j of block b in a table of blocks of 12 rows, each by pairs of diagonals: d and d + 6 side by side
+abbrev pub blockPlace : ℕ → ℕ → ℕ → ℕ
+blockPlace b i j = 144 * b + 24 * ((j + 12 - i) % 12 % 6) + 2 * i + (j + 12 - i) % 12 / 6
+
+-- a table of the matrix A in such blocks, with a factor c: block 2 is both that of the last columns and that of the last rows, and blocks 0 and 1 are the
+-- other two less block 2
+pub record Blocks (m c : ℕ) (A : ℕ → ℕ → ℕ) (t : List ℕ) : Type 0 where
+  pub first : (i j : ℕ) → i < 12 → j < 12 → Congruent m (getD t (blockPlace 0 i j) 0 + getD t (blockPlace 2 i j) 0) (c * A i j)
+  pub last : (i j : ℕ) → i < 12 → j < 12 → Congruent m (getD t (blockPlace 1 i j) 0 + getD t (blockPlace 2 i j) 0) (c * A (12 + i) (12 + j))
+  pub columns : (i j : ℕ) → i < 12 → j < 12 → Congruent m (getD t (blockPlace 2 i j) 0) (c * A i (12 + j))
+  pub rows : (i j : ℕ) → i < 12 → j < 12 → Congruent m (getD t (blockPlace 2 i j) 0) (c * A (12 + i) j)
 
 -- the pre-sparse matrix, by which the state goes into the partial rounds
 unfoldable pub preSparse : Instance → ℕ → ℕ → ℕ → ℕ
@@ -34,7 +46,7 @@ pub record FullTable (F : Instance) (m power u c : ℕ) (t addends : List ℕ) :
   pub power-right : F .power ≡ power
   pub unit : Congruent m (u * 4294967296) 1
   pub factor : Congruent m c (4294967296 * scale power)
-  pub diagonals : Diagonals m c (matrix F) t
+  pub blocks : Blocks m c (matrix F) t
   pub zeros : (i : ℕ) → i < 24 → Congruent m (getD addends (240 + i) 0) 0
 
 -- the constants of n rounds from round r on stand in a table from 24 * first on

@@ -8,6 +8,7 @@ use Rattle.basics.specs.Logic.{_and_}
 use Rattle.basics.specs.Lists.{tabulate}
 use Rattle.poseidon_rounds.specs.Instance.{Instance, matrix, constant}
 use Rattle.poseidon_rounds.specs.Sparse.{carried}
+use Rattle.poseidon_rounds.specs.Tables.{blockPlace}
 
 -- two lists, element by element modulo m
 unfoldable pub alike : ℕ → List ℕ → List ℕ → Bool
@@ -122,11 +123,24 @@ diagonalPlace i j = 48 * ((j + 24 - i) % 24 % 12) + 2 * i + (j + 24 - i) % 24 / 
 unfoldable pub diagonalRow : List ℕ → ℕ → List ℕ
 diagonalRow t i = tabulate 24 (λ j. getD t (diagonalPlace i j) 0)
 
+-- row i of block 2 of a table of blocks, and of block b with block 2
+unfoldable pub sharedRow : List ℕ → ℕ → List ℕ
+sharedRow t i = tabulate 12 (λ j. getD t (blockPlace 2 i j) 0)
+
+unfoldable pub wholeRow : List ℕ → ℕ → ℕ → List ℕ
+wholeRow t b i = tabulate 12 (λ j. getD t (blockPlace b i j) 0 + getD t (blockPlace 2 i j) 0)
+
 -- such a table holds the matrix, times c
 unfoldable pub matrixTest : Instance → ℕ → List ℕ → Bool
-matrixTest F c t = every (λ i. alike (F .modulus) (diagonalRow t i) (tabulate 24 (λ j. c * matrix F i j))) 24
+matrixTest F c t =
+    every
+    (λ i.
+    alike (F .modulus) (sharedRow t i) (tabulate 12 (λ j. c * matrix F i (12 + j)))
+    and alike (F .modulus) (wholeRow t 0 i) (tabulate 12 (λ j. c * matrix F i j))
+    and alike (F .modulus) (wholeRow t 1 i) (tabulate 12 (λ j. c * matrix F (12 + i) (12 + j))))
+    12
 
--- and the pre-sparse matrix, times c: a is the power of the lower part
+-- a table by pairs of diagonals holds the pre-sparse matrix, times c: a is the power of the lower part
 unfoldable pub preSparseFrom : Instance → ℕ → ℕ → List ℕ → ℕ → List (List ℕ) → Bool
 preSparseFrom F B c t i [] = true
 preSparseFrom F B c t i (r ∷ rs) =

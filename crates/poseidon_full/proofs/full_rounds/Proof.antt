@@ -17,7 +17,7 @@ loop-holds : tie.Need-loop-holds Inv-loop μ-loop
 loop-holds c = (running-start, λ h. h)
 
 loop-again : tie.Need-loop-again Inv-loop μ-loop
-loop-again c = (running-step (omega arith) (c .before .before .before .loop .inv .0) (c .full-round .ensures), λ h. omega arith)
+loop-again c = (running-step (omega arith) (c .before .before .before .loop .inv .0) (c .round-by-blocks .ensures), λ h. omega arith)
 
 returns : tie.Need-returns Inv-loop μ-loop
 returns c = running-end (omega arith) (c .before .loop .inv .0) (c .before .loop .inv .1)

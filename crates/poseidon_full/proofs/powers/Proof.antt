@@ -1,11 +1,7 @@
 -- `poseidon_full::powers` meets its contract.
 -- Assumes nothing.
-use mathlib.Core.Path.{subst}
-use Prim.Native.Nat.{ℕ, _+_, _-_}
-use denote.Ref.{now}
+use Prim.Native.Nat.{_+_, _-_}
 use native.Mathlib.Omega.{arith}
-use lib.ListN.{getD}
-use Rattle.montgomery.specs.Montgomery.{Raised}
 use Rattle.poseidon_full.proofs.Full.{Raising, raising-start, raising-step, raising-end}
 use borrow.Author.Needs.{needs}
 use Rattle.poseidon_full.proofs.powers.Statement.{statement}
@@ -21,17 +17,7 @@ loop-holds : tie.Need-loop-holds Inv-loop μ-loop
 loop-holds c = raising-start
 
 loop-again : tie.Need-loop-again Inv-loop μ-loop
-loop-again c =
-    let a = c .before .before .before .before .before .before .before .before .before .before .before .before .before .before .args in
-    let l = c .before .before .before .before .before .before .before .before .before .before .before .before .before .loop in
-    let p = now (a .copies) in
-    let i = l .i in
-    raising-step (c .power-of-any .result) (l .inv) (omega arith)
-    (subst
-    (λ (n : ℕ).
-    Raised (a .power) n (getD p i 0) (getD p (24 + i) 0) (getD p (48 + i) 0) (getD p (72 + i) 0) (getD p (96 + i) 0) (getD p (120 + i) 0) (getD p (144 + i) 0)
-    (getD p (168 + i) 0) (getD p (192 + i) 0) (c .power-of-any .result))
-    (c .before .before .before .before .before .before .before .before .before .before .wide .ensures) (c .power-of-any .ensures))
+loop-again c = raising-step (c .raised .result) (c .before .before .loop .inv) (omega arith) (c .raised .ensures)
 
 returns : tie.Need-returns Inv-loop μ-loop
 returns c = raising-end (c .before .loop .inv) (omega arith)
@@ -43,35 +29,6 @@ powers-spec =
     Inv-loop
     μ-loop
     loop-holds
-    (λ c. search needs)
-    (λ c. search needs)
-    (λ c κs. search needs)
-    (λ c. search needs)
-    (λ c. search needs)
-    (λ c. search needs)
-    (λ c. search needs)
-    (λ c. search needs)
-    (λ c. search needs)
-    (λ c. search needs)
-    (λ c. search needs)
-    (λ c. search needs)
-    (λ c. search needs)
-    (λ c. search needs)
-    (λ c. search needs)
-    (λ c. search needs)
-    (λ c. search needs)
-    (λ c. search needs)
-    (λ c. search needs)
-    (λ c. search needs)
-    (λ c. search needs)
-    (λ c. search needs)
-    (λ c. search needs)
-    (λ c. search needs)
-    (λ c. search needs)
-    (λ c. search needs)
-    (λ c. search needs)
-    (λ c. search needs)
-    (λ c. search needs)
     (λ c κs. search needs)
     (λ c. search needs)
     (λ c. search needs)
