@@ -129,7 +129,7 @@ module _ (c : Context) (plain : List ℕ) {size : ℕ} (p : Passed c plain 0 siz
   ran-blocks : Ran f (keyed c) blocks
   ran-blocks = ran f (c .lengths) (p .lengths .each) (keyed c) (keyed-ready c p) plain-fit
 
-  finishes : finish (leftBy (keyed c) (blockCalls blocks)) .number ≡ accepted
+  pub finishes : finish (leftBy (keyed c) (blockCalls blocks)) .number ≡ accepted
   finishes =
       let ready = blocks-accepted f (c .lengths) (p .lengths .each) (keyed c) (keyed-ready c p) plain-fit .1 in
       ap (λ (r : Session). finish r .number) (ran-blocks .leaves) ∙ mark-accepted f (afterBlocks (keyed c) blocks) ready .1

@@ -259,12 +259,12 @@ fn difference(a: u32, b: u32) -> u32
 
 // Whether a mark is what stands in a list. Differences are counted to the end, so that the time does not tell which element is the first that differs.
 fn is_mark(mark: &[u32], given: &[u32]) -> bool
-    requires { ⌜ (length (now mark) ≡ length (now given)) × (length (now given) ≤ 8) ⌝ }
+    requires { ⌜ (length (now mark) ≡ 8) × (length (now given) ≡ 8) ⌝ }
     ensures { λ r. ⌜ r ≡ isMark (now (mark .entry)) (now (given .entry)) ⌝ }
 {
     let mut differences: u32 = 0;
-    for i in 0..given.len() {
-        differences += difference(mark[i], given[i]);
+    for k in 0..8 {
+        differences += difference(mark[k], given[k]);
     }
     differences == 0
 }

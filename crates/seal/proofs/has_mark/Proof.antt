@@ -3,7 +3,6 @@
 use mathlib.Core.Path.{_≡_, refl, sym, ap, _∙_}
 use mathlib.Core.List.{List}
 use Prim.Native.Nat.{ℕ}
-use native.Mathlib.Omega.{arith}
 use lib.ListN.{length, replicate}
 use Rattle.session.specs.Record.{squeezedAll}
 use Rattle.seal.specs.Seal.{isMark}
@@ -25,7 +24,7 @@ slice-aggregate-is-mark : tie.Need-slice-aggregate-is-mark
 slice-aggregate-is-mark c = sym (eight (c .before .before))
 
 is-mark-requires : tie.Need-is-mark-requires
-is-mark-requires c κs = (eight (c .before .before) ∙ sym (c .before .before .before .before .before .pre .0), omega (arith, c .before .before .before .before .before .pre .0))
+is-mark-requires c κs = (eight (c .before .before), c .before .before .before .before .before .pre .0)
 
 returns : tie.Need-returns
 returns c =

@@ -15,11 +15,11 @@ use Rattle.seal.proofs.is_mark.Statement.{statement}
 use Rattle.seal.proofs.is_mark.Tie as tie
 
 abbrev Inv-loop : tie.InvT-loop
-Inv-loop mark given differences₀ i₀ i-end differences i =
-    (i ≤ length given) × (differences ≤ i) × (isMark mark given ≡ (eqb differences 0 and isMark (drop i mark) (drop i given)))
+Inv-loop mark given differences₀ k₀ differences k =
+    (k ≤ 8) × (differences ≤ k) × (isMark mark given ≡ (eqb differences 0 and isMark (drop k mark) (drop k given)))
 
 abbrev μ-loop : tie.MeasureT-loop
-μ-loop mark given differences₀ i₀ i-end differences i = length given - i
+μ-loop mark given differences₀ k₀ differences k = 8 - k
 
 loop-holds : tie.Need-loop-holds Inv-loop μ-loop
 unfolding _and_
@@ -29,8 +29,8 @@ add-differences : tie.Need-add-differences Inv-loop μ-loop
 add-differences c =
     let at-loop = c .before .before .before .before in
     let args = at-loop .before .before .before .args in
-    let i = at-loop .loop .i in
-    let least = difference-least (getD (args .mark .now) i 0) (getD (args .given .now) i 0) in
+    let k = at-loop .loop .k in
+    let least = difference-least (getD (args .mark .now) k 0) (getD (args .given .now) k 0) in
     let one = c .difference .ensures in
     search needs
 
@@ -38,16 +38,16 @@ loop-again : tie.Need-loop-again Inv-loop μ-loop
 loop-again c =
     let at-loop = c .before .before .before .before in
     let args = at-loop .before .before .before .args in
-    let i = at-loop .loop .i in
+    let k = at-loop .loop .k in
     let mark = args .mark .now in
     let given = args .given .now in
-    let least = difference-least (getD mark i 0) (getD given i 0) in
-    let one : c .difference .result ≡ differenceOf (getD mark i 0) (getD given i 0) = c .difference .ensures in (
+    let least = difference-least (getD mark k 0) (getD given k 0) in
+    let one : c .difference .result ≡ differenceOf (getD mark k 0) (getD given k 0) = c .difference .ensures in (
       search needs,
       omega (arith, least, one),
       at-loop .loop .inv .2
-          ∙ compared (at-loop .loop .differences) mark given i (search needs) (search needs)
-          ∙ ap (λ (d : ℕ). eqb (at-loop .loop .differences + d) 0 and isMark (drop (i + 1) mark) (drop (i + 1) given)) (sym one),
+          ∙ compared (at-loop .loop .differences) mark given k (search needs) (search needs)
+          ∙ ap (λ (d : ℕ). eqb (at-loop .loop .differences + d) 0 and isMark (drop (k + 1) mark) (drop (k + 1) given)) (sym one),
     )
 
 and-done : (a b : Bool) → b ≡ true → (a and b) ≡ a
@@ -59,7 +59,7 @@ returns : tie.Need-returns Inv-loop μ-loop
 returns c =
     let at-loop = c .before in
     let args = at-loop .before .before .before .args in
-    sym (at-loop .loop .inv .2 ∙ and-done _ _ (mark-end (args .mark .now) (args .given .now) (at-loop .loop .i) (search needs) (search needs)))
+    sym (at-loop .loop .inv .2 ∙ and-done _ _ (mark-end (args .mark .now) (args .given .now) (at-loop .loop .k) (search needs) (search needs)))
 
 pub is-mark-spec : {M : Type 1} → statement M
 is-mark-spec =
