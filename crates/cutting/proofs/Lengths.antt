@@ -12,13 +12,9 @@ use borrow.Author.Tests.{leb-true, leb-false, le-leb, lt-leb, eqb-true, eqb-fals
 use lib.Dec.{leb, eqb}
 use lib.ListN.{length, replicate, length-append, length-replicate}
 use Rattle.basics.specs.Logic.{if_then_else_, _and_, _or_, all, any}
+use Rattle.basics.specs.Lists.{total}
 use Rattle.basics.proofs.Cases.{cases, if-true, if-false, and-left, and-right, and-both, or-neither, all-both, any-append}
 use Rattle.cutting.specs.Cutting.{restOf, cutLength}
-
--- the sum of lengths
-unfoldable pub total : List ℕ → ℕ
-total [] = 0
-total (n ∷ ns) = n + total ns
 
 total-append : (ms ns : List ℕ) → total (ms ++ ns) ≡ total ms + total ns
 unfolding total

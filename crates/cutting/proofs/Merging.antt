@@ -9,13 +9,14 @@ use native.Mathlib.Omega.{arith}
 use borrow.Author.Tests.{leb-true, le-ltb}
 use lib.Dec.{leb, ltb, eqb}
 use Rattle.basics.specs.Logic.{if_then_else_, _or_, same, all, any}
+use Rattle.basics.specs.Lists.{total}
 use Rattle.basics.proofs.Cases.{cases, if-true, if-false, and-left, and-right, same-self, or-neither, any-append}
 use Rattle.words.specs.Words.{isAbsorb, lengthOf, Phase, phaseOf, wordOf}
 use Rattle.words.proofs.WordKinds.{phase-of-word, word-length, length-below}
 use Rattle.pattern.specs.Pattern.{join, merge, phases, mergedWords}
 use Rattle.cutting.specs.Cutting.{cutLength, cutCall, cutWords}
 use Rattle.cutting.specs.Steps.{callsOf}
-use Rattle.cutting.proofs.Lengths.{total, cut-total, cut-within, cut-most, cut-empty, cut-some}
+use Rattle.cutting.proofs.Lengths.{cut-total, cut-within, cut-most, cut-empty, cut-some}
 
 -- a call of so many elements
 abbrev call : Bool → ℕ → Phase

@@ -10,6 +10,7 @@ ghost use Rattle.tag.specs.TagString.{written as writing, bufferAfter, readWord
 ghost use Rattle.poseidon.specs.Permutation.{permuted};
 ghost use Rattle.generator.specs.Generator.{generation};
 ghost use Rattle.owners.specs.Owners.{tableOf, checked, asked, valueOf};
+ghost use Rattle.seal.specs.Seal.{context, leaving, sealNote, openNote};
 ghost use Rattle.session.specs.Calls.{giving, start, absorb, squeeze, squeezeBuffer, finish};
 ghost use Rattle.tuilarder.specs.Layout.{layout};
 
@@ -172,6 +173,44 @@ pub extern "C" fn tuilarder_owner(table: &[u8], separator: &[u8], value: &mut u3
     let asked = owners::owner(table, separator);
     *value = owners::value(asked);
     asked.number
+}
+
+// A plain text of so many blocks sealed: its cipher elements and then the mark, which is the authentication tag, in a buffer that has as many places.
+// Refused, it writes nothing.
+#[no_mangle]
+pub extern "C" fn tuilarder_seal(
+    field: u32,
+    key: &[u32],
+    nonce: &[u32],
+    separator: &[u8],
+    lengths: &[u32],
+    plain: &[u32],
+    out: &mut [u32],
+) -> u32
+    ensures { λ r. ⌜ leaving r (now (out .exit)) ≡
+        sealNote (context field (now (key .entry)) (now (nonce .entry)) (now (separator .entry)) (now (lengths .entry))) (now (plain .entry))
+        (now (out .entry)) ⌝ }
+{
+    seal::seal(field, key, nonce, separator, lengths, plain, out)
+}
+
+// The blocks of a note that was sealed, its cipher elements with the mark behind them, in a buffer that has as many places as the blocks have elements. With
+// 21 the buffer holds zeros; refused for anything else, it writes nothing.
+#[no_mangle]
+pub extern "C" fn tuilarder_open(
+    field: u32,
+    key: &[u32],
+    nonce: &[u32],
+    separator: &[u8],
+    lengths: &[u32],
+    cipher: &[u32],
+    out: &mut [u32],
+) -> u32
+    ensures { λ r. ⌜ leaving r (now (out .exit)) ≡
+        openNote (context field (now (key .entry)) (now (nonce .entry)) (now (separator .entry)) (now (lengths .entry))) (now (cipher .entry))
+        (now (out .entry)) ⌝ }
+{
+    seal::open(field, key, nonce, separator, lengths, cipher, out)
 }
 
 // The version of these functions. It rises whenever one of them, or the record, changes for a caller.

@@ -1,0 +1,13 @@
+pub mod Overwrite
+pub mod Lengths
+pub mod Marks
+pub mod Words
+pub mod Calls
+pub mod Passes
+pub mod Blocks
+pub mod Pattern
+pub mod Phases
+pub mod Rows
+pub mod Accepted
+pub mod Outcomes
+pub mod Parts
