@@ -12,3 +12,4 @@ pub mod Pass
 pub mod Unused
 pub mod Cutting
 pub mod Pairs
+pub mod Seal

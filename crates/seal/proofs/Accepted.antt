@@ -108,7 +108,7 @@ module _ (f : Field) where
 
   -- ---- opening: the plain blocks are blocks of elements, of the cipher blocks' lengths
 
-  remainders : (g : ℕ → ℕ → ℕ) (xs ys : List ℕ) → all (isElement f) (zipWith (λ x y. g x y % modulus f) xs ys) ≡ true
+  pub remainders : (g : ℕ → ℕ → ℕ) (xs ys : List ℕ) → all (isElement f) (zipWith (λ x y. g x y % modulus f) xs ys) ≡ true
   unfolding zipWith
   remainders g [] ys = below-nil (modulus f)
   remainders g (x ∷ xs) [] = below-nil (modulus f)

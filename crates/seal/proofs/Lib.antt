@@ -11,3 +11,7 @@ pub mod Rows
 pub mod Accepted
 pub mod Outcomes
 pub mod Parts
+pub mod RoundTrip
+pub mod Inverse
+pub mod NoteRun
+pub mod Refusals

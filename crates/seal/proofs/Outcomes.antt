@@ -6,18 +6,22 @@ use mathlib.Core.List.{List, [], _∷_, _++_}
 use mathlib.Core.Logic.{_≢_}
 use Prim.Native.Nat.{ℕ}
 use native.Mathlib.Omega.{arith}
-use borrow.Author.Tests.{eq-eqb, ne-eqb, not-false}
+use borrow.Author.Tests.{eqb-true, eqb-false, eq-eqb, ne-eqb}
 use lib.Dec.{eqb}
 use lib.ListN.{length, replicate}
 use Rattle.basics.specs.Logic.{if_then_else_, _and_, all}
 use Rattle.basics.specs.Lists.{joined, total}
 use Rattle.basics.specs.Numbers.{accepted, markDiffers}
 use Rattle.basics.specs.Refusals.{_gets_⨾_, firstNumber}
-use Rattle.basics.proofs.Cases.{if-true, if-false}
+use Rattle.basics.proofs.Cases.{cases, if-true, if-false}
 use Rattle.basics.proofs.FirstRow.{refusing, behind, accepted-none, refused-before, never-given}
 use Rattle.seal.specs.Seal.{Context, Outcome, leaving, sealed, unsealed, hasMark, noteRows, sealRows, openRows, sealNote, openNote}
 
 module _ (c : Context) (plain buffer : List ℕ) where
+  pub seal-number : sealNote c plain buffer .number ≡ firstNumber (sealRows c plain buffer)
+  unfolding sealNote
+  seal-number = refl
+
   pub seal-accepted : firstNumber (sealRows c plain buffer) ≡ accepted → sealNote c plain buffer ≡ leaving accepted (sealed c plain)
   unfolding sealNote
   seal-accepted e = ap₂ leaving e (if-true _ _ _ (eq-eqb _ _ e))
@@ -60,9 +64,24 @@ module _ (c : Context) (text buffer : List ℕ) where
   unfolding noteRows all _and_
   no-mark-rows = refl
 
+  pub never-21 : first ≢ markDiffers
+  never-21 = never-given markDiffers _ no-mark-rows (λ e. omega arith)
+
   pub open-refused : first ≢ accepted → openNote c text buffer ≡ leaving first buffer
   unfolding openNote openRows
   open-refused z =
       let number = refused-before (noteRows c text 8 (length buffer) 0) _ z in
-      let other = never-given markDiffers _ no-mark-rows (λ e. omega arith) in
-      ap₂ leaving number (if-false _ _ _ (ne-eqb _ 0 (λ e. z (sym number ∙ e))) ∙ if-false _ _ _ (ne-eqb _ _ (λ e. other (sym number ∙ e))))
+      ap₂ leaving number (if-false _ _ _ (ne-eqb _ 0 (λ e. z (sym number ∙ e))) ∙ if-false _ _ _ (ne-eqb _ _ (λ e. never-21 (sym number ∙ e))))
+
+  -- opening is accepted where none of these rows applies, and the mark is right
+  pub opened-for : openNote c text buffer .number ≡ accepted → (first ≡ accepted) × (hasMark c text ≡ true)
+  opened-for e =
+      cases (eqb first accepted)
+      (λ t.
+      let passes = eqb-true first accepted t in
+      cases (hasMark c text)
+      (λ m. (passes, m))
+      λ m. absurd (omega (arith, ap (λ (o : Outcome). o .number) (open-differs passes m), e)))
+      λ z.
+      let refused = eqb-false first accepted z in
+      absurd (refused (sym (ap (λ (o : Outcome). o .number) (open-refused refused)) ∙ e))

@@ -1,17 +1,17 @@
 -- What is known where none of the rows that sealing and opening share applies.
 -- Assumes nothing.
-use mathlib.Core.Path.{_≡_}
-use mathlib.Core.Bool.{true}
+use mathlib.Core.Path.{_≡_, ap, _∙_}
+use mathlib.Core.Bool.{true, not}
 use mathlib.Core.List.{List}
 use Prim.Native.Nat.{ℕ, _+_, _≤_}
 use native.Mathlib.Omega.{arith}
-use borrow.Author.Tests.{ltb-false, eqb-true, not-false}
+use borrow.Author.Tests.{ltb-false, eqb-true, le-ltb, eq-eqb, not-false}
 use lib.ListN.{length}
 use Rattle.basics.specs.Logic.{all}
 use Rattle.basics.specs.Lists.{total}
 use Rattle.basics.specs.Numbers.{accepted}
 use Rattle.basics.specs.Refusals.{firstNumber}
-use Rattle.basics.proofs.Cases.{by, and-left, and-right}
+use Rattle.basics.proofs.Cases.{by, if-false, and-left, and-right, and-both}
 use Rattle.field.specs.Field.{isField, fieldOf, isElement}
 use Rattle.seal.specs.Seal.{Context, soundLengths, areElements, noteRows}
 use Rattle.seal.proofs.Lengths.{Declarable, lengths-sound}
@@ -59,3 +59,16 @@ module _ (c : Context) (text : List ℕ) (textMark buffer bufferMark : ℕ) wher
         nonce = and-left _ _ others;
         elements = and-right _ _ others;
       }
+
+  -- and the other way round
+  pub passes : Passed c text textMark buffer bufferMark → firstNumber (noteRows c text textMark buffer bufferMark) ≡ accepted
+  unfolding firstNumber noteRows areElements
+  passes p =
+      if-false _ _ _ (ap not (p .known))
+      ∙ if-false _ _ _ (le-ltb 256 _ (p .short))
+      ∙ if-false _ _ _ (ap not (p .sound))
+      ∙ if-false _ _ _ (ap not (eq-eqb _ _ (p .key-long)))
+      ∙ if-false _ _ _ (ap not (eq-eqb _ _ (p .nonce-long)))
+      ∙ if-false _ _ _ (ap not (eq-eqb _ _ (p .text-long)))
+      ∙ if-false _ _ _ (ap not (eq-eqb _ _ (p .buffer-long)))
+      ∙ if-false _ _ _ (ap not (and-both _ _ (p .key) (and-both _ _ (p .nonce) (p .elements))))

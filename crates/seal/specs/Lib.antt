@@ -1,2 +1,4 @@
 pub mod Seal
 pub mod Steps
+pub mod Calls
+pub mod Conditions

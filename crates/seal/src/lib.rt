@@ -252,11 +252,11 @@ fn open_blocks(record: Session, lengths: &[u32], note: &[u32], out: &mut [u32]) 
 
 // Whether a mark is what stands in a list.
 fn is_mark(mark: &[u32], given: &[u32]) -> bool
-    requires { ⌜ length (now mark) ≡ length (now given) ⌝ }
+    requires { ⌜ (length (now mark) ≡ 8) × (length (now given) ≡ 8) ⌝ }
     ensures { λ r. ⌜ r ≡ isMark (now (mark .entry)) (now (given .entry)) ⌝ }
 {
-    for i in 0..given.len() {
-        if mark[i] != given[i] {
+    for k in 0..8 {
+        if mark[k] != given[k] {
             return false;
         }
     }

@@ -24,7 +24,7 @@ slice-aggregate-is-mark : tie.Need-slice-aggregate-is-mark
 slice-aggregate-is-mark c = sym (eight (c .before .before))
 
 is-mark-requires : tie.Need-is-mark-requires
-is-mark-requires c κs = eight (c .before .before) ∙ sym (c .before .before .before .before .before .pre .0)
+is-mark-requires c κs = (eight (c .before .before), c .before .before .before .before .before .pre .0)
 
 returns : tie.Need-returns
 returns c =
