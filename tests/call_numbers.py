@@ -34,8 +34,8 @@ ANSWERS = {
     "cards": ("crates/cards/stdout", r"\((?:ok|no (\d+))"),
     "check owners": ("crates/owner_vectors/stdout", r"c (\d+)"),
     "owner": ("crates/owner_vectors/stdout", r"c .*, o (\d+)"),
-    "seal": ("bindings/rust/tests/seal_vectors/stdout", r"s (\d+)"),
-    "open": ("bindings/rust/tests/seal_vectors/stdout", r"o (\d+)"),
+    "seal": ("crates/seal_vectors/stdout", r"s (\d+)"),
+    "open": ("crates/seal_vectors/stdout", r"o (\d+)"),
 }
 Row = namedtuple("Row", "number name condition message reason example calls")
 
@@ -273,7 +273,7 @@ MISTAKES = [
     ("crates/cards/stdout", "(no 14)", "(no 7)", "cards gives"),
     ("crates/owner_vectors/stdout", "c 16", "c 17", "check owners gives [0, 15, 16, 17]"),
     ("crates/owner_vectors/stdout", "o 16", "o 6", "owner gives [0, 6, 15, 16, 17]"),
-    ("bindings/rust/tests/seal_vectors/stdout", "s 20", "s 21", "seal gives [0, 6, 10, 18, 20, 21]"),
+    ("crates/seal_vectors/stdout", "s 20", "s 21", "seal gives [0, 6, 10, 18, 20, 21]"),
 ]
 
 if __name__ == "__main__":

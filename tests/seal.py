@@ -1,8 +1,8 @@
 #!/usr/bin/env python3
 """What sealing and opening are asked, and what they must answer.
 
-  tests/seal.py cases > bindings/rust/tests/seal_vectors/stdin
-  tests/seal.py answers < bindings/rust/tests/seal_vectors/stdin > bindings/rust/tests/seal_vectors/stdout
+  tests/seal.py cases > crates/seal_vectors/stdin
+  tests/seal.py answers < crates/seal_vectors/stdin > crates/seal_vectors/stdout
   tests/seal.py random SEED COUNT
 
 The answers are those of the second implementation, in Python, written from the papers by other hands (tests/oracle). `random` prints cases of another
@@ -11,7 +11,7 @@ seed, as many as so many random notes have. A line of input seals (s) or opens (
   s FIELD KEY NONCE SEPARATOR LENGTHS PLAIN SIZE
   o FIELD KEY NONCE SEPARATOR LENGTHS SEALED SIZE
 
-A separator is bytes in hexadecimal, SIZE is four hexadecimal digits, and all else are numbers of eight hexadecimal digits, any number of them in lists. A
+A separator is bytes in hexadecimal, and all else are numbers of eight hexadecimal digits, any number of them in lists. A
 line of output is the kind, the number and what the buffer holds afterwards:
 
   KIND NUMBER BUFFER
@@ -47,7 +47,7 @@ class Question:
 
     def line(self):
         lists = map(hexadecimal, ([self.field], self.key, self.nonce))
-        return " ".join([self.kind, *lists, self.separator.hex(), hexadecimal(self.lengths), hexadecimal(self.text), "%04x" % self.size])
+        return " ".join([self.kind, *lists, self.separator.hex(), hexadecimal(self.lengths), hexadecimal(self.text), "%08x" % self.size])
 
 
 def note(field, lengths, separator=b"note"):

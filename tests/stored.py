@@ -19,8 +19,6 @@ from tree import ROOT, files, read, report
 
 # of each stored file: the command that prints it, and the stored file that it reads
 STORED = {
-    "bindings/rust/tests/seal_vectors/stdin": ("tests/seal.py cases", None),
-    "bindings/rust/tests/seal_vectors/stdout": ("tests/seal.py answers", "bindings/rust/tests/seal_vectors/stdin"),
     "crates/cards/stdin": ("tests/cards.py book", None),
     "crates/cards/stdout": ("tests/cards.py oracle", "crates/cards/stdin"),
     "crates/generator_check/stdout": ("tests/constants.py", None),
@@ -29,6 +27,8 @@ STORED = {
     "crates/owner_vectors/stdout": ("tests/owners.py answers", "crates/owner_vectors/stdin"),
     "crates/permutation_vectors/stdin": ("tests/permutation_states.py cases", None),
     "crates/permutation_vectors/stdout": ("tests/permutation_states.py answers", "crates/permutation_vectors/stdin"),
+    "crates/seal_vectors/stdin": ("tests/seal.py cases", None),
+    "crates/seal_vectors/stdout": ("tests/seal.py answers", "crates/seal_vectors/stdin"),
     "crates/session_vectors/stdin": ("tests/sessions.py cases", None),
     "crates/session_vectors/stdout": ("tests/sessions.py answers", "crates/session_vectors/stdin"),
     "crates/tag_vectors/stdin": ("tests/tags.py cases", None),

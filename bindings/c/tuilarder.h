@@ -125,7 +125,7 @@ enum tuilarder_number {
     TUILARDER_FIELD_UNKNOWN = 18,
     /* a declared call above 16,777,216 elements */
     TUILARDER_CALL_TOO_LONG = 19,
-    /* no blocks or over 31, a block length of 0 or above 16,777,216, or any other lent list or buffer whose length isn't exactly what is needed */
+    /* no blocks or over 31, a block length of 0 or above 16,777,216, or any other lent list or buffer, key and nonce too, whose length isn't exactly what is needed */
     TUILARDER_SEAL_LENGTH_INVALID = 20,
     /* the mark differs */
     TUILARDER_MARK_DIFFERS = 21

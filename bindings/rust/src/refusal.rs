@@ -76,7 +76,7 @@ refusals! {
     19 CallTooLong "a declared call above 16,777,216 elements",
     /// A [`Seal`](crate::Seal) has lengths for its blocks, at most [`Seal::MAX_BLOCKS`](crate::Seal::MAX_BLOCKS); of a sealed note the list has
     /// [`Seal::MARK_LENGTH`](crate::Seal::MARK_LENGTH) elements more than the plain one. It is checked behind 6 and before 10.
-    20 SealLengthInvalid "no blocks or over 31, a block length of 0 or above 16,777,216, or any other lent list or buffer whose length isn't exactly what is needed",
+    20 SealLengthInvalid "no blocks or over 31, a block length of 0 or above 16,777,216, or any other lent list or buffer, key and nonce too, whose length isn't exactly what is needed",
     /// The buffer holds zeros, and nothing of the note.
     21 MarkDiffers "the mark differs",
 }

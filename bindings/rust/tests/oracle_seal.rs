@@ -16,7 +16,7 @@ use inputs::FILLED;
 use interfaces::{Functions, Independent, Interface, Types};
 use stored::{bytes_of, words_of, Line};
 
-const FOLDER: &str = "seal_vectors";
+const PROGRAM: &str = "seal_vectors";
 /// The lines that seal and open.
 const LINES: [(&str, usize); 2] = [("s ", 880), ("o ", 1454)];
 
@@ -44,8 +44,8 @@ fn answer(by: &dyn Interface, noise: &mut Random, input: &str) -> String {
 
 fn replay_all(by: &dyn Interface) {
     let mut noise = Random::new(1);
-    let inputs = stored::lines_beside_tests(FOLDER, "stdin");
-    let outputs = stored::lines_beside_tests(FOLDER, "stdout");
+    let inputs = stored::lines(PROGRAM, "stdin");
+    let outputs = stored::lines(PROGRAM, "stdout");
     assert_eq!(inputs.len(), outputs.len());
     for (kind, count) in LINES {
         let lines = inputs.iter().filter(|input| input.starts_with(kind));

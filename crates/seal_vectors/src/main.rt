@@ -1,5 +1,5 @@
 // Seals and opens the notes of standard input, and prints each answer's number and the buffer that it leaves. A line is s or o, and then field number, key,
-// nonce, separator, block lengths, text and buffer as hexadecimal digits; stdout is what the second implementation answers to stdin, in Python, written from
+// nonce, separator, block lengths, text and the buffer's length as hexadecimal digits; stdout is what the second implementation answers to stdin, in Python, written from
 // the papers by other hands (tests/oracle).
 
 ghost use mathlib.Core.Path.{_≡_};
@@ -41,6 +41,19 @@ fn words_at(text: &[u8], at: usize) -> Words
         list: hex_fields::words_of(&field.bytes),
         count: field.count / 4,
         next: field.next,
+    }
+}
+
+// A buffer of as many places as a field says, 512 at most, which are filled with one number; and the place behind the field.
+fn buffer_at(text: &[u8], at: usize) -> Words
+    ensures { λ r. ⌜ (r .count ≤ length (r .list)) × (at ≤ r .next) ⌝ }
+{
+    let size = words_at(text, at);
+    let places = size.list[0] as usize;
+    Words {
+        list: [0xa5a5_a5a5; 512],
+        count: if places < 512 { places } else { 512 },
+        next: size.next,
     }
 }
 
@@ -107,7 +120,7 @@ fn note_line(text: &[u8], at: usize, seals: bool) -> usize
     let field = hex_fields::field_at(text, nonce.next);
     let lengths = words_at(text, field.next);
     let note = words_at(text, lengths.next);
-    let buffer = words_at(text, note.next);
+    let buffer = buffer_at(text, note.next);
     let separator = field.bytes;
     let length = field.count;
     print_call(

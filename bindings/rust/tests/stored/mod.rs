@@ -1,23 +1,14 @@
-//! What is stored for a program of `crates/`, or beside the tests: an input and an output, line by line.
+//! What is stored for a program of `crates/`: its input and its output, line by line.
 
 // Each program that takes this file in uses only a part of it.
 #![allow(dead_code)]
 
 use std::path::PathBuf;
 
-/// The lines of a program's `stdin` or `stdout`.
+/// The lines of `stdin` or `stdout`.
 pub fn lines(program: &str, name: &str) -> Vec<String> {
-    lines_at(&["../../crates", program, name])
-}
-
-/// The lines of `stdin` or `stdout` in a folder beside the tests.
-pub fn lines_beside_tests(folder: &str, name: &str) -> Vec<String> {
-    lines_at(&["tests", folder, name])
-}
-
-/// The lines of a file, by its path from this crate's folder.
-fn lines_at(parts: &[&str]) -> Vec<String> {
-    let path = PathBuf::from(env!("CARGO_MANIFEST_DIR")).join(parts.iter().collect::<PathBuf>());
+    let root = PathBuf::from(env!("CARGO_MANIFEST_DIR")).join("../..");
+    let path = root.join("crates").join(program).join(name);
     let text = std::fs::read_to_string(&path).unwrap_or_else(|error| panic!("{}: {error}", path.display()));
     text.lines().map(String::from).collect()
 }

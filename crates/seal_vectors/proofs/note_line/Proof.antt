@@ -18,7 +18,7 @@ returns c =
     let first = at-field .before .before .before in
     omega (
       arith,
-      last .words-at6 .ensures .1,
+      last .buffer-at .ensures .1,
       last .before .words-at5 .ensures .1,
       last .before .before .words-at4 .ensures .1,
       at-field .field-at .ensures .1 .2,
