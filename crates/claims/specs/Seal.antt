@@ -2,35 +2,55 @@
 -- `openNote` are what the contracts of `seal::seal`, `seal::open` and of their exports cite.
 use mathlib.Core.Path.{_≡_, refl, sym, ap, _∙_}
 use mathlib.Core.Bool.{true, false}
-use mathlib.Core.List.{List, [], _∷_, _++_}
+use mathlib.Core.List.{List, [], _∷_, _++_, zipWith}
 use mathlib.Core.Logic.{_≢_}
-use Prim.Native.Nat.{ℕ, _+_, _*_, _≤_, _<_}
-use lib.Dec.{eqb}
-use lib.ListN.{length, replicate, length-replicate}
-use Rattle.basics.specs.Logic.{if_then_else_, _and_, all, any}
+use Prim.Native.Nat.{ℕ, _+_, _*_, _%_, _≤_, _<_}
+use lib.Dec.{eqb, leb}
+use lib.ListN.{length, take, drop, replicate, length-replicate}
+use Rattle.basics.specs.Logic.{if_then_else_, _and_, _or_, all, any}
 use Rattle.basics.specs.Lists.{total}
 use Rattle.basics.specs.Numbers.{accepted}
-use Rattle.field.specs.Field.{isField, fieldOf}
+use Rattle.basics.specs.Refusals.{firstNumber}
+use Rattle.field.specs.Field.{modulus, isElement, isField, fieldOf}
+use Rattle.field.specs.declared.Field.{Field}
 use Rattle.words.specs.Words.{wordOf}
 use Rattle.pattern.specs.Pattern.{mergedWords}
 use Rattle.pattern.specs.Opening.{opening}
 use Rattle.session.specs.Calls.{start}
-use Rattle.runs.specs.Calls.{Call, FINISH, accepts, leftBy}
+use Rattle.runs.specs.Calls.{Call, ABSORB, SQUEEZE, FINISH, accepts, leftBy}
 use Rattle.runs.specs.Runs.{Run, absorbedOf, squeezedOf}
-use Rattle.seal.specs.Seal.{Context, Outcome, leaving, blockWords, sealWords, started, plus, blocksOf, soundLengths, areElements, hasMark, sealRows, sealNote, openNote}
-use Rattle.seal.specs.Calls.{noteCalls}
+use Rattle.seal.specs.Seal.{Context, context, Outcome, leaving, blockWords, sealWords, started, plus, blocksOf, soundLengths, areElements, hasMark, noteRows, sealRows, sealNote, openNote}
+use Rattle.seal.specs.Calls.{blockCalls, noteCalls}
 use Rattle.seal.specs.Conditions.{RightLengths}
 use Rattle.seal.proofs.Lengths.{lengths-sound}
 use Rattle.seal.proofs.Pattern.{words-count, words-merged}
 use Rattle.seal.proofs.Rows.{passed}
 use Rattle.seal.proofs.Outcomes.{seal-number, seal-accepted, seal-refused, open-accepted, open-differs, open-refused}
-use Rattle.seal.proofs.Inverse.{sealed-opens, opened-seals}
-use Rattle.seal.proofs.NoteRun.{note-run, note-accepted, note-absorbed, note-added, accepted-at}
+use Rattle.seal.proofs.Inverse.{sealed-opens, opened-seals, another-mark}
+use Rattle.seal.proofs.NoteRun.{note-run, note-accepted, note-absorbed, note-squeezed, note-added, accepted-at}
 use Rattle.seal.proofs.Refusals as refusals
+
+-- What the contracts lend is what the definitions go by: each part of a note's context, and both parts of an outcome.
+pub parts-of-a-context : (field : ℕ) (key nonce separator lengths : List ℕ)
+    → (context field key nonce separator lengths .field ≡ field)
+    × (context field key nonce separator lengths .key ≡ key)
+    × (context field key nonce separator lengths .nonce ≡ nonce)
+    × (context field key nonce separator lengths .separator ≡ separator)
+    × (context field key nonce separator lengths .lengths ≡ lengths)
+parts-of-a-context field key nonce separator lengths = (refl, refl, refl, refl, refl)
+
+pub parts-of-an-outcome : (number : ℕ) (buffer : List ℕ) → (leaving number buffer .number ≡ number) × (leaving number buffer .buffer ≡ buffer)
+parts-of-an-outcome number buffer = (refl, refl)
 
 -- "declared and absorbed as one call of 16, so that 31 blocks need 64 words": b blocks need 2b + 2, and these are merged as they stand.
 pub words-of-a-note : (ns : List ℕ) → soundLengths ns ≡ true → (length (sealWords ns) ≡ 2 * length ns + 2) × (mergedWords (sealWords ns) ≡ sealWords ns)
 words-of-a-note ns e = (words-count ns, words-merged ns (lengths-sound ns e))
+
+-- Block by block: SQUEEZE and ABSORB of its length, before those of the next; the mark's SQUEEZE is last.
+pub words-block-by-block : (sealWords [] ≡ 0x80000010 ∷ 8 ∷ [])
+    × ((n : ℕ) (ns : List ℕ) → sealWords (n ∷ ns) ≡ 0x80000010 ∷ n ∷ (0x80000000 + n) ∷ drop 1 (sealWords ns))
+unfolding sealWords blockWords wordOf if_then_else_
+words-block-by-block = (refl, λ n ns. refl)
 
 -- By hand: the words of blocks of 3 and 5 elements, how many 31 blocks need, and which lengths are sound.
 pub words-by-hand :
@@ -46,15 +66,30 @@ pub words-by-hand :
 unfolding sealWords blockWords wordOf if_then_else_ soundLengths all _and_ blocksOf
 words-by-hand = (refl, refl, refl, refl, refl, refl, refl, refl, refl)
 
+-- "added to it": element by element, in the field.
+pub sums-in-the-field : (f : Field) → (plus f [] [] ≡ [])
+    × ((x y : ℕ) (xs ys : List ℕ) → plus f (x ∷ xs) (y ∷ ys) ≡ (x + y) % modulus f ∷ plus f xs ys)
+unfolding plus zipWith
+sums-in-the-field f = (refl, λ x y xs ys. refl)
+
+-- The calls by hand: key and nonce in one, then the plain blocks, each behind its SQUEEZE, and the mark.
+pub calls-by-hand :
+    let c = context 1 (1 ∷ 2 ∷ 3 ∷ 4 ∷ 5 ∷ 6 ∷ 7 ∷ 8 ∷ []) (9 ∷ 10 ∷ 11 ∷ 12 ∷ 13 ∷ 14 ∷ 15 ∷ 16 ∷ []) [] (2 ∷ 1 ∷ []) in
+    noteCalls c (17 ∷ 18 ∷ 19 ∷ []) ≡
+    ABSORB (1 ∷ 2 ∷ 3 ∷ 4 ∷ 5 ∷ 6 ∷ 7 ∷ 8 ∷ 9 ∷ 10 ∷ 11 ∷ 12 ∷ 13 ∷ 14 ∷ 15 ∷ 16 ∷ []) ∷ SQUEEZE 2 ∷ ABSORB (17 ∷ 18 ∷ []) ∷ SQUEEZE 1 ∷ ABSORB (19 ∷ []) ∷ SQUEEZE 8 ∷ []
+unfolding noteCalls blockCalls blocksOf
+calls-by-hand = refl
+
 -- Where sealing is accepted, START accepts the words of the note, and the calls of Algorithm 7 on its record end in an accepted FINISH: they are a session
--- that the third demand speaks of. It absorbs key, nonce and plain elements, in this order; and what is left is what it squeezes, with the plain elements
--- added to all but the last eight, the mark.
+-- that the third demand speaks of. It absorbs key, nonce and plain elements, in this order, and squeezes eight more than these last; and what is left is what
+-- it squeezes, with the plain elements added to all but the last eight, the mark.
 pub sealing-is-algorithm-7 : (c : Context) (plain buffer : List ℕ) → sealNote c plain buffer .number ≡ accepted
     → (a : Run)
     × (a .field ≡ c .field)
     × (a .opening ≡ opening (sealWords (c .lengths)) (c .separator))
     × (a .before ≡ noteCalls c plain)
     × (absorbedOf a ≡ c .key ++ c .nonce ++ plain)
+    × (length (squeezedOf a) ≡ length plain + 8)
     × (sealNote c plain buffer .buffer ≡ plus (fieldOf (c .field)) (plain ++ replicate 8 0) (squeezedOf a))
 unfolding sealRows note-run
 sealing-is-algorithm-7 c plain buffer e =
@@ -65,6 +100,7 @@ sealing-is-algorithm-7 c plain buffer e =
       refl,
       refl,
       note-absorbed c plain p,
+      note-squeezed c plain p,
       ap (λ (o : Outcome). o .buffer) (seal-accepted c plain buffer number) ∙ sym (note-added c plain p),
     )
 
@@ -101,6 +137,40 @@ opens-exactly-what-was-sealed c text out long = (
       ap (λ (l : List ℕ). openNote c l out .number) (sym (ap (λ (o : Outcome). o .buffer) e))
       ∙ ap (λ (o : Outcome). o .number) (sealed-opens c plain buffer out (ap (λ (o : Outcome). o .number) e) long),
 )
+
+-- "compares the mark": behind the same cipher elements every other mark is refused.
+pub another-mark-differs : (c : Context) (plain out buffer other : List ℕ) → sealNote c plain out .number ≡ accepted → length buffer ≡ total (c .lengths)
+    → length other ≡ 8 → all (isElement (fieldOf (c .field))) other ≡ true → other ≢ drop (total (c .lengths)) (sealNote c plain out .buffer)
+    → openNote c (take (total (c .lengths)) (sealNote c plain out .buffer) ++ other) buffer ≡ leaving 21 (replicate (total (c .lengths)) 0)
+another-mark-differs = another-mark
+
+-- What the conditions below are: of the blocks' lengths, of every length that 20 is about, and of the elements.
+pub sound-lengths-are : (ns : List ℕ)
+    → soundLengths ns ≡ (leb 1 (length ns) and leb (length ns) 31 and all (λ n. leb 1 n and leb n 16777216) ns)
+unfolding soundLengths
+sound-lengths-are ns = refl
+
+pub right-lengths-are : (c : Context) (text textMark buffer bufferMark : ℕ)
+    → (RightLengths c text textMark buffer bufferMark
+    → (soundLengths (c .lengths) ≡ true) × (length (c .key) ≡ 8) × (length (c .nonce) ≡ 8)
+    × (text ≡ total (c .lengths) + textMark) × (buffer ≡ total (c .lengths) + bufferMark))
+    × ((soundLengths (c .lengths) ≡ true) → (length (c .key) ≡ 8) → (length (c .nonce) ≡ 8)
+    → (text ≡ total (c .lengths) + textMark) → (buffer ≡ total (c .lengths) + bufferMark) → RightLengths c text textMark buffer bufferMark)
+right-lengths-are c text textMark buffer bufferMark = (
+  λ r. (r .of-blocks, r .of-key, r .of-nonce, r .of-text, r .of-buffer),
+  λ b k n t o. record { of-blocks = b; of-key = k; of-nonce = n; of-text = t; of-buffer = o },
+)
+
+pub elements-are : (f : Field) (key nonce text : List ℕ)
+    → areElements f key nonce text ≡ (all (isElement f) key and all (isElement f) nonce and all (isElement f) text)
+unfolding areElements
+elements-are f key nonce text = refl
+
+-- A note that is sealed, so that nothing here is said of none.
+pub a-note-is-sealed :
+    sealNote (context 2 (replicate 8 2130706432) (replicate 8 0) (99 ∷ []) (3 ∷ 2 ∷ [])) (10 ∷ 20 ∷ 30 ∷ 400 ∷ 500 ∷ []) (replicate 13 7) .number ≡ 0
+unfolding sealNote sealRows noteRows firstNumber if_then_else_ soundLengths all _and_ _or_ areElements isField fieldOf total
+a-note-is-sealed = refl
 
 -- "20: .. after START's own 18 and 6, before 10": the number that sealing gives, by the first condition that holds, and that it leaves the buffer with each.
 pub sealing-by-condition : (c : Context) (plain buffer : List ℕ)

@@ -8,7 +8,7 @@ use Prim.Native.Nat.{ℕ, _+_, _≤_}
 use native.Mathlib.Omega.{arith}
 use borrow.Author.Tests.{eqb-true, eqb-false}
 use lib.Dec.{eqb}
-use lib.ListN.{length, take, drop, length-append, length-drop, take-append-drop}
+use lib.ListN.{length, replicate, take, drop, length-append, length-drop, take-append-drop}
 use lib.Seq.{take-all, take-at, drop-at, length-take-le}
 use Rattle.basics.specs.Logic.{all}
 use Rattle.basics.specs.Lists.{joined, total}
@@ -19,13 +19,13 @@ use Rattle.field.specs.Field.{fieldOf, isElement}
 use Rattle.field.specs.declared.Field.{Field}
 use Rattle.session.specs.Record.{fieldIn, squeezedAll}
 use Rattle.session.specs.declared.Session.{Session}
-use Rattle.seal.specs.Seal.{Context, Outcome, leaving, keyed, afterBlocks, cipherBlocks, plainBlocks, markOf, blocksOf, sealed, unsealed, hasMark, noteRows, sealRows, sealNote, openNote}
+use Rattle.seal.specs.Seal.{Context, Outcome, leaving, keyed, afterBlocks, cipherBlocks, plainBlocks, markOf, blocksOf, sealed, unsealed, isMark, hasMark, noteRows, sealRows, sealNote, openNote}
 use Rattle.seal.proofs.Calls.{squeezed-length, squeezed-elements}
 use Rattle.seal.proofs.Marks.{is-mark-same, same-is-mark}
 use Rattle.seal.proofs.Rows.{Passed, passed, passes}
 use Rattle.seal.proofs.Accepted.{Fit, Ready, text-fits, fit-long, plain-fits, blocks-accepted, mark-accepted, keyed-ready}
 use Rattle.seal.proofs.RoundTrip.{opens-sealed, seals-opened, cipher-fits, blocks-again, fit-elements, joined-again}
-use Rattle.seal.proofs.Outcomes.{seal-number, seal-accepted, open-accepted, opened-for}
+use Rattle.seal.proofs.Outcomes.{seal-number, seal-accepted, open-accepted, open-differs, opened-for}
 
 module _ (c : Context) where
   abbrev f : Field
@@ -106,6 +106,58 @@ module _ (c : Context) where
         open-accepted c (sealed c plain) buffer (passes c (sealed c plain) 8 (length buffer) 0 (sealed-passes (length buffer) e)) has-its-mark
         ∙ ap (leaving accepted)
         (ap joined opens-to-blocks ∙ joined-again ns plain ∙ take-all (total ns) plain (omega (arith, p .text-long)))
+
+    -- ---- another mark behind the same cipher elements
+
+    opens-whatever-mark : (other : List ℕ) → unsealed c (cipher ++ other) ≡ blocks
+    unfolding unsealed
+    opens-whatever-mark other =
+        ap (plainBlocks r) (blocks-again f cipher-fit other) ∙ opens-sealed f ns (p .lengths .each) r (keyed-ready c p) plain-fit
+
+    compares-mark : (other : List ℕ) → hasMark c (cipher ++ other) ≡ isMark mark other
+    unfolding hasMark
+    compares-mark other =
+        ap₂ isMark (ap (markOf r) (opens-whatever-mark other)) (drop-at cipher other (total ns) (fit-long f cipher-fit))
+
+    other-passes : (other : List ℕ) → length other ≡ 8 → all (isElement f) other ≡ true → (room : ℕ) → room ≡ total ns → Passed c (cipher ++ other) 8 room 0
+    other-passes other long elements room e =
+        record {
+          known = p .known;
+          short = p .short;
+          sound = p .sound;
+          lengths = p .lengths;
+          key-long = p .key-long;
+          nonce-long = p .nonce-long;
+          text-long = omega (arith, length-append cipher other, fit-long f cipher-fit, long);
+          buffer-long = omega (arith, e);
+          key = p .key;
+          nonce = p .nonce;
+          elements = all-both (isElement f) cipher other (fit-elements f cipher-fit) elements;
+        }
+
+    other-differs : (other buffer : List ℕ) → length buffer ≡ total ns → length other ≡ 8 → all (isElement f) other ≡ true → other ≢ mark
+        → openNote c (cipher ++ other) buffer ≡ leaving markDiffers (replicate (total ns) 0)
+    other-differs other buffer room long elements ne =
+        open-differs c (cipher ++ other) buffer
+        (passes c (cipher ++ other) 8 (length buffer) 0 (other-passes other long elements (length buffer) room))
+        (compares-mark other ∙ cases (isMark mark other) (λ e. absurd (ne (sym (is-mark-same mark other e)))) (λ e. e))
+
+    cipher-of-sealed : take (total ns) (sealed c plain) ≡ cipher
+    cipher-of-sealed = ap (take (total ns)) whole ∙ take-at cipher mark (total ns) (fit-long f cipher-fit)
+
+    mark-of-sealed : drop (total ns) (sealed c plain) ≡ mark
+    mark-of-sealed = ap (drop (total ns)) whole ∙ drop-at cipher mark (total ns) (fit-long f cipher-fit)
+
+  pub another-mark : (plain out buffer other : List ℕ) → sealNote c plain out .number ≡ accepted → length buffer ≡ total (c .lengths)
+      → length other ≡ 8 → all (isElement (fieldOf (c .field))) other ≡ true → other ≢ drop (total (c .lengths)) (sealNote c plain out .buffer)
+      → openNote c (take (total (c .lengths)) (sealNote c plain out .buffer) ++ other) buffer ≡ leaving markDiffers (replicate (total (c .lengths)) 0)
+  unfolding sealRows
+  another-mark plain out buffer other e room long elements ne =
+      let number = sym (seal-number c plain out) ∙ e in
+      let p = passed c plain 0 (length out) 8 number in
+      let left = ap (λ (o : Outcome). o .buffer) (seal-accepted c plain out number) in
+      ap (λ (l : List ℕ). openNote c (l ++ other) buffer) (ap (take (total ns)) left ∙ cipher-of-sealed plain p)
+      ∙ other-differs plain p other buffer room long elements (λ same. ne (same ∙ sym (ap (drop (total ns)) left ∙ mark-of-sealed plain p)))
 
   pub sealed-opens : (plain out buffer : List ℕ) → sealNote c plain out .number ≡ accepted → length buffer ≡ total (c .lengths)
       → openNote c (sealNote c plain out .buffer) buffer ≡ leaving accepted plain

@@ -7,7 +7,7 @@ use Prim.Native.Nat.{ℕ, zero, suc, _+_, _%_, _<_}
 use native.Mathlib.Nat.{suc-inj, mod-eq-of-lt, zero-add}
 use native.Mathlib.Omega.{arith}
 use borrow.Author.Tests.{eq-eqb}
-use lib.ListN.{length, replicate, length-replicate, take}
+use lib.ListN.{length, replicate, length-replicate, length-append, take}
 use lib.Seq.{take-all}
 use Rattle.basics.specs.Logic.{if_then_else_, all}
 use Rattle.basics.specs.Lists.{Below, joined, total}
@@ -79,6 +79,7 @@ module _ (f : Field) where
     leaves : leftBy r (blockCalls blocks) ≡ squeeze (afterBlocks r blocks) 8 .session
     absorbs : absorbed r (blockCalls blocks) ≡ joined blocks
     adds : plus f (joined blocks ++ replicate 8 0) (squeezed r (blockCalls blocks)) ≡ joined (cipherBlocks r blocks) ++ markOf r blocks
+    gives : length (squeezed r (blockCalls blocks)) ≡ length (joined blocks) + 8
 
   ran : (ns : List ℕ) → all declarable ns ≡ true → (r : Session) → Ready f ns r → {blocks : List (List ℕ)} → Fit f ns blocks → Ran r blocks
   unfolding AllAccepted blockCalls leftBy left answered absorbed absorbedIn squeezed squeezedIn accepts afterBlocks afterBlock cipherBlocks markOf joined all
@@ -92,6 +93,7 @@ module _ (f : Field) where
         leaves = refl;
         absorbs = refl;
         adds = ap (plus f (replicate 8 0)) written ∙ plus-zeros 8 stream (squeezed-length 8 r) (rw (ready .field) at (squeezed-elements r 8 m));
+        gives = ap length written ∙ squeezed-length 8 r;
       }
   ran (n ∷ ns) d r ready (more {block = block} {blocks = blocks} size elements fit) =
       let b = block-accepted f n ns r block (and-left _ _ d) ready size elements in
@@ -109,6 +111,10 @@ module _ (f : Field) where
             ∙ plus-append block stream (joined blocks ++ replicate 8 0) others (sym (squeezed-length (length block) r))
             ∙ ap₂ (λ (a b : List ℕ). a ++ b) (ap (λ (g : Field). plus g block stream) (sym (ready .field))) (later .adds)
             ∙ sym (append-assoc (plus (fieldIn r) block stream) (joined (cipherBlocks (afterBlock r block) blocks)) _);
+        gives =
+            let rest = later .gives in
+            ap length written
+            ∙ omega (arith, rest, length-append stream others, squeezed-length (length block) r, length-append block (joined blocks));
       }
 
 -- ---- the whole session
@@ -162,3 +168,11 @@ module _ (c : Context) (plain : List ℕ) {size : ℕ} (p : Passed c plain 0 siz
       ap₂ (λ (a b : List ℕ). plus f (a ++ replicate 8 0) b) (sym whole)
       (squeezed-append (started c) (noteCalls c plain) (FINISH ∷ []) ∙ append-nil (squeezed (started c) (noteCalls c plain)))
       ∙ ran-blocks .adds
+
+  pub note-squeezed : length (squeezedOf note-run) ≡ length plain + 8
+  unfolding note-run noteCalls squeezed squeezedIn left answered leftBy started keyed
+  note-squeezed =
+      let whole = joined-again (c .lengths) plain ∙ take-all (total (c .lengths)) plain (omega (arith, p .text-long)) in
+      ap length (squeezed-append (started c) (noteCalls c plain) (FINISH ∷ []) ∙ append-nil (squeezed (started c) (noteCalls c plain)))
+      ∙ ran-blocks .gives
+      ∙ ap (λ (l : List ℕ). length l + 8) whole

@@ -197,8 +197,8 @@ fn seal_block(record: Session, plain: &[u32], cipher: &mut [u32]) -> Session
     let squeezed = record.squeeze_step(cipher);
     add_to(field::field_of(record.field), plain, cipher);
     let next = squeezed.session;
-    let absorbed = next.absorb_step(plain);
-    absorbed.session
+    let moved = next.absorb_step(plain);
+    moved.session
 }
 
 // One block opened; and the record afterwards.
