@@ -14,7 +14,6 @@ use Rattle.field.specs.Field.{isField, fieldOf}
 use Rattle.words.specs.Words.{wordOf}
 use Rattle.pattern.specs.Pattern.{mergedWords}
 use Rattle.pattern.specs.Opening.{opening}
-use Rattle.session.specs.Calls.{start}
 use Rattle.runs.specs.Calls.{Call, FINISH, accepts, leftBy}
 use Rattle.runs.specs.Runs.{Run, absorbedOf, squeezedOf}
 use Rattle.seal.specs.Seal.{Context, Outcome, leaving, blockWords, sealWords, started, plus, blocksOf, soundLengths, areElements, hasMark, sealRows, sealNote, openNote}
@@ -23,7 +22,7 @@ use Rattle.seal.specs.Conditions.{RightLengths}
 use Rattle.seal.proofs.Lengths.{lengths-sound}
 use Rattle.seal.proofs.Pattern.{words-count, words-merged}
 use Rattle.seal.proofs.Rows.{passed}
-use Rattle.seal.proofs.Outcomes.{seal-number, seal-accepted, seal-refused, open-accepted, open-differs, open-refused}
+use Rattle.seal.proofs.Outcomes.{seal-number, seal-accepted, open-accepted, open-differs}
 use Rattle.seal.proofs.Inverse.{sealed-opens, opened-seals}
 use Rattle.seal.proofs.NoteRun.{note-run, note-accepted, note-absorbed, note-added, accepted-at}
 use Rattle.seal.proofs.Refusals as refusals

@@ -1,25 +1,21 @@
 -- What was sealed opens to the same blocks, and what opens was sealed.
 -- Assumes nothing.
 use mathlib.Core.Path.{_≡_, refl, sym, ap, ap₂, _∙_}
-use mathlib.Core.Bool.{Bool, true, false}
+use mathlib.Core.Bool.{true}
 use mathlib.Core.List.{List, [], _∷_, _++_, append-nil}
 use mathlib.Core.Logic.{_≢_}
 use Prim.Native.Nat.{ℕ, _+_, _≤_}
 use native.Mathlib.Omega.{arith}
-use borrow.Author.Tests.{eqb-true, eqb-false}
-use lib.Dec.{eqb}
-use lib.ListN.{length, take, drop, length-append, length-drop, take-append-drop}
-use lib.Seq.{take-all, take-at, drop-at, length-take-le}
+use lib.ListN.{length, drop, length-append, take-append-drop}
+use lib.Seq.{take-all, drop-at}
 use Rattle.basics.specs.Logic.{all}
 use Rattle.basics.specs.Lists.{joined, total}
-use Rattle.basics.specs.Numbers.{accepted, markDiffers}
-use Rattle.basics.specs.Refusals.{firstNumber}
-use Rattle.basics.proofs.Cases.{cases, all-both}
+use Rattle.basics.specs.Numbers.{accepted}
+use Rattle.basics.proofs.Cases.{all-both}
 use Rattle.field.specs.Field.{fieldOf, isElement}
 use Rattle.field.specs.declared.Field.{Field}
-use Rattle.session.specs.Record.{fieldIn, squeezedAll}
 use Rattle.session.specs.declared.Session.{Session}
-use Rattle.seal.specs.Seal.{Context, Outcome, leaving, keyed, afterBlocks, cipherBlocks, plainBlocks, markOf, blocksOf, sealed, unsealed, hasMark, noteRows, sealRows, sealNote, openNote}
+use Rattle.seal.specs.Seal.{Context, Outcome, leaving, keyed, afterBlocks, cipherBlocks, plainBlocks, markOf, blocksOf, sealed, unsealed, hasMark, sealRows, sealNote, openNote}
 use Rattle.seal.proofs.Calls.{squeezed-length, squeezed-elements}
 use Rattle.seal.proofs.Marks.{is-mark-same, same-is-mark}
 use Rattle.seal.proofs.Rows.{Passed, passed, passes}

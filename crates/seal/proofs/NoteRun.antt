@@ -1,35 +1,34 @@
 -- The calls of a note are a session of the third demand, and what it squeezes is what is added.
 -- Assumes nothing.
 use mathlib.Core.Path.{_≡_, refl, sym, ap, ap₂, subst, _∙_}
-use mathlib.Core.Bool.{Bool, true}
+use mathlib.Core.Bool.{true}
 use mathlib.Core.List.{List, [], _∷_, _++_, zipWith, append-assoc, append-nil}
 use Prim.Native.Nat.{ℕ, zero, suc, _+_, _%_, _<_}
 use native.Mathlib.Nat.{suc-inj, mod-eq-of-lt, zero-add}
 use native.Mathlib.Omega.{arith}
 use borrow.Author.Tests.{eq-eqb}
-use lib.ListN.{length, replicate, length-replicate, take}
+use lib.ListN.{length, replicate}
 use lib.Seq.{take-all}
 use Rattle.basics.specs.Logic.{if_then_else_, all}
 use Rattle.basics.specs.Lists.{Below, joined, total}
 use Rattle.basics.specs.Numbers.{accepted}
-use Rattle.basics.specs.Refusals.{firstNumber}
 use Rattle.basics.proofs.Below.{below-head, below-tail}
 use Rattle.basics.proofs.Cases.{if-true, and-left, and-right}
-use Rattle.field.specs.Field.{modulus, fieldOf, isElement}
+use Rattle.field.specs.Field.{modulus, fieldOf}
 use Rattle.field.specs.declared.Field.{Field}
 use Rattle.pattern.specs.Opening.{Opening, opening}
 use Rattle.session.specs.Record.{fieldIn, squeezedAll}
-use Rattle.session.specs.Calls.{absorb, squeeze, start, finish}
+use Rattle.session.specs.Calls.{squeeze, finish}
 use Rattle.session.specs.declared.Session.{Session}
-use Rattle.runs.specs.Calls.{Call, ABSORB, SQUEEZE, FINISH, answered, accepts, left, leftBy, absorbedIn, absorbed, squeezedIn, squeezed}
+use Rattle.runs.specs.Calls.{Call, ABSORB, FINISH, answered, accepts, left, leftBy, absorbedIn, absorbed, squeezedIn, squeezed}
 use Rattle.runs.specs.Runs.{Run, absorbedOf, squeezedOf}
 use Rattle.runs.proofs.Forks.{absorbed-append, squeezed-append}
-use Rattle.seal.specs.Seal.{Context, leaving, sealWords, started, keyed, keystream, afterBlock, afterBlocks, plus, cipherBlocks, markOf, blocksOf, sealed, sealRows}
+use Rattle.seal.specs.Seal.{Context, sealWords, started, keyed, keystream, afterBlock, afterBlocks, plus, cipherBlocks, markOf, blocksOf, sealed}
 use Rattle.seal.specs.Calls.{blockCalls, noteCalls}
 use Rattle.seal.proofs.Lengths.{declarable}
 use Rattle.seal.proofs.Calls.{squeezed-length, squeezed-elements}
 use Rattle.seal.proofs.Rows.{Passed}
-use Rattle.seal.proofs.Accepted.{Fit, none, more, Ready, Block, text-fits, block-accepted, blocks-accepted, mark-accepted, start-accepts, key-accepted, keyed-ready}
+use Rattle.seal.proofs.Accepted.{Fit, none, more, Ready, text-fits, block-accepted, blocks-accepted, mark-accepted, start-accepts, key-accepted, keyed-ready}
 use Rattle.seal.proofs.RoundTrip.{joined-again}
 
 -- every call of a list is accepted

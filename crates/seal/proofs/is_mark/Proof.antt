@@ -1,10 +1,9 @@
 -- `seal::is_mark` meets its contract.
 -- Assumes nothing.
 use mathlib.Core.Path.{_≡_, refl, sym, _∙_}
-use Prim.Native.Nat.{ℕ, _-_, _≤_, _<_}
-use native.Mathlib.Omega.{arith}
+use Prim.Native.Nat.{_-_, _≤_, _<_}
 use borrow.Author.Tests.{eq-eqb, ne-eqb}
-use lib.ListN.{length, getD, drop}
+use lib.ListN.{drop}
 use Rattle.seal.specs.Seal.{isMark}
 use Rattle.seal.proofs.Marks.{mark-step, mark-stop, mark-end}
 use borrow.Author.Needs.{needs}
