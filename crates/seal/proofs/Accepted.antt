@@ -1,7 +1,7 @@
 -- Every call of the session of a note is accepted.
 -- Assumes nothing.
 use mathlib.Core.Path.{_≡_, refl, sym, ap, subst, _∙_}
-use mathlib.Core.Bool.{Bool, true, false}
+use mathlib.Core.Bool.{true, false}
 use mathlib.Core.List.{List, [], _∷_, _++_, zipWith}
 use Prim.Native.Nat.{ℕ, _+_, _-_, _%_, _≤_, _<_}
 use native.Mathlib.Nat.{mod-lt}
@@ -26,10 +26,10 @@ use Rattle.runs.proofs.Opened.{accepted-start}
 use Rattle.runs.proofs.Counted.{start-field}
 use Rattle.seal.specs.Seal.{Context, absorbWord, squeezeWord, blockWords, sealWords, started, keyed, keystream, afterBlock, afterBlocks, plus, minus, cipherBlocks, plainBlocks, blocksOf}
 use Rattle.seal.specs.Steps.{Squeezes}
-use Rattle.seal.proofs.Lengths.{declarable, Declarable, length-bounds}
+use Rattle.seal.proofs.Lengths.{declarable, length-bounds}
 use Rattle.seal.proofs.Blocks.{plus-length, minus-length}
 use Rattle.seal.proofs.Pattern.{words-merged, words-accepted}
-use Rattle.seal.proofs.Phases.{At, Squeezed, Absorbed, at-start, at-end, squeeze-phase, absorb-phase}
+use Rattle.seal.proofs.Phases.{At, Absorbed, at-start, at-end, squeeze-phase, absorb-phase}
 use Rattle.seal.proofs.Rows.{Passed}
 
 -- blocks of these lengths, of elements

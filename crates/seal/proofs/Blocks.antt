@@ -1,14 +1,13 @@
 -- One block of a pass: what sealing and opening make of it.
 -- Assumes nothing.
-use mathlib.Core.Path.{_≡_, refl, sym, ap, ap₂, subst, _∙_}
+use mathlib.Core.Path.{_≡_, sym, ap, ap₂, subst, _∙_}
 use mathlib.Core.List.{List, [], _∷_, _++_}
 use Prim.Native.Nat.{ℕ, _+_, _≤_, _<_}
 use native.Mathlib.Omega.{arith}
 use lib.ListN.{length, getD, take, drop, length-drop}
 use lib.Seq.{length-take-le}
 use Rattle.field.specs.declared.Field.{Field}
-use Rattle.session.specs.Record.{fieldIn, squeezedAll}
-use Rattle.session.specs.Calls.{squeeze}
+use Rattle.session.specs.Record.{fieldIn}
 use Rattle.session.specs.declared.Session.{Session}
 use Rattle.seal.specs.Seal.{keystream, afterBlock, afterBlocks, plus, minus, cipherBlocks, plainBlocks}
 use Rattle.seal.specs.Steps.{Squeezes}

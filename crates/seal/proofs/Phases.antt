@@ -5,14 +5,12 @@ use mathlib.Core.Bool.{Bool, true, false}
 use mathlib.Core.List.{List, [], _∷_, nil≢cons, head-eq-of-cons-eq, tail-eq-of-cons-eq}
 use Prim.Native.Nat.{ℕ, suc, _+_, _≤_, _<_}
 use native.Mathlib.Omega.{arith}
-use borrow.Author.Tests.{ltb-true, ltb-false, lt-ltb, eq-eqb}
-use lib.Dec.{ltb, eqb}
-use lib.ListN.{length, getD, take, drop, drop-of-length-le, length-drop}
+use lib.Dec.{eqb}
+use lib.ListN.{length, getD, take, drop, length-drop}
 use lib.Seq.{drop-cons, getD-take, length-take-le, take-append-seam}
 use Rattle.basics.specs.Logic.{all}
 use Rattle.basics.specs.Numbers.{accepted}
-use Rattle.basics.proofs.Cases.{cases}
-use Rattle.field.specs.Field.{isField, fieldOf, isElement}
+use Rattle.field.specs.Field.{fieldOf, isElement}
 use Rattle.words.specs.Words.{isAbsorb, lengthOf}
 use Rattle.pattern.specs.Pattern.{mergedWords}
 use Rattle.pattern.specs.Opening.{Opening}
@@ -20,12 +18,12 @@ use Rattle.pattern.proofs.MergedWords.{merged-sound}
 use Rattle.progress.specs.Place.{placeAfter}
 use Rattle.progress.specs.declared.place.Place.{Place}
 use Rattle.progress.proofs.Calls as calls
-use Rattle.session.specs.Record.{opened, wiped, openRecord, moved, fieldIn, absorbAll, squeezeAll}
+use Rattle.session.specs.Record.{opened, openRecord, moved, fieldIn, absorbAll, squeezeAll}
 use Rattle.session.specs.Calls.{giving, startRecord, start, absorb, squeeze, finish}
 use Rattle.session.specs.Steps.{movedOn}
 use Rattle.session.specs.declared.Session.{Session}
 use Rattle.session.specs.declared.Answer.{Answer}
-use Rattle.session.proofs.SoundRecord.{phaseWord, Sound, parts, whole, element-left}
+use Rattle.session.proofs.SoundRecord.{phaseWord, Sound, whole, element-left}
 use Rattle.session.proofs.Folds.{InPhase, absorb-all, squeeze-all}
 use Rattle.session.proofs.Numbers.{Takes}
 use Rattle.runs.proofs.Outcomes.{absorb-accepted, squeeze-accepted, finish-accepted}

@@ -1,7 +1,7 @@
 -- Which number sealing and opening give, and what each leaves.
 -- Assumes nothing.
 use mathlib.Core.Path.{_≡_, refl, sym, ap, _∙_}
-use mathlib.Core.Bool.{Bool, true, false, not}
+use mathlib.Core.Bool.{true, false, not}
 use mathlib.Core.List.{List, [], _∷_}
 use mathlib.Core.Logic.{_≢_}
 use Prim.Native.Nat.{ℕ, _+_, _≤_, _<_}
@@ -17,7 +17,7 @@ use Rattle.basics.proofs.Cases.{by, cases, if-true, if-false, and-left, and-rig
 use Rattle.field.specs.Field.{isField, fieldOf}
 use Rattle.seal.specs.Seal.{Context, Outcome, leaving, soundLengths, areElements, noteRows, sealRows, openRows, sealNote, openNote}
 use Rattle.seal.specs.Conditions.{RightLengths}
-use Rattle.seal.proofs.Rows.{Passed, passed}
+use Rattle.seal.proofs.Rows.{passed}
 use Rattle.seal.proofs.Outcomes.{first, never-21, seal-refused, open-refused}
 
 module _ (c : Context) (text : List ℕ) (textMark buffer bufferMark : ℕ) where

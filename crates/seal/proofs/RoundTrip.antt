@@ -1,12 +1,12 @@
 -- Sealing and opening undo each other, block by block.
 -- Assumes nothing.
 use mathlib.Core.Path.{_≡_, refl, sym, ap, ap₂, _∙_}
-use mathlib.Core.Bool.{Bool, true}
+use mathlib.Core.Bool.{true}
 use mathlib.Core.List.{List, [], _∷_, _++_, zipWith, append-assoc}
 use Prim.Native.Nat.{ℕ, _+_, _-_, _%_, _≤_, _<_}
 use native.Mathlib.Nat.{suc-inj}
 use native.Mathlib.Omega.{arith}
-use lib.ListN.{length, take, drop, length-append, length-drop, take-append-drop}
+use lib.ListN.{length, take, drop}
 use lib.Seq.{take-at, drop-at, take-add}
 use Rattle.basics.specs.Logic.{all}
 use Rattle.basics.specs.Lists.{Below, joined, total}
@@ -23,7 +23,7 @@ use Rattle.seal.specs.Seal.{keystream, afterBlock, plus, minus, cipherBl
 use Rattle.seal.proofs.Lengths.{declarable}
 use Rattle.seal.proofs.Calls.{squeezed-length, squeezed-elements}
 use Rattle.seal.proofs.Blocks.{plus-length, minus-length}
-use Rattle.seal.proofs.Accepted.{Fit, none, more, Ready, Block, block-accepted, remainders}
+use Rattle.seal.proofs.Accepted.{Fit, none, more, Ready, block-accepted, remainders}
 
 -- ---- elements
 

@@ -1,11 +1,8 @@
 -- `seal::are_elements` meets its contract.
 -- Assumes nothing.
 use mathlib.Core.Path.{_≡_, sym, _∙_}
-use mathlib.Core.Bool.{true}
 use borrow.Author.Tests.{not-true, not-false}
-use Rattle.basics.specs.Logic.{all}
 use Rattle.basics.proofs.Cases.{and-step, and-stop}
-use Rattle.field.specs.Field.{isElement}
 use Rattle.seal.specs.Seal.{areElements}
 use borrow.Author.Needs.{needs}
 use Rattle.seal.proofs.are_elements.Statement.{statement}

@@ -1,6 +1,5 @@
 -- `seal::clear` meets its contract.
 -- Assumes nothing.
-use native.Mathlib.Omega.{arith}
 use Prim.Native.Nat.{_-_, _<_}
 use lib.ListN.{length, replicate, length-replicate, getD-replicate}
 use mathlib.Core.Path.{sym}

@@ -1,15 +1,15 @@
 -- `seal::declare` meets its contract.
 -- Assumes nothing.
-use mathlib.Core.Path.{_≡_, refl, sym, ap, _∙_}
-use mathlib.Core.List.{List, _++_}
+use mathlib.Core.Path.{_≡_, refl, ap, _∙_}
+use mathlib.Core.List.{_++_}
 use Prim.Native.Nat.{ℕ, _+_, _*_, _-_, _≤_, _<_}
 use native.Mathlib.Omega.{arith}
-use lib.ListN.{length, getD, take, drop, set, length-set}
+use lib.ListN.{length, take, drop, set, length-set}
 use Rattle.basics.specs.Logic.{if_then_else_}
 use Rattle.words.specs.Words.{wordOf}
 use Rattle.seal.specs.Seal.{blockWords, sealWords}
-use Rattle.seal.proofs.Lengths.{Declarable, lengths-sound, length-at}
-use Rattle.seal.proofs.Words.{Declared, declare-more, declare-last}
+use Rattle.seal.proofs.Lengths.{lengths-sound, length-at}
+use Rattle.seal.proofs.Words.{declare-more, declare-last}
 use borrow.Author.Needs.{needs}
 use Rattle.seal.proofs.declare.Statement.{statement}
 use Rattle.seal.proofs.declare.Tie as tie

@@ -1,7 +1,6 @@
 -- `seal::open` meets its contract.
 -- Assumes nothing.
 use mathlib.Core.Path.{_≡_, sym, ap, ap₂, _∙_}
-use mathlib.Core.Bool.{Bool, true, false}
 use mathlib.Core.List.{List, []}
 use Prim.Native.Nat.{ℕ, _+_, _-_, _≤_}
 use native.Mathlib.Omega.{arith}
@@ -12,7 +11,6 @@ use Rattle.basics.specs.Numbers.{accepted, markDiffers}
 use Rattle.basics.specs.Refusals.{firstNumber}
 use Rattle.field.specs.Field.{fieldOf}
 use Rattle.session.specs.Record.{squeezedAll}
-use Rattle.session.specs.Calls.{squeeze}
 use Rattle.session.specs.declared.Session.{Session}
 use Rattle.seal.specs.Seal.{Context, context, leaving, keyed, afterBlocks, plainBlocks, markOf, unsealed, isMark, hasMark, blocksOf, noteRows}
 use Rattle.seal.specs.Steps.{Squeezes}

@@ -1,8 +1,6 @@
 -- `seal::seal_block` meets its contract.
 -- Assumes nothing.
 use mathlib.Core.Path.{_≡_, sym, ap, _∙_}
-use mathlib.Core.List.{List}
-use Prim.Native.Nat.{ℕ}
 use lib.ListN.{length}
 use Rattle.field.specs.declared.Field.{Field}
 use Rattle.session.specs.Record.{fieldIn, squeezedAll}

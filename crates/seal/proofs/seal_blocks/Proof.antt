@@ -1,12 +1,11 @@
 -- `seal::seal_blocks` meets its contract.
 -- Assumes nothing.
-use mathlib.Core.Path.{_≡_, refl, sym, ap, subst, _∙_}
-use mathlib.Core.List.{List, [], _∷_, _++_}
+use mathlib.Core.Path.{_≡_, refl, sym, _∙_}
+use mathlib.Core.List.{[], _∷_, _++_}
 use Prim.Native.Nat.{ℕ, _+_, _-_, _≤_, _<_}
 use native.Mathlib.Omega.{arith}
-use lib.ListN.{length, getD, take, drop, length-drop}
+use lib.ListN.{length, getD, drop, length-drop}
 use lib.Seq.{length-take-le}
-use Rattle.basics.specs.Lists.{total}
 use Rattle.seal.specs.Seal.{afterBlocks, cipherBlocks}
 use Rattle.seal.specs.Steps.{Squeezes}
 use Rattle.seal.proofs.Passes.{Passing, span, pass-begin, pass-room, pass-asked, pass-end, pass-last}

@@ -1,9 +1,9 @@
 -- `seal::total` meets its contract.
 -- Assumes nothing.
-use mathlib.Core.Path.{_≡_, refl, _∙_}
-use Prim.Native.Nat.{ℕ, _+_, _-_, _*_, _≤_, _<_}
+use mathlib.Core.Path.{_≡_, _∙_}
+use Prim.Native.Nat.{_+_, _-_, _*_, _≤_, _<_}
 use native.Mathlib.Omega.{arith}
-use lib.ListN.{length, getD, drop}
+use lib.ListN.{length, drop}
 use Rattle.basics.specs.Lists.{total}
 use Rattle.seal.proofs.Lengths.{lengths-sound, length-at, total-step, total-end}
 use borrow.Author.Needs.{needs}
