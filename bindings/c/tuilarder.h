@@ -272,6 +272,10 @@ TUILARDER_ANSWER tuilarder_owner(const uint8_t *table, size_t table_length, cons
  * A KEY AND A NONCE SERVE ONCE. Two notes that are sealed with the same field, key, nonce, separator and lengths have the same elements added to their
  * first block, and to each later block as long as all plain blocks before it are equal. So in these blocks the difference of two cipher elements is
  * that of the plain ones, up to and with the first block in which the notes differ: who sees both has it without the key. Lengths are not hidden.
+ *
+ * ALL SEPARATORS UNDER ONE KEY HAVE ONE LENGTH. With lengths 3 and 8 and a separator S a note has the tag string that length 3 has with the separator
+ * 8000000800000008 followed by S; who knows the second block of such a note has, without the key, one of three elements that opens with that separator.
+ * The stack keeps what it held of key, nonce, session and mark.
  */
 TUILARDER_ANSWER tuilarder_seal(uint32_t field, const uint32_t *key, size_t key_length, const uint32_t *nonce, size_t nonce_length,
                                 const uint8_t *separator, size_t separator_length, const uint32_t *lengths, size_t lengths_length,

@@ -57,6 +57,12 @@ use crate::refusal::{result, Refusal};
 /// # Ok::<(), Refusal>(())
 /// ```
 ///
+/// # Separators of one length
+///
+/// **All separators under one key have one length**, as those of a verifier's protocols have. With lengths 3 and 8 and a separator S a note has the tag
+/// string that length 3 has with the separator 8000000800000008 followed by S. Who knows the second block of such a note has, without the key, a
+/// note of three elements that opens with that separator.
+///
 /// How many elements a note has, and in which blocks, is not hidden. No strength against attack is claimed.
 #[derive(Clone, Copy)]
 pub struct Seal<'a> {

@@ -257,7 +257,7 @@ fn difference(a: u32, b: u32) -> u32
     if a == b { 0 } else { 1 }
 }
 
-// Whether a mark is what stands in a list. Differences are counted to the end, so that the time does not tell which element is the first that differs.
+// Whether a mark is what stands in a list. Differences are counted to the end, so that no element is left uncompared behind the first that differs.
 fn is_mark(mark: &[u32], given: &[u32]) -> bool
     requires { ⌜ (length (now mark) ≡ 8) × (length (now given) ≡ 8) ⌝ }
     ensures { λ r. ⌜ r ≡ isMark (now (mark .entry)) (now (given .entry)) ⌝ }
