@@ -19,13 +19,13 @@ use Rattle.field.specs.Field.{fieldOf, isElement}
 use Rattle.field.specs.declared.Field.{Field}
 use Rattle.session.specs.Record.{fieldIn, squeezedAll}
 use Rattle.session.specs.declared.Session.{Session}
 use Rattle.seal.specs.Seal.{Context, Outcome, leaving, keyed, afterBlocks, cipherBlocks, plainBlocks, markOf, blocksOf, sealed, unsealed, isMark, hasMark, noteRows, sealRows, sealNote, openNote}
 use Rattle.seal.proofs.Calls.{squeezed-length, squeezed-elements}
 use Rattle.seal.proofs.Marks.{is-mark-same, same-is-mark}
 use Rattle.seal.proofs.Rows.{Passed, passed, passes}
 use Rattle.seal.proofs.Accepted.{Fit, Ready, text-fits, fit-long, plain-fits, blocks-accepted, mark-accepted, keyed-ready}
-use Rattle.seal.proofs.RoundTrip.{opens-sealed, seals-opened, cipher-fits, blocks-again, fit-elements, joined-again}
+use Rattle.note_laws.proofs.RoundTrip.{opens-sealed, seals-opened, cipher-fits, blocks-again, fit-elements, joined-again}
 use Rattle.seal.proofs.Outcomes.{seal-number, seal-accepted, open-accepted, open-differs, opened-for}
 
 module _ (c : Context) where
   abbrev f : Field

@@ -15,10 +15,10 @@ use Rattle.basics.specs.Numbers.{accepted, separatorTooLong, elementNotReduced,
 use Rattle.basics.specs.Refusals.{Row, firstNumber}
 use Rattle.basics.proofs.Cases.{by, cases, if-true, if-false, and-left, and-right}
 use Rattle.field.specs.Field.{isField, fieldOf}
 use Rattle.seal.specs.Seal.{Context, Outcome, leaving, soundLengths, areElements, noteRows, sealRows, openRows, sealNote, openNote}
-use Rattle.seal.specs.Conditions.{RightLengths}
+use Rattle.note_laws.specs.Conditions.{RightLengths}
 use Rattle.seal.proofs.Rows.{passed}
 use Rattle.seal.proofs.Outcomes.{first, never-21, seal-refused, open-refused}
 
 module _ (c : Context) (text : List ℕ) (textMark buffer bufferMark : ℕ) where
   abbrev number : ℕ

@@ -24,13 +24,13 @@ use Rattle.session.specs.declared.Session.{Session}
 use Rattle.runs.specs.Calls.{Call, ABSORB, SQUEEZE, FINISH, answered, accepts, left, leftBy, absorbedIn, absorbed, squeezedIn, squeezed}
 use Rattle.runs.specs.Runs.{Run, absorbedOf, squeezedOf}
 use Rattle.runs.proofs.Forks.{absorbed-append, squeezed-append}
 use Rattle.seal.specs.Seal.{Context, leaving, sealWords, started, keyed, keystream, afterBlock, afterBlocks, plus, cipherBlocks, markOf, blocksOf, sealed, sealRows}
-use Rattle.seal.specs.Calls.{blockCalls, noteCalls}
+use Rattle.note_laws.specs.Calls.{blockCalls, noteCalls}
 use Rattle.seal.proofs.Lengths.{declarable}
 use Rattle.seal.proofs.Calls.{squeezed-length, squeezed-elements}
 use Rattle.seal.proofs.Rows.{Passed}
 use Rattle.seal.proofs.Accepted.{Fit, none, more, Ready, Block, text-fits, block-accepted, blocks-accepted, mark-accepted, start-accepts, key-accepted, keyed-ready}
-use Rattle.seal.proofs.RoundTrip.{joined-again}
+use Rattle.note_laws.proofs.RoundTrip.{joined-again}
 
 -- every call of a list is accepted
 unfoldable pub AllAccepted : Session → List Call → Type 0
