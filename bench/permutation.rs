@@ -1,5 +1,5 @@
 // One permutation of the library in either field beside others in Rust, in one run: the independent implementation, with a `%` for every
-// operation; one that reduces neither products nor sums before the end of a row, as the library does; and, of BabyBear, the fastest that we could
+// operation; one that reduces neither products nor sums before the end of a row; and, of BabyBear, the fastest that we could
 // write, with SSE2 and, where there is one, with AVX2. All must give what the first gives, before they are timed and in the end.
 mod fast_permutation;
 #[path = "../bindings/rust/tests/independent/mod.rs"]
@@ -168,7 +168,7 @@ fn in_rust<F: Field>(tables: &Tables) -> Ways<'_> {
     let one_remainder: Permutation = Box::new(|state| permute::<F>(tables, state));
     vec![
         ("independent Rust, % for every operation", plain),
-        ("Rust, one % for a row, as the library", one_remainder),
+        ("Rust, one % for a row", one_remainder),
     ]
 }
 

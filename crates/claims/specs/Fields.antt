@@ -22,7 +22,7 @@ use Rattle.field.proofs.Moduli as moduli
 use Rattle.poseidon_tables.specs.Tables.{constants, inverses}
 use Rattle.poseidon_tables.proofs.Entries.{inverses-rule}
 use Rattle.poseidon.specs.Permutation.{Parameters, addConstants, raiseAll, raiseFirst, raise, multiply, round, rounds, permutation, parameters, permuted}
-use Rattle.poseidon.specs.Steps.{plainSums}
+use Rattle.poseidon_rounds.specs.PlainSums.{plainSums}
 use Rattle.poseidon.proofs.Bounds.{multiplied}
 use Rattle.poseidon.proofs.PlainSums.{sums-below, round-of-plain-sums}
 use Rattle.poseidon.proofs.Remainders.{round-congruent}

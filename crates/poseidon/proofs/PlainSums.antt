@@ -16,24 +16,10 @@ use Rattle.basics.proofs.Below.{below-at, below-tabulate, below-larger}
 use Rattle.basics.proofs.Cases.{by, cases, all-set}
 use Rattle.basics.proofs.Fill.{length-tabulate, tabulate-at, tabulate-same}
 use Rattle.field.proofs.Congruence.{Congruent, reflexive, remainder, transitive, add-congruent, mul-congruent}
+use Rattle.poseidon_rounds.specs.PlainSums.{plainSums}
+use Rattle.poseidon_rounds.proofs.Congruence.{pow-congruent, sum-congruent}
+use Rattle.poseidon_rounds.proofs.PlainSums.{plain-sum-at}
 use Rattle.poseidon.specs.Permutation.{Parameters, addConstants, raiseAll, raiseFirst, raise, matrix, multiply}
-use Rattle.poseidon.specs.Steps.{plainSums}
-
--- powers go by remainders
-power-congruent : {m a b : ℕ} (k : ℕ) → Congruent m a b → Congruent m (a ^ k) (b ^ k)
-power-congruent {m} {a} {b} zero h = record { same = ap (λ (x : ℕ). x % m) (pow-zero a ∙ sym (pow-zero b)) }
-power-congruent {m} {a} {b} (suc k) h =
-    record {
-      same = ap (λ (x : ℕ). x % m) (pow-suc a k)
-          ∙ mul-congruent (power-congruent k h) h .same
-          ∙ ap (λ (x : ℕ). x % m) (sym (pow-suc b k));
-    }
-
--- sums of products with congruent factors
-sum-congruent : {m : ℕ} (n : ℕ) (f g : ℕ → ℕ) → ((k : ℕ) → k < n → Congruent m (f k) (g k)) → Congruent m (sum n f) (sum n g)
-unfolding sum
-sum-congruent zero f g h = reflexive 0
-sum-congruent (suc n) f g h = add-congruent (sum-congruent n f g (λ k l. h k (omega arith))) (h n (omega arith))
 
 module _ (F : Parameters) where
   -- 24 elements that are congruent, one by one
@@ -44,7 +30,7 @@ module _ (F : Parameters) where
 
   raised-all : (s t : List ℕ) → Alike s t → raiseAll F s ≡ raiseAll F t
   unfolding raiseAll
-  raised-all s t a = tabulate-same 24 _ _ (λ k l. power-congruent (F .power) (a .each k l) .same)
+  raised-all s t a = tabulate-same 24 _ _ (λ k l. pow-congruent (F .power) (a .each k l) .same)
 
   reflexive-all : (s t : List ℕ) → s ≡ t → length s ≡ 24 → Alike s t
   reflexive-all s t e long =
@@ -57,7 +43,7 @@ module _ (F : Parameters) where
       let as-long = a .as-long in
       let x = getD s 0 0 ^ F .power % F .modulus in
       let y = getD t 0 0 ^ F .power % F .modulus in
-      let same : x ≡ y = power-congruent (F .power) (a .each 0 (omega arith)) .same in
+      let same : x ≡ y = pow-congruent (F .power) (a .each 0 (omega arith)) .same in
       record {
         long = length-set s 0 x ∙ long;
         as-long = length-set t 0 y ∙ as-long;
@@ -128,15 +114,3 @@ module _ (F : Parameters) where
     unfolding plainSums
     sums-below r s hs hc =
         below-tabulate (2 * F .modulus) 24 _ (λ i. omega (arith, below-at (F .modulus) pos s hs i, below-at (F .modulus) pos (F .constants) hc (24 * r + i)))
-
-    -- the power is reduced, the others stay
-    pub raised-below : (r : ℕ) (s : List ℕ) → Below (2 * F .modulus) s → Below (2 * F .modulus) (raise F r s)
-    unfolding raise raiseAll raiseFirst
-    raised-below r s h =
-        let power : (i : ℕ) → getD s i 0 ^ F .power % F .modulus < 2 * F .modulus = λ i. omega (arith, mod-lt (getD s i 0 ^ F .power) pos) in
-        let all = below-tabulate (2 * F .modulus) 24 (λ i. getD s i 0 ^ F .power % F .modulus) power in
-        by (Below (2 * F .modulus)) (ltb r 4) _ _ (λ _. all)
-        λ _.
-        by (Below (2 * F .modulus)) (ltb r (4 + F .partialRounds)) _ _
-        (λ _. all-set (isBelow (2 * F .modulus)) s 0 _ h (lt-ltb _ _ (power 0)))
-        λ _. all

@@ -1,13 +1,13 @@
-// The Poseidon permutation of 24 field elements, in either field.
+// The Poseidon permutation of 24 field elements, in either field. It is computed in Montgomery's form, with the partial rounds in their sparse form; that it
+// is the definition's is proved for the tables of each field, which callers who permute several times make once and lend.
 use field::Field;
 ghost use mathlib.Core.Path.{_≡_};
-ghost use Prim.Native.Nat.{_+_, _*_, _%_, _≤_, _<_};
-ghost use lib.ListN.{length, getD};
-ghost use Rattle.basics.specs.Lists.{sum, Below};
-ghost use Rattle.field.specs.Field.{modulus};
-ghost use Rattle.poseidon_tables.specs.Tables.{constants, inverses};
-ghost use Rattle.poseidon.specs.Permutation.{parameters, raiseAll, raiseFirst, raise, multiply, permutation, permuted};
-ghost use Rattle.poseidon.specs.Steps.{plainSums, remainders, largest};
+ghost use Prim.Native.Nat.{_%_, _≤_};
+ghost use Rattle.field.specs.Field.{modulus, power};
+ghost use Rattle.field.specs.declared.Field.the-variants.{BabyBear, KoalaBear};
+ghost use Rattle.poseidon.specs.Permutation.{parameters, permutation, permuted};
+ghost use Rattle.poseidon.specs.Tables.{tablesOf, tablesFrom};
+ghost use Rattle.poseidon.specs.Steps.{remainders, negatedInverse, highWeight, word, firstEntry, Rescaled};
 
 // Number 0 and the permuted state, or number 18 or 10 and the state as it came.
 pub struct Permuted {
@@ -15,9 +15,78 @@ pub struct Permuted {
     pub state: [u32; 24],
 }
 
+// What a permutation reads: the matrix and the pre-sparse matrix, the columns and rows of the partial rounds, the constants of element 0 in these, what
+// the other rounds add, and copies of the modulus' numbers.
+pub struct Tables {
+    pub matrix: [u32; 576],
+    pub pre_sparse: [u32; 576],
+    pub sparse: [u32; 1152],
+    pub first_constants: [u32; 24],
+    pub addends: [u32; 264],
+    pub copies: [u64; 216],
+}
+
+// The tables of BabyBear. Each use of a table copies it, so that calls that permute several times make them once.
+pub fn baby_bear() -> Tables
+    ensures { λ r. ⌜ r ≡ tablesOf BabyBear ⌝ }
+{
+    Tables {
+        matrix: baby_bear_tables::matrix(),
+        pre_sparse: baby_bear_tables::pre_sparse(),
+        sparse: baby_bear_tables::sparse(),
+        first_constants: baby_bear_tables::first_constants(),
+        addends: baby_bear_tables::addends(),
+        copies: baby_bear_tables::copies(),
+    }
+}
+
+// The tables of KoalaBear. There is no function of a field that gives either: the compiler would choose between the two entry by entry.
+pub fn koala_bear() -> Tables
+    ensures { λ r. ⌜ r ≡ tablesOf KoalaBear ⌝ }
+{
+    Tables {
+        matrix: koala_bear_tables::matrix(),
+        pre_sparse: koala_bear_tables::pre_sparse(),
+        sparse: koala_bear_tables::sparse(),
+        first_constants: koala_bear_tables::first_constants(),
+        addends: koala_bear_tables::addends(),
+        copies: koala_bear_tables::copies(),
+    }
+}
+
+// The power's number.
+fn exponent(field: Field) -> u32
+    ensures { λ r. ⌜ r ≡ power field ⌝ }
+{
+    match field {
+        Field::BabyBear => 7,
+        Field::KoalaBear => 3,
+    }
+}
+
+// -1/p modulo 2^32.
+fn negated_inverse(field: Field) -> u32
+    ensures { λ r. ⌜ r ≡ negatedInverse field ⌝ }
+{
+    match field {
+        Field::BabyBear => 2013265919,
+        Field::KoalaBear => 2130706431,
+    }
+}
+
+// 2^48 modulo p.
+fn high_weight(field: Field) -> u32
+    ensures { λ r. ⌜ r ≡ highWeight field ⌝ }
+{
+    match field {
+        Field::BabyBear => 268295646,
+        Field::KoalaBear => 134085624,
+    }
+}
+
 // 2^32 modulo p.
-fn word(field: Field) -> u64
-    ensures { λ r. ⌜ (r ≡ 4294967296 % modulus field) × (r ≤ 268435454) ⌝ }
+fn word(field: Field) -> u32
+    ensures { λ r. ⌜ r ≡ word field ⌝ }
 {
     match field {
         Field::BabyBear => 268435454,
@@ -25,183 +94,145 @@ fn word(field: Field) -> u64
     }
 }
 
-// The plain sum of two elements, which is below 2p and is not reduced: the products behind it take such factors.
-fn plain_sum(a: u32, b: u32) -> u32
-    requires { ⌜ (a < largest) × (b < largest) ⌝ }
-    ensures { λ r. ⌜ r ≡ a + b ⌝ }
+// The matrix's first entry, as the partial rounds take it.
+fn first_entry(field: Field) -> u32
+    ensures { λ r. ⌜ r ≡ firstEntry field ⌝ }
 {
-    a + b
+    match field {
+        Field::BabyBear => 1906550119,
+        Field::KoalaBear => 816271352,
+    }
 }
 
-// Adds the 24 constants of a round, which the table has from 24 * round on.
-fn add_constants(state: &[u32; 24], table: &[u32], round: usize) -> [u32; 24]
-    requires { ⌜ (round < 31) × (24 * round + 24 ≤ length (now table)) × Below largest (now table) × Below largest (now state) ⌝ }
-    ensures { λ r. ⌜ r ≡ plainSums (now (table .entry)) round (now (state .entry)) ⌝ }
+fn wide(a: u32) -> u64
+    ensures { λ r. ⌜ (r ≡ a) × (r ≤ 4294967295) ⌝ }
+{
+    a as u64
+}
+
+// The remainder of a number of 32 bits modulo m: two subtractions do what a division would.
+fn remainder(x: u32, m: u32) -> u32
+    requires { ⌜ 1431655766 ≤ m ⌝ }
+    ensures { λ r. ⌜ r ≡ x % m ⌝ }
+{
+    if x < m {
+        return x;
+    }
+    let once = x - m;
+    if once < m { once } else { once - m }
+}
+
+// The remainders of a state's elements.
+fn reduce_all(x: &[u32; 24], m: u32) -> [u32; 24]
+    requires { ⌜ 1431655766 ≤ m ⌝ }
+    ensures { λ r. ⌜ r ≡ remainders m (now (x .entry)) ⌝ }
 {
     let mut out = [0u32; 24];
     let mut i: usize = 0;
     while i < 24 {
-        out[i] = plain_sum(state[i], table[24 * round + i]);
+        out[i] = remainder(x[i], m);
         i += 1;
     }
     out
 }
 
-// The power of every element.
-fn raise_all(field: Field, state: &[u32; 24]) -> [u32; 24]
-    ensures { λ r. ⌜ r ≡ raiseAll (parameters field) (now (state .entry)) ⌝ }
+// What comes out of the partial rounds, with what these still have to add, and each element again in the form that full rounds take.
+fn rescale(x: &[u32; 24], word: u32, addends: &[u32; 264], m: u32, q: u32, r: u32) -> [u32; 24]
+    ensures { λ out. ⌜ Rescaled (now (x .entry)) word (now (addends .entry)) m q r out ⌝ }
 {
     let mut out = [0u32; 24];
     let mut i: usize = 0;
     while i < 24 {
-        out[i] = field::power(field, state[i]);
+        let sum = montgomery::product(wide(x[i]), wide(word)) + wide(addends[120 + i]);
+        out[i] = montgomery::reduce_any(sum, wide(m), wide(q), wide(r)) as u32;
         i += 1;
     }
     out
 }
 
-// The power of element 0; the others stay.
-fn raise_first(field: Field, state: &[u32; 24]) -> [u32; 24]
-    ensures { λ r. ⌜ r ≡ raiseFirst (parameters field) (now (state .entry)) ⌝ }
+// The permutation of any state, with the field's tables lent. Elements of p or more are taken modulo p.
+pub fn permutation_by<'a>(
+    field: Field,
+    state: [u32; 24],
+    matrix: &'a [u32; 576],
+    pre_sparse: &'a [u32; 576],
+    sparse: &'a [u32; 1152],
+    first_constants: &'a [u32; 24],
+    addends: &'a [u32; 264],
+    copies: &'a [u64; 216],
+) -> [u32; 24]
+    ensures { λ r. ⌜ (tablesFrom (now (matrix .entry)) (now («pre_sparse» .entry)) (now (sparse .entry)) (now («first_constants» .entry)) (now (addends .entry)) (now (copies .entry)) ≡ tablesOf field →
+        r ≡ permutation (parameters field) state) ⌝ }
 {
-    let mut out = *state;
-    out[0] = field::power(field, state[0]);
-    out
-}
-
-// The power of all elements in the first four and the last four rounds, else of element 0 alone.
-fn raise(field: Field, state: &[u32; 24], round: usize) -> [u32; 24]
-    ensures { λ r. ⌜ r ≡ raise (parameters field) round (now (state .entry)) ⌝ }
-{
-    if round < 4 {
-        return raise_all(field, state);
-    }
-    if round < 4 + field::partial_rounds(field) {
-        return raise_first(field, state);
-    }
-    raise_all(field, state)
-}
-
-// One product of a row of the matrix with the state, whose elements are below 2p: at most (p - 1)(2p - 1) with the larger p, so that two of them fit 64
-// bits, and four do not. The remainder of the table's number is that number itself, and tells the compiler that the factors have 32 bits.
-fn term(table: &[u64], place: usize, state: &[u32; 24], j: usize) -> u64
-    requires { ⌜ (place < length (now table)) × (j < 24) × Below largest (now table) × Below (2 * largest) (now state) ⌝ }
-    ensures { λ r. ⌜ (r ≡ getD (now (table .entry)) place 0 * getD (now (state .entry)) j 0) × (r ≤ 9079819800863047680) ⌝ }
-{
-    (table[place] % 4294967296) * state[j] as u64
-}
-
-// A row of the matrix times the state, not reduced, where the row is the 24 numbers of a table from start on.
-// Two products are summed at a time. The high 32 bits of such sums are added up, and the sums themselves modulo 2^64: the low parts are the difference.
-fn row_sum(field: Field, table: &[u64], start: usize, state: &[u32; 24]) -> u64
-    requires { ⌜ (start + 24 ≤ length (now table)) × Below largest (now table) × Below (2 * largest) (now state) ⌝ }
-    ensures { λ r. ⌜ r % modulus field ≡ sum 24 (λ j. getD (now (table .entry)) (start + j) 0 * getD (now (state .entry)) j 0) % modulus field ⌝ }
-{
-    let mut whole: u64 = 0;
-    let mut high: u64 = 0;
-    let mut j: usize = 0;
-    while j < 24 {
-        let k = start + j;
-        let two = term(table, k, state, j) + term(table, k + 1, state, j + 1);
-        whole = std::num::wrapping_add_u64(whole, two);
-        high += two / 4294967296;
-        j += 2;
-    }
+    let m = field::modulus(field);
+    let q = negated_inverse(field);
+    let r = high_weight(field);
+    let power = exponent(field);
+    let n = field::partial_rounds(field);
+    let first = first_entry(field);
     let word = word(field);
-    let low = std::num::wrapping_sub_u64(whole, high % 4294967296 * 4294967296);
-    high * word + low
+    let reduced = reduce_all(&state, m);
+    let early = poseidon_full::full_rounds(reduced, matrix, addends, copies, 0, 3, power, m, q, r);
+    let before = poseidon_full::full_round(
+        &early,
+        pre_sparse,
+        addends,
+        copies,
+        3,
+        4,
+        power,
+        m,
+        q,
+        r,
+    );
+    let after = poseidon_partial::partial_rounds(
+        &before,
+        sparse,
+        first_constants,
+        first,
+        n,
+        power,
+        m,
+        q,
+        r,
+    );
+    let again = rescale(&after, word, addends, m, q, r);
+    let late = poseidon_full::full_rounds(again, matrix, addends, copies, 6, 10, power, m, q, r);
+    reduce_all(&late, m)
 }
 
-// The rows of the matrix times the state, not reduced: the row i of the matrix is the 24 inverses from place i on.
-fn row_sums(field: Field, state: &[u32; 24], table: &[u64; 47]) -> [u64; 24]
-    requires { ⌜ (now table ≡ inverses field) × Below (2 * modulus field) (now state) ⌝ }
-    ensures { λ r. ⌜ remainders (modulus field) r ≡ multiply (parameters field) (now (state .entry)) ⌝ }
-{
-    let mut out = [0u64; 24];
-    let mut i: usize = 0;
-    while i < 24 {
-        out[i] = row_sum(field, table, i, state);
-        i += 1;
-    }
-    out
-}
-
-// The remainders of 24 sums. They have a loop of their own, since one that looks at the field is not compiled to sums of vectors.
-fn reduce_sums(field: Field, sums: &[u64; 24]) -> [u32; 24]
-    ensures { λ r. ⌜ r ≡ remainders (modulus field) (now (sums .entry)) ⌝ }
-{
-    let mut out = [0u32; 24];
-    let mut i: usize = 0;
-    while i < 24 {
-        out[i] = field::reduce(field, sums[i]);
-        i += 1;
-    }
-    out
-}
-
-// The matrix times the state, whose elements are below 2p: in a partial round all but element 0 come from the sum as they are.
-fn multiply(field: Field, state: &[u32; 24], table: &[u64; 47]) -> [u32; 24]
-    requires { ⌜ (now table ≡ inverses field) × Below (2 * modulus field) (now state) ⌝ }
-    ensures { λ r. ⌜ r ≡ multiply (parameters field) (now (state .entry)) ⌝ }
-{
-    let sums = row_sums(field, state, table);
-    reduce_sums(field, &sums)
-}
-
-// All rounds, with the field's constants to add and inverses to multiply by.
-fn rounds(field: Field, state: [u32; 24], added: &[u32], factors: &[u64; 47]) -> [u32; 24]
-    requires { ⌜ (now added ≡ constants field) × (now factors ≡ inverses field) × Below (modulus field) state ⌝ }
-    ensures { λ r. ⌜ r ≡ permutation (parameters field) state ⌝ }
-{
-    let count = 4 + field::partial_rounds(field) + 4;
-    let mut s = state;
-    let mut round: usize = 0;
-    while round < count {
-        s = add_constants(&s, added, round);
-        s = raise(field, &s, round);
-        s = multiply(field, &s, factors);
-        round += 1;
-    }
-    s
-}
-
-// The permutation of a reduced state. The tables are read once, since each use of one copies it.
-fn permute_reduced(field: Field, state: [u32; 24]) -> [u32; 24]
-    requires { ⌜ Below (modulus field) state ⌝ }
+// The permutation of any state. Elements of p or more are taken modulo p, as the sums of the first round take them in any case.
+pub fn permutation(field: Field, state: [u32; 24]) -> [u32; 24]
     ensures { λ r. ⌜ r ≡ permutation (parameters field) state ⌝ }
 {
     match field {
         Field::BabyBear => {
-            let constants = poseidon_tables::baby_bear_constants();
-            let inverses = poseidon_tables::baby_bear_inverses();
-            rounds(field, state, &constants, &inverses)
+            let t = baby_bear();
+            permutation_by(
+                field,
+                state,
+                &t.matrix,
+                &t.pre_sparse,
+                &t.sparse,
+                &t.first_constants,
+                &t.addends,
+                &t.copies,
+            )
         }
         Field::KoalaBear => {
-            let constants = poseidon_tables::koala_bear_constants();
-            let inverses = poseidon_tables::koala_bear_inverses();
-            rounds(field, state, &constants, &inverses)
+            let t = koala_bear();
+            permutation_by(
+                field,
+                state,
+                &t.matrix,
+                &t.pre_sparse,
+                &t.sparse,
+                &t.first_constants,
+                &t.addends,
+                &t.copies,
+            )
         }
     }
-}
-
-// The remainders of a state's elements modulo p. A sum, which takes any number, needs no cast of an element.
-fn reduce_all(field: Field, state: &[u32; 24]) -> [u32; 24]
-    ensures { λ r. ⌜ r ≡ remainders (modulus field) (now (state .entry)) ⌝ }
-{
-    let mut out = [0u32; 24];
-    let mut i: usize = 0;
-    while i < 24 {
-        out[i] = field::add(field, state[i], 0);
-        i += 1;
-    }
-    out
-}
-
-// The permutation of any state. Elements of p or more are taken modulo p, as the definition's first sums take them.
-pub fn permutation(field: Field, state: [u32; 24]) -> [u32; 24]
-    ensures { λ r. ⌜ r ≡ permutation (parameters field) state ⌝ }
-{
-    permute_reduced(field, reduce_all(field, &state))
 }
 
 // One permutation in the field that a number names: another number gets 18, and a state with an element of p or more 10; either state comes back.
@@ -218,7 +249,7 @@ pub fn permute(field: u32, state: [u32; 24]) -> Permuted
     if field::is_reduced(named, &state) {
         Permuted {
             number: basics::ACCEPTED,
-            state: permute_reduced(named, state),
+            state: permutation(named, state),
         }
     } else {
         Permuted {

@@ -16,7 +16,11 @@ stateFor F position state = if eqb position rate then permutation F state else s
 unfoldable pub permutationsFor : ℕ → ℕ
 permutationsFor position = if eqb position rate then 1 else 0
 
--- the state with an element added at a position
+-- a state with an element added at a position
+unfoldable pub withElement : Parameters → ℕ → List ℕ → ℕ → List ℕ
+withElement F position state x = set state (outer position) ((getD state (outer position) 0 + x) % F .modulus)
+
+-- the state with an element added at a position, permuted first where that is 8
 unfoldable pub stateWith : Parameters → ℕ → List ℕ → ℕ → List ℕ
 stateWith F position state x =
     set (stateFor F position state) (outer position) ((getD (stateFor F position state) (outer position) 0 + x) % F .modulus)

@@ -1,28 +1,26 @@
--- `poseidon::permutation` meets its contract.
+-- `poseidon::permutation` meets its contract: the tables that it lends are the field's.
 -- Assumes nothing.
-use mathlib.Core.Path.{_∙_, ap}
-use Rattle.field.specs.Field.{modulus}
-use Rattle.field.proofs.Moduli.{positive}
-use Rattle.poseidon.specs.Permutation.{permutation, parameters}
-use Rattle.poseidon.proofs.Bounds.{remainders-reduced}
-use Rattle.poseidon.proofs.Remainders.{permutation-of-remainders}
+use mathlib.Core.Path.{sym, ap, _∙_}
+use Rattle.poseidon.specs.Tables.{tablesOf}
 use borrow.Author.Needs.{needs}
 use Rattle.poseidon.proofs.permutation.Statement.{statement}
 use Rattle.poseidon.proofs.permutation.Tie as tie
 
-permute-reduced-requires : tie.Need-permute-reduced-requires
-permute-reduced-requires c κs = rw (c .reduce-all .ensures) (let f = c .before .before .args .field in remainders-reduced (modulus f) (positive f) _)
-
 returns : tie.Need-returns
-unfolding parameters
-returns c =
-    let F = parameters (c .before .before .before .args .field) in
-    c .permute-reduced .ensures ∙ ap (permutation F) (c .before .reduce-all .ensures) ∙ permutation-of-remainders F _
+returns c = c .permutation-by .ensures (c .before .before .before .before .before .before .before .before .baby-bear .ensures ∙ ap tablesOf (sym (c .before .before .before .before .before .before .before .before .before .enum-told .given .1)))
+
+returns-2 : tie.Need-returns-2
+returns-2 c = c .permutation-by2 .ensures (c .before .before .before .before .before .before .before .before .koala-bear .ensures ∙ ap tablesOf (sym (c .before .before .before .before .before .before .before .before .before .enum-told2 .given .1)))
 
 pub permutation-spec : {M : Type 1} → statement M
 permutation-spec =
     tie.close
     (tie.spec
+    (λ c. search needs)
     (λ c κs. search needs)
-    permute-reduced-requires
-    returns)
+    (λ c κs. search needs)
+    (λ c. search needs)
+    (λ c κs. search needs)
+    (λ c κs. search needs)
+    returns
+    returns-2)

@@ -36,14 +36,11 @@ returns : tie.Need-returns
 unfolding permuted
 returns c = sym (if-true _ _ _ (ap not (sym (c .before .is-field .ensures) ∙ not-true _ (c .if1 .taken))))
 
-permute-reduced-requires : tie.Need-permute-reduced-requires
-permute-reduced-requires c κs = sym (c .before .is-reduced .ensures) ∙ c .if2 .taken
-
 returns-2 : tie.Need-returns-2
 returns-2 c =
     let at-field = c .before .before .before .before in
     taken _ _ _ (at-field .field-of .ensures) (sym (at-field .before .before .is-field .ensures) ∙ not-false _ (at-field .before .if1 .left))
-    (c .before .before .is-reduced .ensures) (c .before .if2 .taken) (c .permute-reduced .ensures)
+    (c .before .before .is-reduced .ensures) (c .before .if2 .taken) (c .permutation .ensures)
 
 returns-3 : tie.Need-returns-3
 returns-3 c =
@@ -60,6 +57,6 @@ permute-spec =
     (λ c κs. search needs)
     (λ c. search needs)
     (λ c κs. search needs)
-    permute-reduced-requires
+    (λ c κs. search needs)
     returns-2
     returns-3)
