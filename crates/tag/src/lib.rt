@@ -32,11 +32,7 @@ pub fn is_form(number: u32) -> bool
 fn tail_length(form: u32) -> usize
     ensures { λ r. ⌜ r ≡ length (tailOf form 0) ⌝ }
 {
-    if form == FORM_2 {
-        4
-    } else {
-        0
-    }
+    if form == FORM_2 { 4 } else { 0 }
 }
 
 // Writes the string of merged words and a separator from the buffer's start on, where the buffer is long enough.
