@@ -46,6 +46,16 @@ module _ (s : List ℕ) (n : ℕ) where
       by (λ (k : ℕ). k ≡ accepted → Passed) _ _ _ (λ _ e. absurd (omega arith)) λ e3 _.
       record { short = ltb-false 256 n e1; long = ltb-false (length s) n e2; sound = not-false _ e3 }
 
+  -- the answer by its number
+  abbrev bodyAnswer : WordList
+  bodyAnswer = answerWith (bodyNumber s n) (wordsOf (wordsPart s n))
+
+  pub body-refused : (k : ℕ) → eqb k 0 ≡ false → bodyNumber s n ≡ k → bodyAnswer ≡ withWords k []
+  body-refused k z e = answer-refused _ k _ e z
+
+  pub body-accepted : bodyNumber s n ≡ accepted → bodyAnswer ≡ withWords accepted (wordsOf (wordsPart s n))
+  body-accepted e = answer-accepted _ _ e
+
   pub number-6 : 256 < n → bodyNumber s n ≡ separatorTooLong
   unfolding bodyRows firstNumber
   number-6 h = if-true _ _ _ (lt-ltb 256 n h)

@@ -84,13 +84,7 @@ fn length_in(form: u32, string: &[u8], separator_length: usize) -> usize
     ensures { λ r. ⌜ r ≡ lengthIn form (now (string .entry)) «separator_length» ⌝ }
 {
     if form == tag::FORM_2 {
-        let at = string.len() - 4;
-        return basics::bytes::big_endian(
-            string[at],
-            string[at + 1],
-            string[at + 2],
-            string[at + 3],
-        ) as usize;
+        return bytes::number_at(string, string.len() - 4) as usize;
     }
     separator_length
 }
