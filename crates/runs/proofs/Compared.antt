@@ -1,6 +1,6 @@
 -- The third demand, of every two finished sessions.
 -- Assumes nothing.
-use mathlib.Core.Path.{_≡_, sym, ap, ap₂, _∙_}
+use mathlib.Core.Path.{_≡_, sym, ap, ap₂, subst, _∙_}
 use mathlib.Core.Logic.{_↔_}
 use mathlib.Core.List.{List, map}
 use Prim.Native.Nat.{ℕ}
@@ -9,6 +9,7 @@ use lib.ListN.{length}
 use Rattle.sha3.specs.Sponge.{sha3}
 use Rattle.words.specs.Words.{Phase, wordOf}
 use Rattle.pattern.specs.Pattern.{mergedWords}
+use Rattle.tag.specs.TagString.{tagString}
 use Rattle.tag.specs.Elements.{tagElements}
 use Rattle.tag.proofs.ReadBack.{strings-tell}
 use Rattle.session.specs.Record.{tagState, openRecord}
@@ -48,7 +49,7 @@ module _
   where
     tags : (tagOf a ≡ tagOf b) ↔ ((patternOf a ≡ patternOf b) × (a .opening .separator ≡ b .opening .separator))
     tags =
-        rw g
+        subst (λ (form : ℕ). (tagOf a ≡ tagString form (b .opening)) ↔ ((patternOf a ≡ patternOf b) × (a .opening .separator ≡ b .opening .separator))) g
         (strings-tell (a .form) (start-formed (a .field) (a .form) (a .opening) (a .opens)) (a .opening) (b .opening)
         (start-accepted (a .field) (a .form) (a .opening) (a .opens)) (start-accepted (b .field) (b .form) (b .opening) (b .opens)) h)
 
