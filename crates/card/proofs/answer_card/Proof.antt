@@ -31,14 +31,14 @@ count-in : (c : tie.Else1) → c .before .before .check .result .count ≤ lengt
 count-in c = count-inside (opened (c .before .before)) _ (c .before .before .check .ensures) (c .if1 .left)
 
 -- where the string was written it lies in the bytes lent for it, and is the tag string
-string-fits : (c : tie.After-write-string) → c .write-string .result .length ≤ length (c .write-string .last .1 .1 .0)
+string-fits : (c : tie.After-write-string) → c .write-string .result .length ≤ length (c .write-string .last .1 .1 .1 .0)
 string-fits c =
     let at-accepted = c .before .before .before .before in
     let at-check = at-accepted .before .before in
     string-inside cardForm (opened at-check) _ (at-check .check .ensures) (at-accepted .if1 .left) _ _ (c .write-string .ensures .0) (c .write-string .ensures .1)
 
 string-read : (c : tie.After-write-string)
-    → take (c .write-string .result .length) (c .write-string .last .1 .1 .0) ≡ tagString cardForm (opened (c .before .before .before .before .before .before))
+    → take (c .write-string .result .length) (c .write-string .last .1 .1 .1 .0) ≡ tagString cardForm (opened (c .before .before .before .before .before .before))
 string-read c =
     let at-accepted = c .before .before .before .before in
     let at-check = at-accepted .before .before in
