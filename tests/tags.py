@@ -231,8 +231,9 @@ def numbers(digits):
 
 
 def cases():
-    for words, behind, room in write_cases():
-        for form in (1, 2):
+    for k, (words, behind, room) in enumerate(write_cases()):
+        # the long ones of one form each, for the program's room
+        for form in (1, 2) if len(words) < 40 and len(behind) < 200 else (1 + k % 2,):
             length = max(0, 4 * merged(words) + len(behind) + 4 * (form == 2) + room)
             print("w", "%08x" % form, hexadecimal(words), behind.hex(), "%04x" % length)
     for form in UNKNOWN:

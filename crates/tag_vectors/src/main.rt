@@ -173,7 +173,7 @@ fn elements_line(text: &[u8], at: usize) -> usize
 
 fn print_line(text: &[u8], at: usize) -> usize
     requires { ⌜ at < length (now text) ⌝ }
-    requires { ⌜ length (now text) ≤ 524288 ⌝ }
+    requires { ⌜ length (now text) ≤ 262144 ⌝ }
     ensures { λ r. ⌜ at < r ⌝ }
 {
     let kind = text[at];
@@ -192,7 +192,7 @@ fn print_line(text: &[u8], at: usize) -> usize
 }
 
 fn print_lines(text: &[u8])
-    requires { ⌜ length (now text) ≤ 524288 ⌝ }
+    requires { ⌜ length (now text) ≤ 262144 ⌝ }
 {
     let mut at: usize = 0;
     while at < text.len() {
@@ -202,7 +202,7 @@ fn print_lines(text: &[u8])
 }
 
 fn main() {
-    let mut text = [0u8; 524288];
+    let mut text = [0u8; 262144];
     let size = io::read_full(0, &mut text);
     print_lines(&text[..size]);
 }
