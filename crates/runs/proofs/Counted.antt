@@ -42,6 +42,10 @@ module _ (field form : ℕ) (o : Opening) (e : start field form o .number ≡ ac
   unfolding startRecord openRecord
   start-field = ap (λ (r : Session). r .field) (start-record field form o e)
 
+  pub start-form : start field form o .session .form ≡ form
+  unfolding startRecord openRecord
+  start-form = ap (λ (r : Session). r .form) (start-record field form o e)
+
   pub start-count : start field form o .session .count ≡ length (mergedWords (o .words))
   unfolding startRecord openRecord
   start-count = ap (λ (r : Session). r .count) (start-record field form o e)

@@ -44,7 +44,7 @@ module _ (form : ℕ) (s : List ℕ) (n : ℕ) where
     short : length body ≤ length s
     short = omega (arith, body-long form s (accepted-string form s n e .there))
 
-    sum : start + size ≡ length body
+    pub sum : separatorStart form s n + length (readSeparator form s n) ≡ length (bodyOf form s)
     sum =
         let long = accepted-string form s n e .inside .long in
         omega (arith, start-accepted form s n e, part-long form s n e, separator-long form s n e)
