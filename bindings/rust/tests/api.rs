@@ -507,7 +507,7 @@ fn a_separator_may_be_empty_in_form_2() {
     assert_eq!(Pattern::read(&string, 4), Ok((one, &string[4..])));
 }
 
-/// What precedes the last four bytes has as many bytes as these name, one fewer, or 256; and with their bytes in the other order they name 16,777,216.
+/// 260 bytes precede the last four. What these name is compared with 256 first, and lowest byte first they would name other lengths.
 #[test]
 fn a_string_of_form_2_is_read_by_its_last_four_bytes() {
     let read = |tail: [u8; 4]| {
@@ -516,7 +516,7 @@ fn a_string_of_form_2_is_read_by_its_last_four_bytes() {
     };
     assert_eq!(read([0, 0, 1, 0]), Ok((vec![0x80000001], vec![7; 256])));
     assert_eq!(read([0, 0, 0, 255]), Err(Refusal::NotTagString));
-    assert_eq!(read([0, 0, 0, 252]), Err(Refusal::NotTagString));
+    assert_eq!(read([0, 0, 0, 254]), Err(Refusal::NotTagString));
     for tail in [[0, 0, 1, 1], [0, 0, 1, 4], [0, 0, 1, 5], [1, 0, 0, 0], [0xff; 4]] {
         assert_eq!(read(tail), Err(Refusal::SeparatorTooLong));
     }
