@@ -572,7 +572,7 @@ static void test_write_tag(uint32_t form, size_t size)
     CHECK(*written == size && holds(&exact, string));
     ((uint8_t *)longer.part)[size] = '!';
     CHECK(tuilarder_write_tag(form, words, 3, separator, 2, longer.part, size + 1, written) == TUILARDER_ACCEPTED);
-    CHECK(*written == size && memcmp(longer.part, string, size) == 0 && ((uint8_t *)longer.part)[size] == '!');
+    CHECK(*written == size && memcmp(longer.part, string, size) == 0 && ((uint8_t *)longer.part)[size] == '!' && same_guards(&longer));
     CHECK(tuilarder_write_tag(form, words, 3, separator, 2, shorter.part, size - 1, written) == TUILARDER_BUFFER_TOO_SHORT);
     CHECK(wiped(&length) && same(&shorter));
     give_back(&length);
@@ -623,13 +623,13 @@ static void test_read_tag(void)
     for (size_t i = 0; i < UNKNOWN; i++) {
         check_not_read(unknown[i], string, 10, 2, TUILARDER_FORM_UNKNOWN);
         check_not_read(unknown[i], string, 10, 257, TUILARDER_FORM_UNKNOWN);
-        check_not_read(unknown[i], NULL, 0, 0, TUILARDER_FORM_UNKNOWN);
+        check_not_read(unknown[i], "", 0, 0, TUILARDER_FORM_UNKNOWN);
     }
 }
 
 /* Lengths that may be given in form 2, where none is looked at. */
 #define GIVEN 6
-static const size_t given[GIVEN] = {0, 2, 3, 256, 257, SIZE_MAX};
+static const size_t any_given[GIVEN] = {0, 2, 3, 256, 257, SIZE_MAX};
 
 /* Strings of form 2 that are read: B1's, one without a separator, one with a byte, and one whose separator could be a word. */
 static void test_read_form_2(void)
@@ -647,7 +647,7 @@ static void test_read_form_2(void)
     };
     for (size_t i = 0; i < sizeof strings / sizeof *strings; i++)
         for (size_t k = 0; k < GIVEN; k++)
-            check_read(FORM_2, strings[i].bytes, strings[i].length, given[k], &strings[i].wanted);
+            check_read(FORM_2, strings[i].bytes, strings[i].length, any_given[k], &strings[i].wanted);
 }
 
 /* Strings of form 2 that are not: of 0 to 8 bytes; with a tail that names all that precedes it, or one byte more; with one above 256, which gets 6
@@ -685,7 +685,7 @@ static void test_not_read_form_2(void)
     };
     for (size_t i = 0; i < sizeof strings / sizeof *strings; i++)
         for (size_t k = 0; k < GIVEN; k++)
-            check_not_read(FORM_2, strings[i].bytes, strings[i].length, given[k], strings[i].number);
+            check_not_read(FORM_2, strings[i].bytes, strings[i].length, any_given[k], strings[i].number);
 }
 
 /* The longest tag strings, 64 words that do not merge and 256 bytes: written into as many bytes and not into one less, and read back. */
@@ -715,7 +715,7 @@ static void test_longest_tag_string(uint32_t form)
     give_back(&words);
 }
 
-/* Sample B2's two patterns with their separators: one string and one record but for the words in form 1, and two in form 2. */
+/* Sample B2's two patterns with their separators: one string and one state in form 1, and two in form 2. */
 static void test_unequal_lengths(void)
 {
     const uint32_t words[4] = {A | 1, 1, A | 2, 2};
