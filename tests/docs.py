@@ -122,16 +122,16 @@ def declared_as(words):
     return ", ".join(f"{'Absorb' if word >= ABSORB else 'Squeeze'}({word % ABSORB})" for word in words)
 
 
-def opened(out, calls, separator, field=1):
-    out.append(f"tag string {oracle.tag_string(words(calls), separator).hex()}")
-    number, record = oracle.start(words(calls), separator, field)
+def opened(out, calls, separator, field=1, form=1):
+    out.append(f"tag string {oracle.tag_string(words(calls), separator, form).hex()}")
+    number, record = oracle.start(words(calls), separator, field, form)
     refuse(number)
     return Session(record)
 
 
-def whole(out, calls, separator, *messages):
+def whole(out, calls, separator, *messages, form=1):
     """All that a session squeezes that takes a message for each ABSORB."""
-    session, messages, squeezed = opened(out, calls, separator), list(messages), []
+    session, messages, squeezed = opened(out, calls, separator, form=form), list(messages), []
     for call in calls.split():
         if call[0] == "a":
             session.absorb(messages.pop(0))
@@ -179,6 +179,10 @@ def tag_string(out):
     refuse(number)
     out += [f"tag string {bytes_of(string)}", f"read with length 2: Pattern [{declared_as(merged[:count])}], separator {bytes_of(separator)}",
             f"read with length 3: {Refused(oracle.read_tag(string, 3)[0])}"]
+    string = oracle.tag_string(words("a3 a3 s3"), b"AB", 2)
+    number, merged, count, separator = oracle.read_tag(string, 0, 2)
+    refuse(number)
+    out += [f"tag string of form 2 {bytes_of(string)}", f"read: Pattern [{declared_as(merged[:count])}], separator {bytes_of(separator)}"]
 
 
 def long_phases(out):
@@ -304,11 +308,13 @@ def shared_separator(out):
 
 
 def unequal_separators(out):
-    short, long = opened(out, "a1 s1", bytes.fromhex("8000000200000002")), opened(out, "a1 s1 a2 s2", b"")
-    short.absorb([5])
-    long.absorb([5])
-    out.append(f"{short.squeeze(1)} {long.squeeze(1)}")
-    short.finish()
+    for form in (1, 2):
+        challenges = []
+        for calls, separator in (("a1 s1", bytes.fromhex("8000000200000002")), ("a1 s1 a2 s2", b"")):
+            taken = opened(out, calls, separator, form=form)
+            taken.absorb([5])
+            challenges += taken.squeeze(1)
+        out.append(f"form {form}: challenges {challenges[0]} and {challenges[1]}")
 
 
 def cut_differently(out):
@@ -371,8 +377,8 @@ def owners(out):
 
 
 def two_rounds(out):
-    out.append(f"tag string {bytes_of(oracle.tag_string(words('a4 s1 a2 s1'), b'two rounds'))}")
-    first, second = whole([], "a4 s1 a2 s1", b"two rounds", [11, 22, 33, 44], [55, 66])
+    out.append(f"tag string {bytes_of(oracle.tag_string(words('a4 s1 a2 s1'), b'two rounds', 2))}")
+    first, second = whole([], "a4 s1 a2 s1", b"two rounds", [11, 22, 33, 44], [55, 66], form=2)
     out.append(f"challenges {first} and {second}")
 
 
