@@ -402,11 +402,13 @@ def states(out):
 # ---- the figures of the fields and of calls
 
 def of_both(text):
-    """A text with each field's prime p, power, partial rounds and number of constants c; and with the most words and the longest call."""
+    """A text with each field's prime p, power, partial rounds and number of constants c; and with the most words, the longest call and separator, and each
+    form's longest tag string."""
     ordinals = {3: "third", 7: "seventh"}
     figures = {f"{name}{field}": figure for field in (1, 2) for name, figure in (
         ("p", oracle.PRIME[field]), ("power", ordinals[oracle.POWER[field]]), ("partial", oracle.PARTIAL[field]), ("c", oracle.generate(field)[2]))}
-    return text.format(full=oracle.FULL // 2, largest=oracle.PRIME[1] - 1, words=oracle.MAX_WORDS, call=f"{oracle.MAX_CALL:,}", **figures)
+    longest = {f"longest{form}": len(oracle.tag_string([ABSORB + 1, 1] * (oracle.MAX_WORDS // 2), bytes(oracle.MAX_SEPARATOR), form)) for form in (1, 2)}
+    return text.format(separator=oracle.MAX_SEPARATOR, **longest, full=oracle.FULL // 2, largest=oracle.PRIME[1] - 1, words=oracle.MAX_WORDS, call=f"{oracle.MAX_CALL:,}", **figures)
 
 
 # of each source what it says of them
@@ -415,8 +417,9 @@ FIGURES = {
                       "| power in a round | {power1} | {power2} |", "| round constants | {c1} | {c2} |", "from 0 to {largest} for BabyBear",
                       "| rounds of a permutation: full, partial, full | {full}, {partial1}, {full} | {full}, {partial2}, {full} |",
                       "at most {words} calls, of at most {call} elements each", "One declared call has at most {call} elements.",
-                      "calls of {call} elements and any rest", "A note has 1 to 31 blocks, of 1 to {call} elements each."),
-    "bindings/c/tuilarder.h": ("KoalaBear's. BabyBear has {c1}.", "{c1} of BabyBear, {c2} of KoalaBear"),
+                      "calls of {call} elements and any rest", "A note has 1 to 31 blocks, of 1 to {call} elements each.",
+                      "| the longest has | {longest1} bytes | {longest2} bytes |", "of any lengths, up to {separator} bytes"),
+    "bindings/c/tuilarder.h": ("KoalaBear's. BabyBear has {c1}.", "{c1} of BabyBear, {c2} of KoalaBear", "TUILARDER_MAX_TAG_STRING {longest2}"),
     "bindings/rust/src/lib.rs": ("BabyBear (p = {p1}) or KoalaBear (p = {p2})", "{c1} of BabyBear, {c2} of KoalaBear"),
     "bindings/rust/src/field.rs": ("Number 1, with p = {p1}. BabyBear = 1,", "Number 2, with p = {p2}. KoalaBear = 2,"),
 }
