@@ -138,12 +138,12 @@ fn buffer_of_more_than_32_bits_is_long_enough() {
     assert_eq!(out[..10], [0x80, 0, 0, 9, 0, 0, 0, 9, 0, 0]);
 }
 
-/// In either form: the last four bytes are zeros, and name no separator.
+/// The first eight bytes alone are a tag string of the form.
 #[test]
 fn string_of_more_than_32_bits_is_no_tag_string() {
     let mut string = Zeros::<u8>::of((1 << 32) + 8);
-    string[..8].copy_from_slice(&[0x80, 0, 0, 9, 0, 0, 0, 9]);
-    for form in [1, 2] {
+    for (form, last) in [(1, 9), (2, 0)] {
+        string[..8].copy_from_slice(&[0x80, 0, 0, 9, 0, 0, 0, last]);
         let (mut words, mut count, mut start, mut length) = ([77; 64], 77, 77, 77);
         // SAFETY: the pointers are to that many cells, and the lists are apart.
         let number = unsafe {
@@ -385,6 +385,7 @@ fn types_read_no_string_of_more_than_32_bits() {
     let mut string = Zeros::<u8>::of((1 << 32) + 8);
     string[..8].copy_from_slice(&[0x80, 0, 0, 9, 0, 0, 0, 9]);
     assert_eq!(Pattern::read(&string, 0), Err(Refusal::NotTagString));
+    string[7] = 0;
     assert_eq!(Pattern::read_form_2(&string), Err(Refusal::NotTagString));
 }
 
