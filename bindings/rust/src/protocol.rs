@@ -55,9 +55,7 @@ impl Protocol {
     /// [`Refusal::SeparatorTooLong`] (6); an accepted pattern has none of 1, 2, 19 and 3.
     pub fn with_form(field: Field, form: Form, pattern: &Pattern, separator: &[u8]) -> Result<Protocol, Refusal> {
         let mut tag_string = [0; Pattern::MAX_TAG_STRING];
-        let length = pattern
-            .tag_string_with_form(form, separator, &mut tag_string)?
-            .len();
+        let length = pattern.tag_string_with_form(form, separator, &mut tag_string)?.len();
         Ok(Protocol {
             field,
             form,

@@ -347,9 +347,7 @@ fn a_pattern_has_at_most_64_words() {
     assert_eq!(pattern.merged(), pattern);
     let mut buffer = [0; Pattern::MAX_TAG_STRING];
     assert_eq!(pattern.tag_string(&[7; 256], &mut buffer).unwrap().len(), 512);
-    let string = pattern
-        .tag_string_with_form(Form::Two, &[7; 256], &mut buffer)
-        .unwrap();
+    let string = pattern.tag_string_with_form(Form::Two, &[7; 256], &mut buffer).unwrap();
     assert_eq!((string.len(), &string[255..257]), (516, &[64, 7][..]));
     assert_eq!(string[511..], [7, 0, 0, 1, 0]);
     assert_eq!(Pattern::read_form_2(string), Ok((pattern.clone(), &[7; 256][..])));
@@ -496,10 +494,7 @@ fn a_string_of_form_2_is_written_and_read_back() {
 fn a_separator_may_be_empty_in_form_2() {
     let string = [0x80, 0, 0, 1, 0, 0, 0, 0];
     let one = Pattern::new(&[Absorb(1)]).unwrap();
-    assert_eq!(
-        one.tag_string_with_form(Form::Two, &[], &mut [7; 8]),
-        Ok(&string[..])
-    );
+    assert_eq!(one.tag_string_with_form(Form::Two, &[], &mut [7; 8]), Ok(&string[..]));
     let (pattern, separator) = Pattern::read_form_2(&string).unwrap();
     assert_eq!(pattern, one);
     assert!(ptr::eq(separator, &string[4..4]));

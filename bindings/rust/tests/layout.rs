@@ -19,8 +19,7 @@ fn library_answers_the_layout_that_is_declared() {
 }
 
 // A call alone shows less: a pointer to what is written can be passed as one to what is only read, and an answer can be passed over.
-const _: unsafe extern "C" fn(*mut Record, u32, u32, *const u32, usize, *const u8, usize) -> u32 =
-    ffi::tuilarder_start;
+const _: unsafe extern "C" fn(*mut Record, u32, u32, *const u32, usize, *const u8, usize) -> u32 = ffi::tuilarder_start;
 const _: unsafe extern "C" fn(*mut Record, *const u32, usize) -> u32 = ffi::tuilarder_absorb;
 const _: unsafe extern "C" fn(*mut Record, *mut u32, usize) -> u32 = ffi::tuilarder_squeeze;
 const _: unsafe extern "C" fn(*mut Record) -> u32 = ffi::tuilarder_finish;
@@ -28,16 +27,8 @@ const _: unsafe extern "C" fn(u32, *mut [u32; 24]) -> u32 = ffi::tuilarder_permu
 const _: unsafe extern "C" fn(u32, *mut [u32; 744], *mut usize) -> u32 = ffi::tuilarder_generate;
 const _: unsafe extern "C" fn(u32, *const u32, usize, *const u8, usize, *mut u8, usize, *mut usize) -> u32 =
     ffi::tuilarder_write_tag;
-const _: unsafe extern "C" fn(
-    u32,
-    *const u8,
-    usize,
-    usize,
-    *mut [u32; 64],
-    *mut usize,
-    *mut usize,
-    *mut usize,
-) -> u32 = ffi::tuilarder_read_tag;
+const _: unsafe extern "C" fn(u32, *const u8, usize, usize, *mut [u32; 64], *mut usize, *mut usize, *mut usize) -> u32 =
+    ffi::tuilarder_read_tag;
 const _: unsafe extern "C" fn(*const u32, usize, *mut [u32; 64], *mut usize) -> u32 = ffi::tuilarder_cut;
 const _: unsafe extern "C" fn(*const u8, usize, *mut [u8; 32]) = ffi::tuilarder_sha3_256;
 const _: unsafe extern "C" fn(*const u8, usize, *mut u32) -> u32 = ffi::tuilarder_check_owners;

@@ -55,9 +55,7 @@ fn replay_line<'a>(by: &dyn Interface, noise: &mut Random, input: &str, output: 
     let all = &output[2..];
     let second = all.split_once(", ").map_or("", |(_, second)| second);
     match input.split(' ').collect::<Vec<_>>()[..] {
-        ["w", form, words, separator, length] => {
-            (written(by, noise, word_of(form), words, separator, length), second)
-        }
+        ["w", form, words, separator, length] => (written(by, noise, word_of(form), words, separator, length), second),
         ["r", form, string, length] => (read(by, noise, word_of(form), &bytes_of(string), length), all),
         ["c", words] => (shown(by.cut(noise, &words_of(words))), all),
         _ => panic!("no such kind of line"),

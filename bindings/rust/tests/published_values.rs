@@ -135,8 +135,14 @@ fn tag_strings_of_form_2() {
     assert_eq!(out, [77; 515]);
     // START hashes the string of the form that it gets
     let state = |form| started_in(form, 1, &[ABSORB + 1, 1], b"AB").state[8..16].to_vec();
-    assert_eq!(state(2), tag_elements(&sha3_256(&written_in(2, &[ABSORB + 1, 1], b"AB"))));
-    assert_eq!(state(1), tag_elements(&sha3_256(&written_in(1, &[ABSORB + 1, 1], b"AB"))));
+    assert_eq!(
+        state(2),
+        tag_elements(&sha3_256(&written_in(2, &[ABSORB + 1, 1], b"AB")))
+    );
+    assert_eq!(
+        state(1),
+        tag_elements(&sha3_256(&written_in(1, &[ABSORB + 1, 1], b"AB")))
+    );
     assert_ne!(state(1), state(2));
 }
 
@@ -495,7 +501,10 @@ fn what_is_read_is_written_again() {
         string.extend(b"AB");
         let (number, read, count) = read_tag(1, &string, 2);
         assert_eq!((number, &read[..count]), (0, words));
-        assert_eq!(written(&calls_of(&read[..count]), read_separator(1, &string, 2)), string);
+        assert_eq!(
+            written(&calls_of(&read[..count]), read_separator(1, &string, 2)),
+            string
+        );
     }
     assert_eq!(cut(&[ABSORB + 63 * LIMIT + 1, 1]), (1, [0; 64], 0));
     assert_eq!(cut(&[ABSORB + LONGEST, 1]), (1, [0; 64], 0));

@@ -161,14 +161,7 @@ impl<T: Any + Copy + PartialEq + Debug> Lent<T> {
     }
 }
 
-pub fn start(
-    random: &mut Random,
-    record: &mut Record,
-    field: u32,
-    form: u32,
-    words: &[u32],
-    separator: &[u8],
-) -> u32 {
+pub fn start(random: &mut Random, record: &mut Record, field: u32, form: u32, words: &[u32], separator: &[u8]) -> u32 {
     let mut lent = Lent::new(&[*record], random);
     let (mut words, mut separator) = (Lent::new(words, random), Lent::new(separator, random));
     // SAFETY: the pointers are to that many cells, and the lists are apart.

@@ -157,17 +157,11 @@ impl Run {
     pub fn read_tag(&mut self, form: u32, string: &[u8], separator_length: usize) -> (u32, Vec<u32>, Vec<u8>) {
         self.last = Box::new(("read_tag", form, string.to_vec(), separator_length));
         let expected = Independent.read_tag(&mut self.noise, form, string, separator_length);
-        let answer = self
-            .library
-            .read_tag(&mut self.noise, form, string, separator_length);
+        let answer = self.library.read_tag(&mut self.noise, form, string, separator_length);
         assert_eq!(answer, expected, "the number, the words and where the separator lies");
         self.answered("read_tag", answer.number);
         let separator = &string[answer.separator_start..][..answer.separator_count];
-        (
-            answer.number,
-            answer.words[..answer.count].to_vec(),
-            separator.to_vec(),
-        )
+        (answer.number, answer.words[..answer.count].to_vec(), separator.to_vec())
     }
 
     /// Words cut by both. Gives the number and the calls.
