@@ -216,7 +216,7 @@ fn long_calls(library: &'static dyn Interface) {
 }
 
 fn tags_written_and_read_back(library: &'static dyn Interface) {
-    let run = Run::of("tags_written_and_read_back", library, 20_000, |run| {
+    let run = Run::of("tags_written_and_read_back", library, 25_000, |run| {
         let (words, separator) = (any_pattern(&mut run.random), any_separator(&mut run.random));
         let form = any_form(&mut run.random);
         let needed = independent::write_tag(form, &words, &separator, &mut [0; 516]).unwrap_or(40);
