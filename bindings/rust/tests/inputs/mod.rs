@@ -513,8 +513,8 @@ pub fn string_of(form: u32, words: &[u32], separator: &[u8]) -> Vec<u8> {
     string
 }
 
-/// Numbers about which the last four bytes of a string of form 2 decide, where so many bytes precede them: that many and one more, the longest separator
-/// and one more, and such with their bytes in the other order.
+/// A number for the last four bytes of a string of form 2, where so many bytes precede them: about that many, about the longest separator's length, or any;
+/// at times with its bytes in the other order.
 pub fn any_tail(random: &mut Random, preceding: usize) -> u32 {
     let (all, any) = (preceding as u32, u32::any(random));
     let near = all.wrapping_sub(4 * random.below(66) as u32);
