@@ -11,7 +11,7 @@ use independent::*;
 const LIMIT: u32 = 16777216;
 
 fn started(field: u32, words: &[u32], separator: &[u8]) -> Session {
-    let (number, record) = start(field, words, separator);
+    let (number, record) = start(field, 1, words, separator);
     assert_eq!((number, record.field), (0, field));
     record
 }
@@ -44,15 +44,15 @@ fn alternating_ones(count: usize) -> Vec<u32> {
 
 /// The number that START and writing give.
 fn pattern_number(words: &[u32], separator: &[u8]) -> u32 {
-    let number = start(1, words, separator).0;
-    let written = write_tag(words, separator, &mut [0; 512]);
+    let number = start(1, 1, words, separator).0;
+    let written = write_tag(1, words, separator, &mut [0; 512]);
     assert_eq!(written.err().unwrap_or(0), number);
     number
 }
 
 fn written(words: &[u32], separator: &[u8]) -> Vec<u8> {
     let mut out = vec![0; 512];
-    let size = write_tag(words, separator, &mut out).unwrap();
+    let size = write_tag(1, words, separator, &mut out).unwrap();
     out.truncate(size);
     out
 }
@@ -90,17 +90,17 @@ fn tag_strings_b1_to_b3() {
         written(&[0x80000001, 0x00000001, 0x80000002, 0x00000002], &[])
     );
     let b3 = [0xfffffffe, 0x80000001, 0x00000001];
-    assert_eq!(start(1, &b3, &[]), (19, WIPED));
-    assert_eq!(write_tag(&b3, &[], &mut [0; 512]), Err(19));
+    assert_eq!(start(1, 1, &b3, &[]), (19, WIPED));
+    assert_eq!(write_tag(1, &b3, &[], &mut [0; 512]), Err(19));
 }
 
 #[test]
 fn tag_strings_read_back() {
     let b1 = [0x80, 0, 0, 6, 0, 0, 0, 3, 0x41, 0x42];
-    let (number, words, count) = read_tag(&b1, 2);
+    let (number, words, count) = read_tag(1, &b1, 2);
     assert_eq!((number, &words[..3], count), (0, &[0x80000006, 0x00000003, 0][..], 2));
-    assert_eq!(read_separator(&b1, 2), [0x41, 0x42]);
-    assert_eq!(read_separator(&b1, 3), []);
+    assert_eq!(read_separator(1, &b1, 2), [0x41, 0x42]);
+    assert_eq!(read_separator(1, &b1, 3), []);
 }
 
 #[test]
@@ -150,13 +150,13 @@ fn figures_of_both_fields() {
 #[test]
 fn patterns_turned_away_as_in_the_table() {
     for field in [1, 2] {
-        assert_eq!(start(field, &[], &[]), (1, WIPED));
-        assert_eq!(start(field, &[0x80000003, 0x00000000], &[]), (2, WIPED));
-        assert_eq!(start(field, &[0x00000001], &[]), (3, WIPED));
-        assert_eq!(start(field, &[0x80000001], &[]).0, 0);
-        assert_eq!(start(field, &[0xffffffff, 0x80000001, 0x00000001], &[]), (19, WIPED));
-        assert_eq!(start(field, &[0x80000001, 0x00000001], &[0; 257]), (6, WIPED));
-        assert_eq!(start(field, &[0x80000001, 0x00000001], &[0; 256]).0, 0);
+        assert_eq!(start(field, 1, &[], &[]), (1, WIPED));
+        assert_eq!(start(field, 1, &[0x80000003, 0x00000000], &[]), (2, WIPED));
+        assert_eq!(start(field, 1, &[0x00000001], &[]), (3, WIPED));
+        assert_eq!(start(field, 1, &[0x80000001], &[]).0, 0);
+        assert_eq!(start(field, 1, &[0xffffffff, 0x80000001, 0x00000001], &[]), (19, WIPED));
+        assert_eq!(start(field, 1, &[0x80000001, 0x00000001], &[0; 257]), (6, WIPED));
+        assert_eq!(start(field, 1, &[0x80000001, 0x00000001], &[0; 256]).0, 0);
     }
 }
 
@@ -213,7 +213,7 @@ fn patterns_that_end_by_absorbing() {
         written(&[0x80000001, 0x00000002, 0x80000003], &[]),
         [0x80, 0, 0, 1, 0, 0, 0, 2, 0x80, 0, 0, 3]
     );
-    assert_eq!(write_tag(&[0x80000003], b"AB", &mut [0; 5]), Err(12));
+    assert_eq!(write_tag(1, &[0x80000003], b"AB", &mut [0; 5]), Err(12));
 }
 
 /// The numbers that a last ABSORB leaves as they are. START "checks 1 to 6 in number order", with 19 "after 2 and before 3".
@@ -228,7 +228,7 @@ fn patterns_that_end_by_absorbing_and_are_turned_away() {
     assert_eq!(pattern_number(&[ABSORB + 1], &[0; 257]), 6);
     assert_eq!(pattern_number(&[ABSORB + 1, 1, ABSORB + 1], &[0; 257]), 6);
     assert_eq!(pattern_number(&[ABSORB + 1], &[0; 256]), 0);
-    assert_eq!(start(0, &[ABSORB + 1], &[]), (18, WIPED));
+    assert_eq!(start(0, 1, &[ABSORB + 1], &[]), (18, WIPED));
 }
 
 /// "A finished session's permutations follow the same per-phase formula": "absorb, 0 if d = 0, else ceil(d/8) − 1; squeeze, ceil(d/8)."
@@ -299,7 +299,7 @@ fn calls_after_a_last_absorb() {
 fn word_lists_that_are_read_and_sound() {
     let number = |words: &[u32]| {
         let string: Vec<u8> = words.iter().flat_map(|word| word.to_be_bytes()).collect();
-        let (number, read, count) = read_tag(&string, 0);
+        let (number, read, count) = read_tag(1, &string, 0);
         assert_eq!(&read[..count], if number == 0 { words } else { &[] });
         assert!(read[count..].iter().all(|word| *word == 0));
         if words.len() <= 64 {
@@ -329,7 +329,7 @@ fn word_lists_that_are_read_and_sound() {
     assert_eq!(number(&[ABSORB + LONGEST]), 0);
     assert_eq!(number(&[0x80000003]), 0);
     assert_eq!(number(&[0x00000001]), 13);
-    assert_eq!(read_separator(&[0x80, 0, 0, 3, 0x41, 0x42], 2), [0x41, 0x42]);
+    assert_eq!(read_separator(1, &[0x80, 0, 0, 3, 0x41, 0x42], 2), [0x41, 0x42]);
 }
 
 /// "Reading still takes any 31-bit length", and so does a sound record.
@@ -338,7 +338,7 @@ fn lengths_that_are_read_and_sound() {
     for (first, second) in [(LIMIT + 1, 1), (1, LIMIT + 1), (LONGEST, LONGEST)] {
         let words = [ABSORB + first, second];
         let string = words.map(u32::to_be_bytes).concat();
-        let (number, read, count) = read_tag(&string, 0);
+        let (number, read, count) = read_tag(1, &string, 0);
         assert_eq!((number, &read[..3], count), (0, &[words[0], words[1], 0][..], 2));
         let mut record = started(1, &[ABSORB + 1, 1], &[]);
         record.words[..2].copy_from_slice(&words);
@@ -396,9 +396,9 @@ fn what_is_read_is_written_again() {
     for words in lists {
         let mut string: Vec<u8> = words.iter().flat_map(|word| word.to_be_bytes()).collect();
         string.extend(b"AB");
-        let (number, read, count) = read_tag(&string, 2);
+        let (number, read, count) = read_tag(1, &string, 2);
         assert_eq!((number, &read[..count]), (0, words));
-        assert_eq!(written(&calls_of(&read[..count]), read_separator(&string, 2)), string);
+        assert_eq!(written(&calls_of(&read[..count]), read_separator(1, &string, 2)), string);
     }
     assert_eq!(cut(&[ABSORB + 63 * LIMIT + 1, 1]), (1, [0; 64], 0));
     assert_eq!(cut(&[ABSORB + LONGEST, 1]), (1, [0; 64], 0));
@@ -410,8 +410,8 @@ fn what_is_read_is_written_again() {
 fn fields_turned_away_as_in_the_request() {
     let fresh = started(1, &[ABSORB + 1, 1], &[]);
     for field in [0, 3, 1 << 31, u32::MAX] {
-        assert_eq!(start(field, &[ABSORB + 1, 1], &[]), (18, WIPED));
-        assert_eq!(start(field, &[], &[0; 257]), (18, WIPED));
+        assert_eq!(start(field, 1, &[ABSORB + 1, 1], &[]), (18, WIPED));
+        assert_eq!(start(field, 1, &[], &[0; 257]), (18, WIPED));
         for mut state in [[5; 24], [u32::MAX; 24]] {
             let before = state;
             assert_eq!((permute(field, &mut state), state), (18, before));
@@ -474,12 +474,12 @@ fn numbers_9_and_11_wipe_the_record() {
 fn tags_turned_away_as_in_the_table() {
     let mut out = [77; 9];
     assert_eq!(
-        write_tag(&[0x80000003, 0x80000003, 0x00000003], &[0x41, 0x42], &mut out),
+        write_tag(1, &[0x80000003, 0x80000003, 0x00000003], &[0x41, 0x42], &mut out),
         Err(12)
     );
     assert_eq!(out, [77; 9]);
-    assert_eq!(read_tag(&[0, 0, 0, 1], 0), (13, [0; 64], 0));
-    let (number, words, count) = read_tag(&[0x80, 0, 0, 3], 0);
+    assert_eq!(read_tag(1, &[0, 0, 0, 1], 0), (13, [0; 64], 0));
+    let (number, words, count) = read_tag(1, &[0x80, 0, 0, 3], 0);
     assert_eq!((number, &words[..2], count), (0, &[0x80000003, 0][..], 1));
 }
 
