@@ -17,7 +17,7 @@ use stored::{bytes_of, words_of, Line};
 
 const PROGRAM: &str = "tag_vectors";
 /// The lines that write, read and cut.
-const LINES: [(&str, usize); 3] = [("w ", 442), ("r ", 190), ("c ", 147)];
+const LINES: [(&str, usize); 3] = [("w ", 797), ("r ", 604), ("c ", 147)];
 
 /// A number, how many words there are, those, and the sum of the unused ones.
 fn shown((number, words, count): (u32, [u32; 64], usize)) -> String {
@@ -26,10 +26,18 @@ fn shown((number, words, count): (u32, [u32; 64], usize)) -> String {
     format!("{number} {count} {used} {others}")
 }
 
+/// A form number.
+fn form_of(digits: &str) -> u32 {
+    let words = words_of(digits);
+    assert_eq!(words.len(), 1);
+    words[0]
+}
+
 /// Of a buffer that holds a5 at every place.
-fn written(by: &dyn Interface, noise: &mut Random, words: &str, separator: &str, length: &str) -> String {
+fn written(by: &dyn Interface, noise: &mut Random, [form, words, separator, length]: [&str; 4]) -> String {
     let mut buffer = vec![0xa5; usize::from_str_radix(length, 16).unwrap()];
-    let (number, written) = by.write_tag(noise, &words_of(words), &bytes_of(separator), &mut buffer);
+    let (form, words, separator) = (form_of(form), words_of(words), bytes_of(separator));
+    let (number, written) = by.write_tag(noise, form, &words, &separator, &mut buffer);
     let bytes: String = buffer.iter().map(|byte| format!("{byte:02x}")).collect();
     format!("{number} {written} {bytes}")
 }
@@ -38,10 +46,13 @@ fn written(by: &dyn Interface, noise: &mut Random, words: &str, separator: &str,
 fn replay_line<'a>(by: &dyn Interface, noise: &mut Random, input: &str, output: &'a str) -> (String, &'a str) {
     let (first, second) = output[2..].split_once(", ").unwrap_or((&output[2..], ""));
     match input.split(' ').collect::<Vec<_>>()[..] {
-        ["w", words, separator, length] => (written(by, noise, words, separator, length), second),
-        ["r", string, length] => {
-            let length = usize::from_str_radix(length, 16).unwrap();
-            (shown(by.read_tag(noise, &bytes_of(string), length)), first)
+        ["w", form, words, separator, length] => (written(by, noise, [form, words, separator, length]), second),
+        ["r", form, string, given] => {
+            let given = usize::from_str_radix(given, 16).unwrap();
+            (
+                shown(by.read_tag(noise, form_of(form), &bytes_of(string), given)),
+                first,
+            )
         }
         ["c", words] => (shown(by.cut(noise, &words_of(words))), first),
         _ => panic!("no such kind of line"),
