@@ -539,7 +539,12 @@ fn form_2_tells_b2_apart() {
 /// state." "the record keeps it": nothing but the form and the state differs.
 #[test]
 fn sessions_begin_with_the_string_of_their_form() {
-    for (words, separator) in [(&[ABSORB + 3, 3][..], &b"AB"[..]), (&[ABSORB + 9], b""), (&alternating_ones(64), &[7; 256])] {
+    let openings: [(&[u32], &[u8]); 3] = [
+        (&[ABSORB + 3, 3], b"AB"),
+        (&[ABSORB + 9], b""),
+        (&alternating_ones(64), &[7; 256]),
+    ];
+    for (words, separator) in openings {
         for field in [1, 2] {
             for form in [1, 2] {
                 let record = started_in_form(form, field, words, separator);
@@ -571,8 +576,17 @@ const GIVEN: [usize; 7] = [0, 1, 2, 8, 256, 257, usize::MAX];
 /// "Reading form 2 goes by the string's last four bytes and ignores any length given."
 #[test]
 fn form_2_is_read_by_its_tail() {
-    let patterns = [vec![ABSORB + 1], vec![ABSORB + 6, 3], alternating_ones(63), alternating_ones(64)];
-    for (words, length) in patterns.iter().flat_map(|words| [0, 1, 2, 3, 4, 8, 255, 256].map(|length| (words, length))) {
+    let patterns = [
+        vec![ABSORB + 1],
+        vec![ABSORB + 6, 3],
+        alternating_ones(63),
+        alternating_ones(64),
+    ];
+    let lengths = [0, 1, 2, 3, 4, 8, 255, 256];
+    for (words, length) in patterns
+        .iter()
+        .flat_map(|words| lengths.map(|length| (words, length)))
+    {
         let separator: Vec<u8> = (0..length).map(|k| k as u8 ^ 0x80).collect();
         let string = written_in_form(2, words, &separator);
         for given in GIVEN {
@@ -620,7 +634,11 @@ fn form_2_strings_turned_away_as_in_the_request() {
     assert_eq!(number(&[0x80, 0, 0, 1, 5, 5, 0, 0, 0, 2]), 0);
     assert_eq!(number(&[0x80, 0, 0, 1, 5, 5, 2, 0, 0, 0]), 6);
     assert_eq!(number(&with_tail(&[0, 0, 0, 1], 0)), 13);
-    assert_eq!(number(&with_tail(&alternating_ones(65).iter().flat_map(|word| word.to_be_bytes()).collect::<Vec<u8>>(), 0)), 13);
+    for (count, expected) in [(64, 0), (65, 13)] {
+        let words = alternating_ones(count);
+        let bytes: Vec<u8> = words.iter().flat_map(|word| word.to_be_bytes()).collect();
+        assert_eq!(number(&with_tail(&bytes, 0)), expected);
+    }
     // An empty separator's string, read as form 1: two words of which the second has length 0, or one and a separator of four bytes.
     let string = written_in_form(2, &[ABSORB + 1], &[]);
     assert_eq!(read(1, &string, 0), (13, vec![], 8..8));
@@ -631,8 +649,21 @@ fn form_2_strings_turned_away_as_in_the_request() {
 /// "22: form number neither 1 nor 2, straight after 18 where both are checked, elsewhere first."
 #[test]
 fn forms_turned_away_as_in_the_request() {
+    let openings: [(&[u32], &[u8]); 4] = [
+        (&[ABSORB + 1, 1], b"AB"),
+        (&[], &[0; 257]),
+        (&[0; 65], b""),
+        (&[1, LIMIT + 1], b""),
+    ];
+    let strings: [&[u8]; 5] = [
+        &[],
+        &[0xff; 4],
+        &[0x80, 0, 0, 1],
+        &[0x80, 0, 0, 1, 0, 0, 0, 0],
+        &[0; 600],
+    ];
     for form in [0, 3, 257, 1 << 31, u32::MAX] {
-        for (words, separator) in [(&[ABSORB + 1, 1][..], &b"AB"[..]), (&[], &[0; 257]), (&[0; 65], b""), (&[1, LIMIT + 1], b"")] {
+        for (words, separator) in openings {
             for field in [1, 2] {
                 assert_eq!(start(field, form, words, separator), (22, WIPED));
             }
@@ -645,7 +676,7 @@ fn forms_turned_away_as_in_the_request() {
                 assert_eq!(out, vec![77; length]);
             }
         }
-        for string in [&[][..], &[0xff; 4], &[0x80, 0, 0, 1], &[0x80, 0, 0, 1, 0, 0, 0, 0], &[0; 600]] {
+        for string in strings {
             for given in GIVEN {
                 assert_eq!(read(form, string, given), (22, vec![], string.len()..string.len()));
             }
