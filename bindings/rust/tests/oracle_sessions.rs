@@ -102,14 +102,7 @@ fn replay_line(replay: &mut Replay, input: &str, output: &str) {
     let number = match fields[0] {
         "s" => {
             let [field, form] = numbers_of(fields[1]);
-            by.start(
-                noise,
-                record,
-                field,
-                form,
-                &words_of(fields[2]),
-                &bytes_of(fields[3]),
-            )
+            by.start(noise, record, field, form, &words_of(fields[2]), &bytes_of(fields[3]))
         }
         "a" => by.absorb(noise, record, &words_of(fields[1])),
         "q" => by.squeeze(noise, record, &mut buffer),

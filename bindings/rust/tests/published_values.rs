@@ -420,7 +420,10 @@ fn what_is_read_is_written_again() {
         string.extend(b"AB");
         let (number, read, count) = read_tag(1, &string, 2);
         assert_eq!((number, &read[..count]), (0, words));
-        assert_eq!(written(&calls_of(&read[..count]), read_separator(1, &string, 2)), string);
+        assert_eq!(
+            written(&calls_of(&read[..count]), read_separator(1, &string, 2)),
+            string
+        );
     }
     assert_eq!(cut(&[ABSORB + 63 * LIMIT + 1, 1]), (1, [0; 64], 0));
     assert_eq!(cut(&[ABSORB + LONGEST, 1]), (1, [0; 64], 0));
@@ -583,10 +586,7 @@ fn form_2_is_read_by_its_tail() {
         alternating_ones(64),
     ];
     let lengths = [0, 1, 2, 3, 4, 8, 255, 256];
-    for (words, length) in patterns
-        .iter()
-        .flat_map(|words| lengths.map(|length| (words, length)))
-    {
+    for (words, length) in patterns.iter().flat_map(|words| lengths.map(|length| (words, length))) {
         let separator: Vec<u8> = (0..length).map(|k| k as u8 ^ 0x80).collect();
         let string = written_in_form(2, words, &separator);
         for given in GIVEN {
@@ -690,7 +690,10 @@ fn records_keep_their_form() {
     for (field, form) in [(1, 1), (1, 2), (2, 1), (2, 2)] {
         let fresh = started_in_form(form, field, &[ABSORB + 9, 9], &[]);
         for other in [0, 3, 257, 1 << 31, u32::MAX] {
-            let unsound = Session { form: other, ..fresh.clone() };
+            let unsound = Session {
+                form: other,
+                ..fresh.clone()
+            };
             let mut record = unsound.clone();
             assert_eq!((absorb(&mut record, &[1]), absorb(&mut record, &[])), (8, 8));
             assert_eq!((squeeze(&mut record, &mut [0]), squeeze(&mut record, &mut [])), (8, 8));
@@ -699,12 +702,21 @@ fn records_keep_their_form() {
             assert_eq!((absorb(&mut record, &[1]), finish(&mut record)), (7, 7));
         }
         let mut record = fresh.clone();
-        let mut exchanged = Session { form: 3 - form, ..fresh };
+        let mut exchanged = Session {
+            form: 3 - form,
+            ..fresh
+        };
         for _ in 0..18 {
             step(&mut record);
             step(&mut exchanged);
             assert_eq!((record.form, exchanged.form), (form, 3 - form));
-            assert_eq!(exchanged, Session { form: 3 - form, ..record.clone() });
+            assert_eq!(
+                exchanged,
+                Session {
+                    form: 3 - form,
+                    ..record.clone()
+                }
+            );
         }
         assert_eq!((finish(&mut record), record), (0, WIPED));
         assert_eq!((finish(&mut exchanged), exchanged.form), (0, 0));
