@@ -20,15 +20,15 @@ use Rattle.session.specs.Calls.{start}
 use Rattle.runs.specs.Calls.{Call, ABSORB, SQUEEZE, FINISH, accepts, leftBy}
 use Rattle.runs.specs.Runs.{Run, absorbedOf, squeezedOf}
 use Rattle.seal.specs.Seal.{Context, context, Outcome, leaving, blockWords, sealWords, started, plus, blocksOf, soundLengths, areElements, hasMark, noteRows, sealRows, sealNote, openNote}
-use Rattle.seal.specs.Calls.{blockCalls, noteCalls}
-use Rattle.seal.specs.Conditions.{RightLengths}
+use Rattle.note_laws.specs.Calls.{blockCalls, noteCalls}
+use Rattle.note_laws.specs.Conditions.{RightLengths}
 use Rattle.seal.proofs.Lengths.{lengths-sound}
 use Rattle.seal.proofs.Pattern.{words-count, words-merged}
 use Rattle.seal.proofs.Rows.{passed}
 use Rattle.seal.proofs.Outcomes.{seal-number, seal-accepted, seal-refused, open-accepted, open-differs, open-refused}
-use Rattle.seal.proofs.Inverse.{sealed-opens, opened-seals, another-mark}
-use Rattle.seal.proofs.NoteRun.{note-run, note-accepted, note-absorbed, note-squeezed, note-added, accepted-at}
-use Rattle.seal.proofs.Refusals as refusals
+use Rattle.note_laws.proofs.Inverse.{sealed-opens, opened-seals, another-mark}
+use Rattle.note_laws.proofs.NoteRun.{note-run, note-accepted, note-absorbed, note-squeezed, note-added, accepted-at}
+use Rattle.note_laws.proofs.Refusals as refusals
 
 -- What the contracts lend is what the definitions go by: each part of a note's context, and both parts of an outcome.
 pub parts-of-a-context : (field : ℕ) (key nonce separator lengths : List ℕ)

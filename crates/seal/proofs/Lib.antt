@@ -11,7 +11,3 @@ pub mod Rows
 pub mod Accepted
 pub mod Outcomes
 pub mod Parts
-pub mod RoundTrip
-pub mod Inverse
-pub mod NoteRun
-pub mod Refusals

@@ -1,4 +1,2 @@
 pub mod Seal
 pub mod Steps
-pub mod Calls
-pub mod Conditions

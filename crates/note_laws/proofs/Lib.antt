@@ -1,0 +1,4 @@
+pub mod RoundTrip
+pub mod Inverse
+pub mod NoteRun
+pub mod Refusals
