@@ -10,10 +10,10 @@ pub fn check_layout() {
     #[cfg(before)]
     {
         extern "C" {
-            fn before_tuilarder_layout_2() -> u64;
+            fn before_tuilarder_layout_3() -> u64;
         }
         // SAFETY: it takes nothing.
-        assert_eq!(unsafe { before_tuilarder_layout_2() }, ffi::LAYOUT);
+        assert_eq!(unsafe { before_tuilarder_layout_3() }, ffi::LAYOUT);
     }
 }
 

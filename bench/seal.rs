@@ -16,7 +16,7 @@ const ABSORB: u32 = 1 << 31;
 const MARK: usize = 8;
 
 libraries! {
-    tuilarder_start(*mut Record, u32, *const u32, usize, *const u8, usize) -> u32;
+    tuilarder_start(*mut Record, u32, u32, *const u32, usize, *const u8, usize) -> u32;
     tuilarder_absorb(*mut Record, *const u32, usize) -> u32;
     tuilarder_squeeze(*mut Record, *mut u32, usize) -> u32;
     tuilarder_finish(*mut Record) -> u32;
@@ -53,7 +53,7 @@ impl Library {
         assert_eq!(unsafe { (self.tuilarder_squeeze)(record, out.as_mut_ptr(), out.len()) }, 0);
     }
 
-    // START, and key and nonce absorbed.
+    // START, in form 1, and key and nonce absorbed.
     fn started(&self, inputs: &SealInputs) -> Record {
         let (mut words, mut both) = ([0; 64], [0; 16]);
         let count = 2 * inputs.lengths.len() + 2;
@@ -67,7 +67,7 @@ impl Library {
         both[8..].copy_from_slice(inputs.nonce);
         let (mut record, separator) = (Record::WIPED, inputs.separator);
         let number = unsafe {
-            (self.tuilarder_start)(&mut record, inputs.field, words.as_ptr(), count, separator.as_ptr(), separator.len())
+            (self.tuilarder_start)(&mut record, inputs.field, 1, words.as_ptr(), count, separator.as_ptr(), separator.len())
         };
         assert_eq!(number, 0);
         self.absorb(&mut record, &both);

@@ -22,21 +22,25 @@ const ABSORB: u32 = 1 << 31;
 const BABY_BEAR: u32 = 1;
 const KOALA_BEAR: u32 = 2;
 
+// The number of the form of all tag strings here but for one, which is form 2's.
+const FORM_1: u32 = 1;
+const FORM_2: u32 = 2;
+
 libraries! {
-    tuilarder_start(*mut Record, u32, *const u32, usize, *const u8, usize) -> u32;
+    tuilarder_start(*mut Record, u32, u32, *const u32, usize, *const u8, usize) -> u32;
     tuilarder_absorb(*mut Record, *const u32, usize) -> u32;
     tuilarder_squeeze(*mut Record, *mut u32, usize) -> u32;
     tuilarder_finish(*mut Record) -> u32;
-    tuilarder_write_tag(*const u32, usize, *const u8, usize, *mut u8, usize, *mut usize) -> u32;
+    tuilarder_write_tag(u32, *const u32, usize, *const u8, usize, *mut u8, usize, *mut usize) -> u32;
 }
 
 // SAFETY of the library's functions: each gets a record and lists that are valid for their lengths, and apart.
 impl Library {
-    fn start(&self, field: u32, words: &[u32], separator: &[u8]) -> Record {
+    fn start(&self, field: u32, form: u32, words: &[u32], separator: &[u8]) -> Record {
         let mut record = Record::WIPED;
         let (separator, separator_length) = (separator.as_ptr(), separator.len());
         let number =
-            unsafe { (self.tuilarder_start)(&mut record, field, words.as_ptr(), words.len(), separator, separator_length) };
+            unsafe { (self.tuilarder_start)(&mut record, field, form, words.as_ptr(), words.len(), separator, separator_length) };
         assert_eq!(number, 0);
         record
     }
@@ -51,7 +55,7 @@ impl Library {
 
     // START, and the first phases of the pattern.
     fn reach(&self, field: u32, words: &[u32], phases: usize) -> Record {
-        let mut record = self.start(field, words, b"AB");
+        let mut record = self.start(field, FORM_1, words, b"AB");
         for word in &words[..phases] {
             let mut list = vec![7; (word % ABSORB) as usize];
             if *word >= ABSORB {
@@ -66,18 +70,18 @@ impl Library {
     // A whole session that absorbs the elements and squeezes eight.
     fn hash(&self, field: u32, elements: &[u32]) -> [u32; 8] {
         let mut out = [0; 8];
-        let mut record = self.start(field, &[ABSORB + elements.len() as u32, 8], b"hash");
+        let mut record = self.start(field, FORM_1, &[ABSORB + elements.len() as u32, 8], b"hash");
         self.absorb(&mut record, elements);
         self.squeeze(&mut record, &mut out);
         assert_eq!(unsafe { (self.tuilarder_finish)(&mut record) }, 0);
         out
     }
 
-    fn write_tag(&self, words: &[u32], separator: &[u8], out: &mut [u8]) -> usize {
+    fn write_tag(&self, form: u32, words: &[u32], separator: &[u8], out: &mut [u8]) -> usize {
         let mut written = 0;
         let (separator, separator_length) = (separator.as_ptr(), separator.len());
         let number = unsafe {
-            (self.tuilarder_write_tag)(words.as_ptr(), words.len(), separator, separator_length, out.as_mut_ptr(), out.len(), &mut written)
+            (self.tuilarder_write_tag)(form, words.as_ptr(), words.len(), separator, separator_length, out.as_mut_ptr(), out.len(), &mut written)
         };
         assert_eq!(number, 0);
         written
@@ -88,8 +92,8 @@ fn session_of(record: &Record) -> Session {
     same_fields!(Session, record)
 }
 
-fn independent_start(field: u32, words: &[u32], separator: &[u8]) -> Session {
-    let (number, record) = independent::start(field, words, separator);
+fn independent_start(field: u32, form: u32, words: &[u32], separator: &[u8]) -> Session {
+    let (number, record) = independent::start(field, form, words, separator);
     assert_eq!(number, 0);
     record
 }
@@ -100,35 +104,35 @@ fn independent_absorb(record: &mut Session, elements: &[u32]) {
 
 fn independent_hash(field: u32, elements: &[u32]) -> [u32; 8] {
     let mut out = [0; 8];
-    let mut record = independent_start(field, &[ABSORB + elements.len() as u32, 8], b"hash");
+    let mut record = independent_start(field, FORM_1, &[ABSORB + elements.len() as u32, 8], b"hash");
     independent_absorb(&mut record, elements);
     assert_eq!(independent::squeeze(&mut record, &mut out), 0);
     assert_eq!(independent::finish(&mut record), 0);
     out
 }
 
-fn start(job: &str, words: &[u32], separator: &[u8]) {
-    let expected = independent_start(BABY_BEAR, words, separator);
-    let independent = || { black_box(independent_start(BABY_BEAR, black_box(words), separator)); };
+fn start(job: &str, form: u32, words: &[u32], separator: &[u8]) {
+    let expected = independent_start(BABY_BEAR, form, words, separator);
+    let independent = || { black_box(independent_start(BABY_BEAR, form, black_box(words), separator)); };
     let mut ways = vec![Way::new("independent Rust", independent)];
     for library in Library::all() {
-        assert_eq!(session_of(&library.start(BABY_BEAR, words, separator)), expected);
-        ways.push(Way::new(library.name, || { black_box(library.start(BABY_BEAR, black_box(words), separator)); }));
+        assert_eq!(session_of(&library.start(BABY_BEAR, form, words, separator)), expected);
+        ways.push(Way::new(library.name, || { black_box(library.start(BABY_BEAR, form, black_box(words), separator)); }));
     }
     compare(&format!("START, {job}"), 1000, ways);
 }
 
 // All ways write to one buffer, so that none has it at a better place.
-fn write_tag(job: &str, words: &[u32], separator: &[u8]) {
-    let mut expected = [0; 512];
-    let length = independent::write_tag(words, separator, &mut expected).unwrap();
-    let buffer = RefCell::new([0; 512]);
-    let independent = || { black_box(independent::write_tag(black_box(words), separator, &mut *buffer.borrow_mut()).unwrap()); };
+fn write_tag(job: &str, form: u32, words: &[u32], separator: &[u8]) {
+    let mut expected = [0; 516];
+    let length = independent::write_tag(form, words, separator, &mut expected).unwrap();
+    let buffer = RefCell::new([0; 516]);
+    let independent = || { black_box(independent::write_tag(form, black_box(words), separator, &mut *buffer.borrow_mut()).unwrap()); };
     let mut ways = vec![Way::new("independent Rust", independent)];
     for library in Library::all() {
-        let mut out = [0; 512];
-        assert_eq!((library.write_tag(words, separator, &mut out), out), (length, expected));
-        let by_library = || { black_box(library.write_tag(black_box(words), separator, &mut *buffer.borrow_mut())); };
+        let mut out = [0; 516];
+        assert_eq!((library.write_tag(form, words, separator, &mut out), out), (length, expected));
+        let by_library = || { black_box(library.write_tag(form, black_box(words), separator, &mut *buffer.borrow_mut())); };
         ways.push(Way::new(library.name, by_library));
     }
     compare(&format!("tag string, {job}"), 10_000, ways);
@@ -191,7 +195,7 @@ fn neighbours(count: usize) -> Vec<u32> {
     words
 }
 
-// A separator has 2 bytes unless its length is named, and the field is BabyBear unless another is.
+// A separator has 2 bytes unless its length is named, the field is BabyBear and the form is 1 unless another is.
 fn main() {
     let longest = alternating(64);
     for (job, words) in [
@@ -200,10 +204,11 @@ fn main() {
         ("64 words", alternating(64)),
         ("64 words that merge to 2", neighbours(64)),
     ] {
-        start(job, &words, b"AB");
-        write_tag(job, &words, b"AB");
+        start(job, FORM_1, &words, b"AB");
+        write_tag(job, FORM_1, &words, b"AB");
     }
-    start("64 words, separator of 256 bytes", &longest, &[7; 256]);
+    start("64 words, separator of 256 bytes", FORM_1, &longest, &[7; 256]);
+    start("the same, form 2", FORM_2, &longest, &[7; 256]);
     absorb_one("ABSORB of 1 element, 2 words", BABY_BEAR, &[ABSORB + 8, 8], 0);
     absorb_one("ABSORB of 1 element, 2 words, KoalaBear", KOALA_BEAR, &[ABSORB + 8, 8], 0);
     absorb_one("ABSORB of 1 element, in phase 62 of 64", BABY_BEAR, &longest, 62);

@@ -181,7 +181,7 @@ def orders(path):
 
 def checked():
     """Whether the comments of the exported functions say that they check the numbers which they give, each in the order that documents 01 and 02 have:
-    18, then the others as they rise, with 19 after 2 and before 3, and 20 after 6 and before 10."""
+    18, then 22, then the others as they rise, with 19 after 2 and before 3, and 20 after 6 and before 10."""
     wanted = {name: {row.number for row in table() if row.number and call in row.calls} for call, name in exports().items() if name}
     for path in (HEADER, DECLARED):
         said = orders(path)
@@ -190,7 +190,7 @@ def checked():
             if set(said[function]) != wanted[function]:
                 yield f"{path}: {function} is said to check {sorted(said[function])}, and gives {sorted(wanted[function])}"
         for function, order in said.items():
-            if order != sorted(order, key=lambda number: {18: 0, 19: 2.5, 20: 6.5}.get(number, number)):
+            if order != sorted(order, key=lambda number: {18: 0, 22: 0.5, 19: 2.5, 20: 6.5}.get(number, number)):
                 yield f"{path}: {function} is said to check {order}, in this order"
 
 
@@ -226,13 +226,13 @@ MISTAKES = [
     (NUMBERS, "| 7 | record not open", "| 17 | record not open", "one after the other"),
     (NUMBERS, "| record not open |", "| record not sound |", "the name record not sound"),
     (NUMBERS, "| 14 | not card |", "| 14 | not card line |", "NOT_CARD"),
-    (NUMBERS, "| 21 | mark", "| 21 | another one | of something | | | an example | write |\n| 22 | mark", "TUILARDER_ANOTHER_ONE"),
-    (NUMBERS, "80000001 00000001 | |", "80000001 00000001 | START, write, cards |", "START gives [0, 1, 2, 3, 6, 18, 19]"),
+    (NUMBERS, "| 22 | form", "| 22 | another one | of something | | | an example | write |\n| 23 | form", "TUILARDER_ANOTHER_ONE"),
+    (NUMBERS, "80000001 00000001 | |", "80000001 00000001 | START, write, cards |", "START gives [0, 1, 2, 3, 6, 18, 19, 22]"),
     (NUMBERS, "| | | | owner |", "| | | | check owners, owner |", "check owners gives [0, 15, 16]"),
     (NUMBERS, "| | | | check owners, owner |", "| | | | check owners |", "owner gives [0, 15, 16, 17]"),
     (NUMBERS, "ABSORB, permute, ", "ABSORB, ", "permute gives [0, 10, 18]"),
     (NUMBERS, "START, permute, generate, seal", "START, permute, seal", "generate gives [0, 18]"),
-    (NUMBERS, "START, permute, generate, seal", "permute, generate, seal", "START gives [0, 1, 2, 3, 6, 18, 19]"),
+    (NUMBERS, "START, permute, generate, seal", "permute, generate, seal", "START gives [0, 1, 2, 3, 6, 18, 19, 22]"),
     (NUMBERS, "| the mark differs | | | | open |", "| the mark differs | | | | seal, open |", "seal gives [0, 6, 10, 18, 20]"),
     (NUMBERS, "| the mark differs | | | | open |", "| the mark differs | | | | |", "open gives [0, 6, 10, 18, 20, 21]"),
     (NUMBERS, "| not a card line | | | (card) | cards |", "| not a card line | | | (card) | |", "NotCard"),
@@ -253,15 +253,18 @@ MISTAKES = [
     (HEADER, "TUILARDER_FIELD_UNKNOWN = 18", "TUILARDER_FIELD_UNKNOWN = 17", "17 TUILARDER_FIELD_UNKNOWN"),
     (HEADER, "Checks 18, then 10.", "Checks 10.", "tuilarder_permute is said to check [10]"),
     (DECLARED, "Checks 18, then 10.", "Checks 10, then 18.", "tuilarder_permute is said to check [10, 18], in this order"),
-    (DECLARED, "Checks 6 (of the length given), then 13.", "Checks 13.", "tuilarder_read_tag is said to check [13]"),
+    (DECLARED, "Checks 22, 6, then 13.", "Checks 22, then 13.", "tuilarder_read_tag is said to check [13, 22]"),
+    (HEADER, "Checks 22, 6, then 13.", "Checks 6, 13, then 22.", "tuilarder_read_tag is said to check [6, 13, 22], in this order"),
+    (NUMBERS, "| | | | START, write, read |", "| | | | START, write |", "read gives [0, 6, 13, 22]"),
     (HEADER, "Checks 18, 6, 20 and 10 (", "Checks 18, 6, 10 and 20 (", "tuilarder_seal is said to check [18, 6, 10, 20], in this order"),
     (HEADER, "(of key, nonce and cipher, the mark too)\n * and 21,", "(of key, nonce and cipher, the mark too),",
      "tuilarder_open is said to check [6, 10, 18, 20]"),
     (DECLARED, "Checks 18, 6, 20 and 10 (", "Checks 6, 18, 20 and 10 (", "tuilarder_seal is said to check [6, 18, 20, 10], in this order"),
-    (RUST, "21 MarkDiffers", "22 MarkDiffers", "22 MarkDiffers"),
+    (RUST, "21 MarkDiffers", "23 MarkDiffers", "23 MarkDiffers"),
     (HEADER, "Checks 15, then 16.", "Checks 16, then 15.", "tuilarder_check_owners is said to check [16, 15], in this order"),
-    (HEADER, "Checks 18, 1, 2, 19, 3 and 6,", "Checks 1, 2, 19, 3, 6 and 18,", "[1, 2, 19, 3, 6, 18], in this order"),
-    (DECLARED, "Checks 18, 1, 2, 19, 3 and 6,", "Checks 18, 1, 2, 3, 6 and 19,", "[18, 1, 2, 3, 6, 19], in this order"),
+    (HEADER, "Checks 18, 22, 1, 2, 19, 3 and 6,", "Checks 22, 1, 2, 19, 3, 6 and 18,", "[22, 1, 2, 19, 3, 6, 18], in this order"),
+    (HEADER, "Checks 18, 22, 1, 2, 19, 3 and 6,", "Checks 22, 18, 1, 2, 19, 3 and 6,", "[22, 18, 1, 2, 19, 3, 6], in this order"),
+    (DECLARED, "Checks 18, 22, 1, 2, 19, 3 and 6,", "Checks 18, 22, 1, 2, 3, 6 and 19,", "[18, 22, 1, 2, 3, 6, 19], in this order"),
     ("bindings/rust/src/protocol.rs", "[`Refusal::SeparatorTooLong`] (6)", "[`Refusal::SeparatorTooLong`] (5)", "SeparatorTooLong (5)"),
     (CLAIMS, '"00000001, length 0"', '"00000001"', '13: "no tag string of that separator length", "00000001"'),
     (CLAIMS, '| 14: "not a card line", "(card)" |', '| "not a card line" |', '14: "not a card line", "(card)"'),

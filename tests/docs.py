@@ -122,16 +122,16 @@ def declared_as(words):
     return ", ".join(f"{'Absorb' if word >= ABSORB else 'Squeeze'}({word % ABSORB})" for word in words)
 
 
-def opened(out, calls, separator, field=1):
-    out.append(f"tag string {oracle.tag_string(words(calls), separator).hex()}")
-    number, record = oracle.start(words(calls), separator, field)
+def opened(out, calls, separator, field=1, form=1):
+    out.append(f"tag string {oracle.tag_string(words(calls), separator, form).hex()}")
+    number, record = oracle.start(words(calls), separator, field, form)
     refuse(number)
     return Session(record)
 
 
-def whole(out, calls, separator, *messages):
+def whole(out, calls, separator, *messages, form=1):
     """All that a session squeezes that takes a message for each ABSORB."""
-    session, messages, squeezed = opened(out, calls, separator), list(messages), []
+    session, messages, squeezed = opened(out, calls, separator, form=form), list(messages), []
     for call in calls.split():
         if call[0] == "a":
             session.absorb(messages.pop(0))
@@ -179,6 +179,10 @@ def tag_string(out):
     refuse(number)
     out += [f"tag string {bytes_of(string)}", f"read with length 2: Pattern [{declared_as(merged[:count])}], separator {bytes_of(separator)}",
             f"read with length 3: {Refused(oracle.read_tag(string, 3)[0])}"]
+    string = oracle.tag_string(words("a3 a3 s3"), b"AB", 2)
+    number, merged, count, separator = oracle.read_tag(string, 0, 2)
+    refuse(number)
+    out += [f"tag string of form 2 {bytes_of(string)}", f"read: Pattern [{declared_as(merged[:count])}], separator {bytes_of(separator)}"]
 
 
 def long_phases(out):
@@ -304,11 +308,13 @@ def shared_separator(out):
 
 
 def unequal_separators(out):
-    short, long = opened(out, "a1 s1", bytes.fromhex("8000000200000002")), opened(out, "a1 s1 a2 s2", b"")
-    short.absorb([5])
-    long.absorb([5])
-    out.append(f"{short.squeeze(1)} {long.squeeze(1)}")
-    short.finish()
+    for form in (1, 2):
+        challenges = []
+        for calls, separator in (("a1 s1", bytes.fromhex("8000000200000002")), ("a1 s1 a2 s2", b"")):
+            taken = opened(out, calls, separator, form=form)
+            taken.absorb([5])
+            challenges += taken.squeeze(1)
+        out.append(f"form {form}: challenges {challenges[0]} and {challenges[1]}")
 
 
 def cut_differently(out):
@@ -371,8 +377,8 @@ def owners(out):
 
 
 def two_rounds(out):
-    out.append(f"tag string {bytes_of(oracle.tag_string(words('a4 s1 a2 s1'), b'two rounds'))}")
-    first, second = whole([], "a4 s1 a2 s1", b"two rounds", [11, 22, 33, 44], [55, 66])
+    out.append(f"tag string {bytes_of(oracle.tag_string(words('a4 s1 a2 s1'), b'two rounds', 2))}")
+    first, second = whole([], "a4 s1 a2 s1", b"two rounds", [11, 22, 33, 44], [55, 66], form=2)
     out.append(f"challenges {first} and {second}")
 
 
@@ -396,11 +402,13 @@ def states(out):
 # ---- the figures of the fields and of calls
 
 def of_both(text):
-    """A text with each field's prime p, power, partial rounds and number of constants c; and with the most words and the longest call."""
+    """A text with each field's prime p, power, partial rounds and number of constants c; and with the most words, the longest call and separator, and each
+    form's longest tag string."""
     ordinals = {3: "third", 7: "seventh"}
     figures = {f"{name}{field}": figure for field in (1, 2) for name, figure in (
         ("p", oracle.PRIME[field]), ("power", ordinals[oracle.POWER[field]]), ("partial", oracle.PARTIAL[field]), ("c", oracle.generate(field)[2]))}
-    return text.format(full=oracle.FULL // 2, largest=oracle.PRIME[1] - 1, words=oracle.MAX_WORDS, call=f"{oracle.MAX_CALL:,}", **figures)
+    longest = {f"longest{form}": len(oracle.tag_string([ABSORB + 1, 1] * (oracle.MAX_WORDS // 2), bytes(oracle.MAX_SEPARATOR), form)) for form in (1, 2)}
+    return text.format(separator=oracle.MAX_SEPARATOR, **longest, full=oracle.FULL // 2, largest=oracle.PRIME[1] - 1, words=oracle.MAX_WORDS, call=f"{oracle.MAX_CALL:,}", **figures)
 
 
 # of each source what it says of them
@@ -409,8 +417,9 @@ FIGURES = {
                       "| power in a round | {power1} | {power2} |", "| round constants | {c1} | {c2} |", "from 0 to {largest} for BabyBear",
                       "| rounds of a permutation: full, partial, full | {full}, {partial1}, {full} | {full}, {partial2}, {full} |",
                       "at most {words} calls, of at most {call} elements each", "One declared call has at most {call} elements.",
-                      "calls of {call} elements and any rest", "A note has 1 to 31 blocks, of 1 to {call} elements each."),
-    "bindings/c/tuilarder.h": ("KoalaBear's. BabyBear has {c1}.", "{c1} of BabyBear, {c2} of KoalaBear"),
+                      "calls of {call} elements and any rest", "A note has 1 to 31 blocks, of 1 to {call} elements each.",
+                      "| the longest has | {longest1} bytes | {longest2} bytes |", "of any lengths, up to {separator} bytes"),
+    "bindings/c/tuilarder.h": ("KoalaBear's. BabyBear has {c1}.", "{c1} of BabyBear, {c2} of KoalaBear", "TUILARDER_MAX_TAG_STRING {longest2}"),
     "bindings/rust/src/lib.rs": ("BabyBear (p = {p1}) or KoalaBear (p = {p2})", "{c1} of BabyBear, {c2} of KoalaBear"),
     "bindings/rust/src/field.rs": ("Number 1, with p = {p1}. BabyBear = 1,", "Number 2, with p = {p2}. KoalaBear = 2,"),
 }

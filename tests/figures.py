@@ -106,7 +106,7 @@ MISTAKES = [
     (CLAIMS, "01: \"rate 8\"", "01: \"a rate of 8\"", "session::Session::RATE: not of a sentence"),
     (CLAIMS, "01: \"rate 8\"", "rate 8", "session::Session::RATE: neither quoted nor made of others"),
     (CLAIMS, "| 64 | 01: \"", "| 65 | 01: \"", "pattern::MAX_WORDS: 64 in the code, 65"),
-    (CLAIMS, "made of 4 × ", "made of 5 × ", "tag::MAX_STRING: 512 is not 5 × "),
+    (CLAIMS, "made of 4 × ", "made of 5 × ", "tag::MAX_STRING: 516 is not 5 × "),
     (CLAIMS, " | `pattern/Opening.maxCall` |", " | |", "pattern::MAX_CALL: the definition is pattern/Opening.maxCall"),
     (CLAIMS, "| `pattern::MAX_CALL` | 16777216 |", "| `pattern::MAX_CALL` | p |", "does not read this: | `pattern::MAX_CALL` | p |"),
 ]

@@ -2,6 +2,6 @@
 from oracle import oracle
 
 # how many of document 02's requests the library has; 0 is document 01 alone
-LANDED = 7
+LANDED = 8
 
 oracle.LANDED = LANDED

@@ -5,13 +5,13 @@
   tests/sessions.py answers < crates/session_vectors/stdin > crates/session_vectors/stdout
 
 The answers are those of the second implementation, in Python, written from the papers by other hands (tests/oracle).
-A line of input is a call on the record that the line before left; lists and the field number, one word, are hexadecimal:
+A line of input is a call on the record that the line before left; lists are hexadecimal:
 
-  s FIELD WORDS SEPARATOR    START
-  a ELEMENTS                 ABSORB
-  q BUFFER                   SQUEEZE into a buffer with these contents
-  f                          FINISH
-  t RECORD                   the record is replaced by this one, and nothing is called
+  s NUMBERS WORDS SEPARATOR    START, with the field number and the form number
+  a ELEMENTS                   ABSORB
+  q BUFFER                     SQUEEZE into a buffer with these contents
+  f                            FINISH
+  t RECORD                     the record is replaced by this one, and nothing is called
 
 A line of output is what the call answers:
 
@@ -21,9 +21,9 @@ A line of output is what the call answers:
   f NUMBER RECORD
   t RECORD
 
-A record is three lists: its numbers, the 24 state elements and the 64 pattern words. The numbers are status, field number, word
-count, phase number, elements done, absorb and squeeze position, and permutations (two words, the high one first). Zeros at the end of
-each of the three are left out. In the output, `=` stands for a list that is in every word as the line before left it.
+A record is three lists: its numbers, the 24 state elements and the 64 pattern words. The numbers are status, field number, form
+number, word count, phase number, elements done, absorb and squeeze position, and permutations (two words, the high one first). Zeros at the
+end of each of the three are left out. In the output, `=` stands for a list that is in every word as the line before left it.
 """
 import sys
 from random import Random
@@ -35,8 +35,8 @@ ABSORB = 1 << 31
 LONGEST = ABSORB - 1
 LIMIT = oracle.MAX_CALL
 LARGEST = (1 << 32) - 1
-NUMBERS = ("status", "field", "count", "phase", "done", "absorb_at", "squeeze_at")
-# numbers of no field; the low byte or all bits but the highest are a field's in the last two
+NUMBERS = ("status", "field", "form", "count", "phase", "done", "absorb_at", "squeeze_at")
+# numbers of no field and no form; the low byte or all bits but the highest are those of one in the last two
 UNKNOWN = (0, 3, ABSORB, LARGEST, 257, ABSORB + 2)
 # merged: ABSORB 12, SQUEEZE 10, ABSORB 8, SQUEEZE 3
 PATTERN = [ABSORB + 9, ABSORB + 3, 10, ABSORB + 8, 1, 2]
@@ -60,8 +60,8 @@ def parts(record):
 
 
 def record_of(lists):
-    first, state, words = ((numbers(digits) + [0] * 64)[:size] for digits, size in zip(lists, (9, 24, 64)))
-    return dict(zip(NUMBERS, first), permutations=(first[7] << 32) + first[8], state=state, words=words)
+    first, state, words = ((numbers(digits) + [0] * 64)[:size] for digits, size in zip(lists, (10, 24, 64)))
+    return dict(zip(NUMBERS, first), permutations=(first[8] << 32) + first[9], state=state, words=words)
 
 
 def answer(record, kind, *lists):
@@ -76,18 +76,22 @@ def answer(record, kind, *lists):
 
 
 class Calls:
-    """Prints calls, and keeps the record that they leave, which later ones are made from. `field` is what sessions are opened in."""
+    """Prints calls, and keeps the record that they leave, which later ones are made from. `field` is what sessions are opened in; their forms
+    alternate."""
 
     def __init__(self):
         self.record = oracle.wiped()
         self.field = 1
+        self.form = 2
 
     def call(self, kind, *lists):
         print(kind, *lists)
         self.record = answer(self.record, kind, *lists)[1]
 
-    def start(self, words, separator=b"", field=None):
-        self.call("s", hexadecimal([self.field if field is None else field]), hexadecimal(words), separator.hex())
+    def start(self, words, separator=b"", field=None, form=None):
+        if form is None:
+            self.form = form = 3 - self.form
+        self.call("s", hexadecimal([self.field if field is None else field, form]), hexadecimal(words), separator.hex())
 
     def turn(self):
         """The next session is of the other field."""
@@ -205,10 +209,10 @@ def random_calls(source, words, p):
 
 
 def tampered(source, record):
-    """The record with one bit of it changed, or another field number."""
+    """The record with one bit of it changed, or another field or form number."""
     key = source.choice(["state", "words", "permutations", *NUMBERS])
-    if key == "field":
-        return dict(record, field=source.choice([0, 1, 2, 3]))
+    if key in ("field", "form"):
+        return dict(record, **{key: source.choice([0, 1, 2, 3])})
     if not isinstance(record[key], list):
         return dict(record, **{key: record[key] ^ 1 << source.randrange(8)})
     list_ = list(record[key])
@@ -290,6 +294,26 @@ def unknown_fields(calls):
             calls.start([ABSORB + 1, 1])
             calls.start(*faulty(faults), number)
             calls.absorb([1])
+
+
+def unknown_forms(calls):
+    """START with numbers of no form, likewise, and with a number of no field before it; and the longest string of each form."""
+    for number in UNKNOWN:
+        for faults in (set(), *({fault} for fault in FAULTS), set(FAULTS)):
+            calls.turn()
+            calls.start([ABSORB + 1, 1])
+            calls.start(*faulty(faults), form=number)
+            calls.absorb([1])
+            calls.start(*faulty(faults), 3, number)
+            calls.absorb([1])
+    for form in (1, 2):
+        for words in ([ABSORB + 1, 1], [ABSORB + 1, 1] * 32):
+            for length in (0, 1, 255, 256, 257):
+                calls.start(words, separator(length), form=form)
+    # B2's two openings
+    for form in (1, 2):
+        calls.start([ABSORB + 1, 1], bytes.fromhex("8000000200000002"), form=form)
+        calls.start([ABSORB + 1, 1, ABSORB + 2, 2], form=form)
 
 
 def large_elements(calls):
@@ -410,8 +434,11 @@ def changes(record):
 
 
 def field_changes(record):
-    """Other field numbers, and numbers about each p in the state, with the record's field and the other's."""
+    """Other field and form numbers, and numbers about each p in the state, with the record's field and the other's."""
     yield from (dict(field=number) for number in UNKNOWN)
+    yield from (dict(form=number) for number in (*UNKNOWN, 3 - record["form"]))
+    yield dict(status=0, form=3)
+    yield dict(field=3, form=3)
     yield dict(status=0, field=3)
     yield dict(status=2, field=0)
     state = [min(x, P1 - 1) for x in record["state"]]
@@ -480,7 +507,7 @@ def empty_calls(calls):
         calls.turn()
         calls.reach(PATTERN, phase, done)
         good = calls.record
-        for changed in (dict(), dict(status=2), dict(absorb_at=9), dict(field=0)):
+        for changed in (dict(), dict(status=2), dict(absorb_at=9), dict(field=0), dict(form=0)):
             if changed:
                 calls.put(dict(good, **changed))
             calls.absorb([])
@@ -509,7 +536,7 @@ def out_of_pattern(calls):
         large = calls.prime()
         calls.absorb([large] * 7)
         calls.absorb([large])
-        for changed in (dict(permutations=9), dict(field=0), dict(field=3), dict(field=ABSORB)):
+        for changed in (dict(permutations=9), dict(field=0), dict(field=3), dict(field=ABSORB), dict(form=3)):
             calls.put(dict(good, **changed))
             calls.absorb([large])
             calls.absorb([large] * 7)
@@ -551,7 +578,7 @@ def cases():
         for calls.field in (1, 2):
             part(calls)
     # these open sessions of both fields themselves
-    for part in (random_sessions, refused_starts, unknown_fields, changed_records, absorbing_ends, long_phases, empty_calls, out_of_pattern):
+    for part in (random_sessions, refused_starts, unknown_fields, unknown_forms, changed_records, absorbing_ends, long_phases, empty_calls, out_of_pattern):
         part(calls)
 
 

@@ -5,21 +5,21 @@
   tests/tags.py answers < crates/tag_vectors/stdin > crates/tag_vectors/stdout
 
 The answers are those of the second implementation, in Python, written from the papers by other hands (tests/oracle).
-A line of input is a call; lists are hexadecimal:
+A line of input is a call; lists and the form number, one word, are hexadecimal:
 
-  w WORDS SEPARATOR LENGTH    check, and write to a buffer of that length (four digits)
-  r STRING LENGTH             read, with a separator of that length (sixteen digits)
-  c WORDS                     cut
-  e DIGEST                    the tag's elements
+  w FORM WORDS SEPARATOR LENGTH    check, and write to a buffer of that length (four digits)
+  r FORM STRING LENGTH             read, with that length of the separator given (sixteen digits)
+  c WORDS                          cut
+  e DIGEST                         the tag's elements
 
 A line of output is what the call answers:
 
   w NUMBER COUNT WORDS OTHERS, NUMBER WRITTEN BUFFER
-  r NUMBER COUNT WORDS OTHERS, SEPARATOR
+  r NUMBER COUNT WORDS OTHERS, START LENGTH SEPARATOR
   c NUMBER COUNT WORDS OTHERS
   e ELEMENTS
 
-OTHERS is the sum of the unused ones of the 64 words. The buffer holds the byte a5 at every place before the call.
+OTHERS is the sum of the unused ones of the 64 words. START is the separator's first place in the string. The buffer holds the byte a5 at every place before the call.
 """
 import random
 import sys
@@ -29,6 +29,8 @@ from second_implementation import oracle
 ABSORB = 1 << 31
 LONGEST = ABSORB - 1
 LIMIT = oracle.MAX_CALL
+# numbers of no form; the low byte or all bits but the highest are a form's in the last two
+UNKNOWN = (0, 3, ABSORB, 0xffffffff, 257, ABSORB + 2)
 random = random.Random(31)
 
 
@@ -121,10 +123,12 @@ def write_cases():
             yield (first + [2, ABSORB + 1] * 33)[:count], separator(257), 4
 
 
+def string(words, bytes_behind):
+    return b"".join(w.to_bytes(4, "big") for w in words) + bytes_behind
+
+
 def read_cases():
-    """A string, and the separator's length."""
-    def string(words, bytes_behind):
-        return b"".join(w.to_bytes(4, "big") for w in words) + bytes_behind
+    """A string of form 1, and the separator's length."""
     # document 01's example of 13, that of document 02 in its place, samples
     yield string([ABSORB + 3], b""), 0
     yield string([1], b""), 0
@@ -156,6 +160,38 @@ def read_cases():
         length = random.randrange(12)
         words = [w ^ random.choice([0, 0, 0, 0, 0, ABSORB, 1]) for w in pattern(random.randint(1, 4))]
         yield string(words, separator(length)), length + random.choice([0, 0, 0, 4, 8, 1])
+
+
+def form_cases():
+    """A form number, a string and a length given: those of form 2 that its tail decides, and of numbers of no form."""
+    def tail(n):
+        return n.to_bytes(4, "big")
+    whole = string([ABSORB + 6, 3], b"protocol") + tail(8)
+    for given in (0, 7, 8, 9, 256, 257, (1 << 32) + 8, (1 << 64) - 1):
+        yield 2, whole, given
+    for end in range(len(whole)):
+        yield 2, whole[:end], 8
+    # strings of 0 to 8 bytes, as zeros, as the largest tail and as a word before an empty separator
+    for length in range(9):
+        for text in (bytes(8), b"\xff" * 8, string([ABSORB + 1], tail(0))):
+            yield 2, text[8 - length:], 0
+            yield 2, text[:length], 0
+            yield 1, text[8 - length:], 0
+    # tails that name as many bytes as precede them, one fewer and one more; and large ones, whose low bytes would do
+    for words, length in (([ABSORB + 9, 1], 4), ([ABSORB + 9, 1] * 32, 256), ([], 255), ([], 256), ([], 257), ([ABSORB + 1], 0)):
+        behind = separator(length)
+        before = 4 * len(words) + length
+        for n in (length, before, max(0, before - 1), before + 1, 256, 257, 1 << 8, 1 << 16, 1 << 24, (1 << 24) + length, (1 << 31) + length, (1 << 32) - 1):
+            yield 2, string(words, behind) + tail(n), length
+    # the tail with its lowest byte first, before the separator, and left out
+    for length in (0, 1, 2, 4, 8):
+        behind = separator(length)
+        yield 2, string([ABSORB + 5, 7], behind) + tail(length)[::-1], length
+        yield 2, string([ABSORB + 5, 7], tail(length) + behind), length
+        yield 2, string([ABSORB + 5, 7], behind), length
+    for form in UNKNOWN:
+        for text, given in ((whole, 8), (whole[:-4], 8), (b"", 0), (b"", 257), (whole, 257)):
+            yield form, text, given
 
 
 def cut_cases():
@@ -190,12 +226,26 @@ def hexadecimal(words):
     return "".join("%08x" % w for w in words)
 
 
+def numbers(digits):
+    return [int(digits[k:k + 8], 16) for k in range(0, len(digits), 8)]
+
+
 def cases():
-    for words, behind, room in write_cases():
-        length = max(0, 4 * merged(words) + len(behind) + room)
-        print("w", hexadecimal(words), behind.hex(), "%04x" % length)
-    for string, length in read_cases():
-        print("r", string.hex(), "%016x" % length)
+    for k, (words, behind, room) in enumerate(write_cases()):
+        # the long ones of one form each, for the program's room
+        for form in (1, 2) if len(words) < 40 and len(behind) < 200 else (1 + k % 2,):
+            length = max(0, 4 * merged(words) + len(behind) + 4 * (form == 2) + room)
+            print("w", "%08x" % form, hexadecimal(words), behind.hex(), "%04x" % length)
+    for form in UNKNOWN:
+        for words, behind, room in (([ABSORB + 1, 1], b"AB", 4), ([], b"AB", 4), ([1], separator(257), 4), ([ABSORB + 1, 1], b"AB", -1)):
+            print("w", "%08x" % form, hexadecimal(words), behind.hex(), "%04x" % max(0, 4 * merged(words) + len(behind) + room))
+    for text, length in read_cases():
+        print("r", "%08x" % 1, text.hex(), "%016x" % length)
+        # in form 2 behind a tail, with another length given
+        if length < 1 << 32:
+            print("r", "%08x" % 2, (text + length.to_bytes(4, "big")).hex(), "%016x" % (length ^ 5))
+    for form, text, length in form_cases():
+        print("r", "%08x" % form, text.hex(), "%016x" % length)
     for words in cut_cases():
         print("c", hexadecimal(words))
     for digest in element_cases():
@@ -218,17 +268,19 @@ def answer(kind, *fields):
     if kind == "e":
         return hexadecimal(elements(bytes.fromhex(fields[0])))
     if kind == "r":
-        number, words, count, behind = oracle.read_tag(bytes.fromhex(fields[0]), int(fields[1], 16))
-        return "%d %d %s %d, %s" % (number, count, hexadecimal(words[:count]), sum(words[count:]), behind.hex())
-    words = [int(fields[0][k:k + 8], 16) for k in range(0, len(fields[0]), 8)]
+        text = bytes.fromhex(fields[1])
+        number, words, count, behind = oracle.read_tag(text, int(fields[2], 16), int(fields[0], 16))
+        start = len(text) if number else 4 * count
+        return "%d %d %s %d, %d %d %s" % (number, count, hexadecimal(words[:count]), sum(words[count:]), start, len(behind), behind.hex())
     if kind == "c":
+        words = numbers(fields[0])
         calls = oracle.cut(words)
         # "where 64 calls suffice": otherwise number 1, and none
         return "%d %d %s 0" % ((0, len(calls), hexadecimal(calls)) if len(calls) <= oracle.MAX_WORDS else (1, 0, ""))
-    behind = bytes.fromhex(fields[1])
+    words, behind = numbers(fields[1]), bytes.fromhex(fields[2])
     number = oracle.start_number(words, behind)
     list_ = oracle.merged(words) if number == 0 else []
-    refused, length, buffer = oracle.write_tag(words, behind, bytes([0xa5] * int(fields[2], 16)))
+    refused, length, buffer = oracle.write_tag(words, behind, bytes([0xa5] * int(fields[3], 16)), int(fields[0], 16))
     return "%d %d %s 0, %d %d %s" % (number, len(list_), hexadecimal(list_), refused, length, buffer.hex())
 
 

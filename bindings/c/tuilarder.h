@@ -3,25 +3,26 @@
  *
  *     const uint32_t words[2] = {TUILARDER_ABSORB_BIT | 8, 1};          ABSORB 8, then SQUEEZE 1
  *     struct tuilarder_session session;
- *     if (tuilarder_start(&session, TUILARDER_BABY_BEAR, words, 2, separator, separator_length) != TUILARDER_ACCEPTED
+ *     if (tuilarder_start(&session, TUILARDER_BABY_BEAR, TUILARDER_FORM_2, words, 2, separator, separator_length) != TUILARDER_ACCEPTED
  *         || tuilarder_absorb(&session, elements, 8) != TUILARDER_ACCEPTED
  *         || tuilarder_squeeze(&session, &challenge, 1) != TUILARDER_ACCEPTED
  *         || tuilarder_finish(&session) != TUILARDER_ACCEPTED)
  *         return 0;                                                     turned away: there is no challenge
  *
- * EVERY PROTOCOL OF A VERIFIER NEEDS A SEPARATOR OF ITS OWN, AND ALL OF THEM ONE LENGTH. Two protocols with one separator and one merged
- * pattern have the same tag string (calls of 3 and 3 elements merge to one of 6), and with separators of unequal length other patterns can
- * have it too. Then the two protocols, in one field, get the same challenges for the same messages. docs/GUIDE.md shows both. The field is no part
- * of the tag string.
+ * EVERY PROTOCOL OF A VERIFIER NEEDS A SEPARATOR OF ITS OWN, AND ALL OF THEM ONE FORM: FORM 2, OR FORM 1 WITH SEPARATORS OF ONE LENGTH. Two
+ * protocols with one separator and one merged pattern have the same tag string (calls of 3 and 3 elements merge to one of 6). In form 1, where
+ * separators differ in length, other patterns can have it too; in form 2 none has, whatever the lengths are. Between the forms nothing is said. Two
+ * protocols of one tag string, in one field, get the same challenges for the same messages. docs/GUIDE.md shows both. The tag string says neither
+ * field nor form.
  *
  * What a list, a string or a record holds is free: the functions take every content, and answer with a number where they turn a call away.
  * What the functions cannot look at is the caller's duty:
  *
  * - A pointer is aligned for its type and valid: a list's for as many items as the length after it says, every other one for its object.
  *   With length 0 a list's pointer may have any value, NULL among them: nothing is read or written through it. No other one may be NULL.
- * - What a function writes (the record, the state, constants and count of tuilarder_generate, out, written, words and count of
- *   tuilarder_read_tag, calls and count of tuilarder_cut, place, value) overlaps nothing else that the call was lent. Nobody else reads or
- *   writes that, and nobody writes what the function reads, until the call returns.
+ * - What a function writes (the record, the state, constants and count of tuilarder_generate, out, written, words, count, separator_start and
+ *   separator_count of tuilarder_read_tag, calls and count of tuilarder_cut, place, value) overlaps nothing else that the call was lent. Nobody else
+ *   reads or writes that, and nobody writes what the function reads, until the call returns.
  *
  * What a function only writes need not be set before. The library has no state of its own, so distinct records may be used by distinct
  * threads at once. The time that a call takes depends on what it is lent, and copies of a record may stay behind on the stack: nothing is
@@ -53,6 +54,14 @@ extern "C" {
 #define TUILARDER_KOALA_BEAR 2u
 #define TUILARDER_KOALA_BEAR_PRIME 2130706433u
 
+/*
+ * The numbers of the forms of a tag string. In form 1 it is the merged words, four bytes each, highest first, then the separator, and does not say
+ * where the separator begins. In form 2 the separator's length stands behind that, as four bytes, highest first: take form 2 where separators may
+ * differ in length.
+ */
+#define TUILARDER_FORM_1 1u
+#define TUILARDER_FORM_2 2u
+
 /* The state's outer elements, which are absorbed into and squeezed from; its inner elements; and all of them. */
 #define TUILARDER_RATE 8
 #define TUILARDER_CAPACITY 16
@@ -67,10 +76,10 @@ extern "C" {
 /* The longest call that a pattern declares, in elements. Calls of one kind that follow each other are added together, and may be longer then. */
 #define TUILARDER_MAX_CALL 16777216u
 
-/* The longest pattern in words, and the longest separator in bytes. The longest tag string has 4 * 64 + 256 bytes. */
+/* The longest pattern in words, and the longest separator in bytes. The longest tag string, of form 2, has 4 * 64 + 256 + 4 bytes. */
 #define TUILARDER_MAX_WORDS 64
 #define TUILARDER_MAX_SEPARATOR 256
-#define TUILARDER_MAX_TAG_STRING 512
+#define TUILARDER_MAX_TAG_STRING 516
 
 /* The bytes of a SHA3-256 digest. */
 #define TUILARDER_DIGEST_LENGTH 32
@@ -128,18 +137,22 @@ enum tuilarder_number {
     /* no blocks or over 31, a block length of 0 or above 16,777,216, or any other lent list or buffer, key and nonce too, whose length isn't exactly what is needed */
     TUILARDER_SEAL_LENGTH_INVALID = 20,
     /* the mark differs */
-    TUILARDER_MARK_DIFFERS = 21
+    TUILARDER_MARK_DIFFERS = 21,
+    /* form number neither 1 nor 2 */
+    TUILARDER_FORM_UNKNOWN = 22
 };
 
 /*
  * The record of a session. Any contents may be handed over: a call looks at them before it uses them. Wiped means every member 0.
- * A copied record is a fork: each copy goes on by itself. The four bytes before permutations are padding: compare records member by member.
+ * A copied record is a fork: each copy goes on by itself.
  */
 struct tuilarder_session {
     /* 1 open, otherwise closed */
     uint32_t status;
     /* the number of the field that its elements are of */
     uint32_t field;
+    /* the number of the form of its tag string */
+    uint32_t form;
     /* the outer elements, then the inner ones */
     uint32_t state[TUILARDER_WIDTH];
     /* the merged words of the pattern, with unused ones 0 */
@@ -167,13 +180,14 @@ struct tuilarder_session {
 TUILARDER_ASSERT(sizeof(struct tuilarder_session) == 392);
 TUILARDER_MEMBER_AT(status, 0);
 TUILARDER_MEMBER_AT(field, 4);
-TUILARDER_MEMBER_AT(state, 8);
-TUILARDER_MEMBER_AT(words, 104);
-TUILARDER_MEMBER_AT(count, 360);
-TUILARDER_MEMBER_AT(phase, 364);
-TUILARDER_MEMBER_AT(done, 368);
-TUILARDER_MEMBER_AT(absorb_position, 372);
-TUILARDER_MEMBER_AT(squeeze_position, 376);
+TUILARDER_MEMBER_AT(form, 8);
+TUILARDER_MEMBER_AT(state, 12);
+TUILARDER_MEMBER_AT(words, 108);
+TUILARDER_MEMBER_AT(count, 364);
+TUILARDER_MEMBER_AT(phase, 368);
+TUILARDER_MEMBER_AT(done, 372);
+TUILARDER_MEMBER_AT(absorb_position, 376);
+TUILARDER_MEMBER_AT(squeeze_position, 380);
 TUILARDER_MEMBER_AT(permutations, 384);
 TUILARDER_ASSERT(sizeof(size_t) == 8 && sizeof(void *) == 8);
 #undef TUILARDER_MEMBER_AT
@@ -184,15 +198,16 @@ TUILARDER_ASSERT(sizeof(size_t) == 8 && sizeof(void *) == 8);
  * header is for TUILARDER_LAYOUT. A library of another version has no function of this name, so a program that compares the two links only
  * with one of this version.
  */
-#define TUILARDER_LAYOUT (UINT64_C(2) << 32 | 392)
-uint64_t tuilarder_layout_2(void);
+#define TUILARDER_LAYOUT (UINT64_C(3) << 32 | 392)
+uint64_t tuilarder_layout_3(void);
 
 /*
- * START: opens a session for a field, a pattern and a separator in the record, whatever that held. Checks 18, 1, 2, 19, 3 and 6, in this
- * order, whichever word is at fault. Refused, it leaves a wiped record. The last word may be of either kind; a last ABSORB bears on no element
- * that the session squeezes. The separator names the protocol: no two of a verifier have the same, and all of them have one length.
+ * START: opens a session for a field, a form, a pattern and a separator in the record, whatever that held. Checks 18, 22, 1, 2, 19, 3 and 6, in
+ * this order, whichever word is at fault. Refused, it leaves a wiped record. The last word may be of either kind; a last ABSORB bears on no element
+ * that the session squeezes. The separator names the protocol: no two of a verifier have the same. All of them have one form, and in form 1
+ * separators of one length.
  */
-TUILARDER_ANSWER tuilarder_start(struct tuilarder_session *record, uint32_t field, const uint32_t *words, size_t words_length,
+TUILARDER_ANSWER tuilarder_start(struct tuilarder_session *record, uint32_t field, uint32_t form, const uint32_t *words, size_t words_length,
                                  const uint8_t *separator, size_t separator_length);
 
 /*
@@ -214,19 +229,25 @@ TUILARDER_ANSWER tuilarder_squeeze(struct tuilarder_session *record, uint32_t *o
 TUILARDER_ANSWER tuilarder_finish(struct tuilarder_session *record);
 
 /*
- * Writes the tag string of a pattern and a separator, from out's start and only the string's bytes, and its length to written.
- * Checks 1, 2, 19, 3, 6 and 12, in this order. Refused, it writes nothing to out, and 0 to written.
+ * Writes the tag string of a pattern and a separator in a form, from out's start and only the string's bytes, and its length to written.
+ * Checks 22, 1, 2, 19, 3, 6 and 12, in this order. Refused, it writes nothing to out, and 0 to written.
  */
-TUILARDER_ANSWER tuilarder_write_tag(const uint32_t *words, size_t words_length, const uint8_t *separator,
+TUILARDER_ANSWER tuilarder_write_tag(uint32_t form, const uint32_t *words, size_t words_length, const uint8_t *separator,
                                      size_t separator_length, uint8_t *out, size_t out_length, size_t *written);
 
 /*
- * Reads a tag string back, given the length of its separator, which is the string's last part: its merged words, with unused ones 0, and
- * how many they are. Checks 6 (of the length given), then 13. Refused, it gives 64 zero words and count 0. Merged words may be longer than
- * a declared call: tuilarder_cut makes words of them that START takes.
+ * Reads a tag string of a form back: its merged words, with unused ones 0, and how many they are; and of its separator where in the string it begins,
+ * and how many bytes it has. Checks 22, 6, then 13.
+ *
+ * - Form 1: the separator is the string's last part, of the length given, which 6 is of.
+ * - Form 2: the separator is what stands before the string's last four bytes, as many bytes as those name. The length given is ignored. 6 is of the
+ *   number in the last four bytes, and a string that is shorter than these gets 13.
+ *
+ * Refused, it gives 64 zero words, count 0, and as separator the empty part at the string's end. Merged words may be longer than a declared call:
+ * tuilarder_cut makes words of them that START takes.
  */
-TUILARDER_ANSWER tuilarder_read_tag(const uint8_t *string, size_t length, size_t separator_length,
-                                    uint32_t words[TUILARDER_MAX_WORDS], size_t *count);
+TUILARDER_ANSWER tuilarder_read_tag(uint32_t form, const uint8_t *string, size_t length, size_t separator_length,
+                                    uint32_t words[TUILARDER_MAX_WORDS], size_t *count, size_t *separator_start, size_t *separator_count);
 
 /*
  * Cuts words into calls that a pattern may declare, in order: a word longer than TUILARDER_MAX_CALL becomes calls of that length and any rest,
@@ -273,8 +294,9 @@ TUILARDER_ANSWER tuilarder_owner(const uint8_t *table, size_t table_length, cons
  * first block, and to each later block as long as all plain blocks before it are equal. So in these blocks the difference of two cipher elements is
  * that of the plain ones, up to and with the first block in which the notes differ: who sees both has it without the key. Lengths are not hidden.
  *
- * ALL SEPARATORS UNDER ONE KEY HAVE ONE LENGTH. With lengths 3 and 8 and a separator S a note has the tag string that length 3 has with the separator
- * 8000000800000008 followed by S; who knows the second block of such a note has, without the key, one of three elements that opens with that separator.
+ * ALL SEPARATORS UNDER ONE KEY HAVE ONE LENGTH, for a note's tag string is of form 1. With lengths 3 and 8 and a separator S a note has the tag
+ * string that length 3 has with the separator 8000000800000008 followed by S; who knows the second block of such a note has, without the key, one of
+ * three elements that opens with that separator.
  * The stack keeps what it held of key, nonce, session and mark.
  */
 TUILARDER_ANSWER tuilarder_seal(uint32_t field, const uint32_t *key, size_t key_length, const uint32_t *nonce, size_t nonce_length,

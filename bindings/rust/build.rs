@@ -11,7 +11,7 @@ use std::process::{exit, Command};
 const DIRECTORY: &str = "TUILARDER_ARCHIVE_DIR";
 
 /// The function whose name says the archive's version. `src/ffi.rs` declares it.
-const LAYOUT: &str = "tuilarder_layout_2";
+const LAYOUT: &str = "tuilarder_layout_3";
 
 fn main() {
     println!("cargo:rerun-if-env-changed={DIRECTORY}");

@@ -13,6 +13,9 @@ IS(TUILARDER_BABY_BEAR, 1);
 IS(TUILARDER_KOALA_BEAR, 2);
 IS(TUILARDER_BABY_BEAR_PRIME, 2013265921);
 IS(TUILARDER_KOALA_BEAR_PRIME, 2130706433);
+/* "1 for today's string", and "form 2" */
+IS(TUILARDER_FORM_1, 1);
+IS(TUILARDER_FORM_2, 2);
 /* "rate 8, capacity 16, width 24"; "744 places in either field" */
 IS(TUILARDER_RATE, 8);
 IS(TUILARDER_CAPACITY, 16);
@@ -24,7 +27,7 @@ IS(TUILARDER_ABSORB_BIT, 2147483648);
 IS(TUILARDER_MAX_CALL, 16777216);
 IS(TUILARDER_MAX_WORDS, 64);
 IS(TUILARDER_MAX_SEPARATOR, 256);
-IS(TUILARDER_MAX_TAG_STRING, 512);
+IS(TUILARDER_MAX_TAG_STRING, 516);
 IS(TUILARDER_DIGEST_LENGTH, 32);
 /* "ten a row", "at most 128 rows" */
 IS(TUILARDER_OWNER_ROW_BYTES, 10);
@@ -34,12 +37,14 @@ IS(TUILARDER_KEY_LENGTH, 8);
 IS(TUILARDER_NONCE_LENGTH, 8);
 IS(TUILARDER_MARK_LENGTH, 8);
 IS(TUILARDER_MAX_NOTE_BLOCKS, 31);
-/* version 2, and a record of 95 numbers of four bytes, four bytes of padding and a number of eight */
-IS(TUILARDER_LAYOUT, 2 * 4294967296 + 95 * 4 + 4 + 8);
+/* version 3, and a record of 96 numbers of four bytes and a number of eight */
+IS(TUILARDER_LAYOUT, 3 * 4294967296 + 96 * 4 + 8);
 HAS_TYPE(TUILARDER_LAYOUT, uint64_t);
-/* these are compared with and put into words, elements and field numbers, so they are unsigned as those are */
+/* these are compared with and put into words, elements, field and form numbers, so they are unsigned as those are */
 HAS_TYPE(TUILARDER_BABY_BEAR, uint32_t);
 HAS_TYPE(TUILARDER_KOALA_BEAR, uint32_t);
+HAS_TYPE(TUILARDER_FORM_1, uint32_t);
+HAS_TYPE(TUILARDER_FORM_2, uint32_t);
 HAS_TYPE(TUILARDER_BABY_BEAR_PRIME, uint32_t);
 HAS_TYPE(TUILARDER_KOALA_BEAR_PRIME, uint32_t);
 HAS_TYPE(TUILARDER_ABSORB_BIT, uint32_t);
@@ -67,10 +72,12 @@ IS(TUILARDER_FIELD_UNKNOWN, 18);
 IS(TUILARDER_CALL_TOO_LONG, 19);
 IS(TUILARDER_SEAL_LENGTH_INVALID, 20);
 IS(TUILARDER_MARK_DIFFERS, 21);
+IS(TUILARDER_FORM_UNKNOWN, 22);
 
 #define RECORD ((struct tuilarder_session *)0)
 HAS_TYPE(RECORD->status, uint32_t);
 HAS_TYPE(RECORD->field, uint32_t);
+HAS_TYPE(RECORD->form, uint32_t);
 HAS_TYPE(&RECORD->state, uint32_t (*)[24]);
 HAS_TYPE(&RECORD->words, uint32_t (*)[64]);
 HAS_TYPE(RECORD->count, uint32_t);
@@ -82,17 +89,17 @@ HAS_TYPE(RECORD->permutations, uint64_t);
 
 /* what is only read is const */
 typedef struct tuilarder_session record;
-HAS_TYPE(&tuilarder_start, uint32_t (*)(record *, uint32_t, const uint32_t *, size_t, const uint8_t *, size_t));
+HAS_TYPE(&tuilarder_start, uint32_t (*)(record *, uint32_t, uint32_t, const uint32_t *, size_t, const uint8_t *, size_t));
 HAS_TYPE(&tuilarder_absorb, uint32_t (*)(record *, const uint32_t *, size_t));
 HAS_TYPE(&tuilarder_squeeze, uint32_t (*)(record *, uint32_t *, size_t));
 HAS_TYPE(&tuilarder_finish, uint32_t (*)(record *));
 HAS_TYPE(&tuilarder_write_tag,
-         uint32_t (*)(const uint32_t *, size_t, const uint8_t *, size_t, uint8_t *, size_t, size_t *));
-HAS_TYPE(&tuilarder_read_tag, uint32_t (*)(const uint8_t *, size_t, size_t, uint32_t *, size_t *));
+         uint32_t (*)(uint32_t, const uint32_t *, size_t, const uint8_t *, size_t, uint8_t *, size_t, size_t *));
+HAS_TYPE(&tuilarder_read_tag, uint32_t (*)(uint32_t, const uint8_t *, size_t, size_t, uint32_t *, size_t *, size_t *, size_t *));
 HAS_TYPE(&tuilarder_cut, uint32_t (*)(const uint32_t *, size_t, uint32_t *, size_t *));
 HAS_TYPE(&tuilarder_permute, uint32_t (*)(uint32_t, uint32_t *));
 HAS_TYPE(&tuilarder_generate, uint32_t (*)(uint32_t, uint32_t *, size_t *));
-HAS_TYPE(&tuilarder_layout_2, uint64_t (*)(void));
+HAS_TYPE(&tuilarder_layout_3, uint64_t (*)(void));
 HAS_TYPE(&tuilarder_sha3_256, void (*)(const uint8_t *, size_t, uint8_t *));
 HAS_TYPE(&tuilarder_check_owners, uint32_t (*)(const uint8_t *, size_t, uint32_t *));
 HAS_TYPE(&tuilarder_owner, uint32_t (*)(const uint8_t *, size_t, const uint8_t *, size_t, uint32_t *));

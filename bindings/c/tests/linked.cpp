@@ -16,33 +16,36 @@ static void check(bool holds, int line, const char *what)
     }
 }
 
-// Sample B4 in a field, with 1 to 8 absorbed. The element squeezed is from the second implementation, in Python.
-static void test_session(uint32_t field, uint32_t wanted)
+// Sample B4 in a field and a form, with 1 to 8 absorbed. The element squeezed is from the second implementation, in Python.
+static void test_session(uint32_t field, uint32_t form, uint32_t wanted)
 {
     const uint32_t words[2] = {TUILARDER_ABSORB_BIT | 8, 1}, elements[8] = {1, 2, 3, 4, 5, 6, 7, 8};
     tuilarder_session session;
     uint32_t challenge = 0;
-    CHECK(tuilarder_start(&session, field, words, 2, nullptr, 0) == TUILARDER_ACCEPTED);
-    CHECK(session.field == field);
+    CHECK(tuilarder_start(&session, field, form, words, 2, nullptr, 0) == TUILARDER_ACCEPTED);
+    CHECK(session.field == field && session.form == form);
     CHECK(tuilarder_absorb(&session, elements, 8) == TUILARDER_ACCEPTED);
     CHECK(tuilarder_squeeze(&session, &challenge, 1) == TUILARDER_ACCEPTED);
     CHECK(challenge == wanted && session.permutations == 1);
     CHECK(tuilarder_finish(&session) == TUILARDER_ACCEPTED);
-    CHECK(session.status == 0 && session.field == 0);
+    CHECK(session.status == 0 && session.field == 0 && session.form == 0);
 }
 
-// Sample B1.
-static void test_tag_string()
+// Sample B1 in a form.
+static void test_tag_string(uint32_t form, std::size_t size)
 {
     const uint32_t words[3] = {0x80000003, 0x80000003, 0x00000003};
-    const uint8_t separator[2] = {0x41, 0x42}, wanted[10] = {0x80, 0, 0, 6, 0, 0, 0, 3, 0x41, 0x42};
+    const uint8_t separator[2] = {0x41, 0x42}, wanted[14] = {0x80, 0, 0, 6, 0, 0, 0, 3, 0x41, 0x42, 0, 0, 0, 2};
     uint8_t string[TUILARDER_MAX_TAG_STRING];
     uint32_t merged[TUILARDER_MAX_WORDS];
-    std::size_t length = 0, count = 0;
-    CHECK(tuilarder_write_tag(words, 3, separator, 2, string, sizeof string, &length) == TUILARDER_ACCEPTED);
-    CHECK(length == 10 && std::memcmp(string, wanted, 10) == 0);
-    CHECK(tuilarder_read_tag(string, length, 2, merged, &count) == TUILARDER_ACCEPTED);
+    std::size_t length = 0, count = 0, start = 0, separator_count = 0;
+    CHECK(tuilarder_write_tag(form, words, 3, separator, 2, string, sizeof string, &length) == TUILARDER_ACCEPTED);
+    CHECK(length == size && std::memcmp(string, wanted, size) == 0);
+    CHECK(tuilarder_read_tag(form, string, length, 2, merged, &count, &start, &separator_count) == TUILARDER_ACCEPTED);
     CHECK(count == 2 && merged[0] == 0x80000006 && merged[1] == 0x00000003 && merged[2] == 0);
+    CHECK(start == 8 && separator_count == 2);
+    CHECK(tuilarder_read_tag(3, string, length, 2, merged, &count, &start, &separator_count) == TUILARDER_FORM_UNKNOWN);
+    CHECK(count == 0 && merged[0] == 0 && start == length && separator_count == 0);
 }
 
 // A word that is one longer than a declared call.
@@ -96,10 +99,13 @@ static void test_notes()
 
 int main()
 {
-    CHECK(tuilarder_layout_2() == TUILARDER_LAYOUT);
-    test_session(TUILARDER_BABY_BEAR, 1413794352);
-    test_session(TUILARDER_KOALA_BEAR, 660617525);
-    test_tag_string();
+    CHECK(tuilarder_layout_3() == TUILARDER_LAYOUT);
+    test_session(TUILARDER_BABY_BEAR, TUILARDER_FORM_1, 1413794352);
+    test_session(TUILARDER_KOALA_BEAR, TUILARDER_FORM_1, 660617525);
+    test_session(TUILARDER_BABY_BEAR, TUILARDER_FORM_2, 870047549);
+    test_session(TUILARDER_KOALA_BEAR, TUILARDER_FORM_2, 138808816);
+    test_tag_string(TUILARDER_FORM_1, 10);
+    test_tag_string(TUILARDER_FORM_2, 14);
     test_cut();
     test_permutation_and_hash();
     test_owners();

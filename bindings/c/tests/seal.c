@@ -164,7 +164,7 @@ static void test_known(const struct known *note)
     check_accepted(&reversed, call.text.items);
 }
 
-/* Algorithm 7 by the calls of a session: gives the sealed list. */
+/* Algorithm 7 by the calls of a session, which is of form 1: gives the sealed list. */
 static void seal_by_calls(const struct call *call, uint32_t *sealed)
 {
     uint32_t words[TUILARDER_MAX_WORDS] = {A | 16};
@@ -176,7 +176,7 @@ static void seal_by_calls(const struct call *call, uint32_t *sealed)
         words[count++] = A | call->lengths.items[i];
     }
     words[count++] = 8;
-    CHECK(tuilarder_start(&session, call->field, words, count, call->separator, call->separator_length) == TUILARDER_ACCEPTED);
+    CHECK(tuilarder_start(&session, call->field, TUILARDER_FORM_1, words, count, call->separator, call->separator_length) == TUILARDER_ACCEPTED);
     CHECK(tuilarder_absorb(&session, call->key.items, 8) == TUILARDER_ACCEPTED);
     CHECK(tuilarder_absorb(&session, call->nonce.items, 8) == TUILARDER_ACCEPTED);
     for (size_t i = 0; i < call->lengths.length; i++) {

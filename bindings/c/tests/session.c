@@ -1,6 +1,6 @@
 /*
- * Calls the static library through tuilarder.h: sessions of both fields, those that end with ABSORB too, the record's members, an example of each
- * number, words cut into calls, empty lists, and bad records. It is meant for valgrind: most of what is lent ends where its block ends.
+ * Calls the static library through tuilarder.h: sessions of both fields and both forms, those that end with ABSORB too, the record's members, an
+ * example of each number, tag strings of both forms, words cut into calls, empty lists, and bad records. It is meant for valgrind: most of what is lent ends where its block ends.
  */
 #include "tuilarder.h"
 
@@ -13,6 +13,8 @@
 #define LIMIT 16777216u
 #define BABY_BEAR TUILARDER_BABY_BEAR
 #define KOALA_BEAR TUILARDER_KOALA_BEAR
+#define FORM_1 TUILARDER_FORM_1
+#define FORM_2 TUILARDER_FORM_2
 /* below KoalaBear's prime and not below BabyBear's: an element of the one field alone */
 #define BETWEEN TUILARDER_BABY_BEAR_PRIME
 #define ROUNDS 3000
@@ -40,13 +42,13 @@ static void fill_random(void *at, size_t length)
         ((unsigned char *)at)[i] = (unsigned char)next_random();
 }
 
-/* ---- fields and records */
+/* ---- fields, forms and records */
 
-static const uint32_t fields[] = {BABY_BEAR, KOALA_BEAR};
+static const uint32_t fields[] = {BABY_BEAR, KOALA_BEAR}, forms[] = {FORM_1, FORM_2};
 
-/* In some a part of the bits is the number of a field. */
-#define UNKNOWN_FIELDS 7
-static const uint32_t unknown_fields[UNKNOWN_FIELDS] = {0, 3, 257, 65538, 0x80000000u, 0x80000001u, 0xffffffffu};
+/* Numbers that no field has, and no form: in some a part of the bits is the number of one. */
+#define UNKNOWN 7
+static const uint32_t unknown[UNKNOWN] = {0, 3, 257, 65538, 0x80000000u, 0x80000001u, 0xffffffffu};
 
 static uint32_t prime(uint32_t field)
 {
@@ -61,33 +63,12 @@ static uint32_t bad_element(uint32_t field)
     return prime(field) + below(UINT64_C(0x100000000) - prime(field));
 }
 
-/* Member by member: what a call leaves in the padding is open. */
-static int same_members(const struct tuilarder_session *a, const struct tuilarder_session *b)
-{
-    return a->status == b->status && a->field == b->field && memcmp(a->state, b->state, sizeof a->state) == 0
-        && memcmp(a->words, b->words, sizeof a->words) == 0 && a->count == b->count && a->phase == b->phase && a->done == b->done
-        && a->absorb_position == b->absorb_position && a->squeeze_position == b->squeeze_position
-        && a->permutations == b->permutations;
-}
-
-/* Whether a lent record and its guard bytes are as they were remembered. */
-static int same_record(const struct lent *record)
-{
-    return same_guards(record) && same_members(record->part, (const void *)(record->copy + GUARD));
-}
-
-static int wiped_record(const struct lent *record)
-{
-    static const struct tuilarder_session zeros;
-    return same_guards(record) && same_members(record->part, &zeros);
-}
-
 /* ---- sessions */
 
-/* Document 01's samples B4 to B7, B7 with a separator, and patterns that end with ABSORB, in both fields: permutations before FINISH, and the last
+/* Document 01's samples B4 to B7, B7 with a separator, and patterns that end with ABSORB, in both fields and both forms: permutations before FINISH, and the last
    element squeezed where the numbers from first on are absorbed, 0 if none is. That element is from the second implementation, in Python. */
 static const struct sample {
-    uint32_t field;
+    uint32_t field, form;
     uint32_t words[4];
     size_t count;
     const char *separator;
@@ -95,23 +76,29 @@ static const struct sample {
     uint64_t permutations;
     uint32_t last;
 } samples[] = {
-    {BABY_BEAR, {A | 8, 1}, 2, "", 1, 1, 1413794352},
-    {BABY_BEAR, {A | 9, 1}, 2, "", 1, 2, 774647143},
-    {BABY_BEAR, {A | 1, 9}, 2, "", 1, 2, 669881811},
-    {BABY_BEAR, {A | 8, 8, A | 1, 1}, 4, "", 1, 2, 19357506},
-    {BABY_BEAR, {A | 8, 8, A | 1, 1}, 4, "AB", 1, 2, 1610560294},
-    {BABY_BEAR, {A | 8}, 1, "", 1, 0, 0},
-    {BABY_BEAR, {A | 9}, 1, "", 1, 1, 0},
-    {BABY_BEAR, {A | 8, 8, A | 9}, 3, "", 1, 2, 1386593099},
-    {KOALA_BEAR, {A | 8, 1}, 2, "", 1, 1, 660617525},
-    {KOALA_BEAR, {A | 9, 1}, 2, "", 1, 2, 340153162},
-    {KOALA_BEAR, {A | 1, 9}, 2, "", 1, 2, 992041210},
-    {KOALA_BEAR, {A | 8, 8, A | 1, 1}, 4, "", 1, 2, 1420244152},
-    {KOALA_BEAR, {A | 8, 8, A | 1, 1}, 4, "AB", 1, 2, 71205172},
-    {KOALA_BEAR, {A | 8, 1}, 2, "", BETWEEN, 1, 2112122197},
-    {KOALA_BEAR, {A | 8}, 1, "", BETWEEN, 0, 0},
-    {KOALA_BEAR, {A | 9}, 1, "", BETWEEN, 1, 0},
-    {KOALA_BEAR, {A | 8, 8, A | 9}, 3, "", 1, 2, 1473928020},
+    {BABY_BEAR, FORM_1, {A | 8, 1}, 2, "", 1, 1, 1413794352},
+    {BABY_BEAR, FORM_1, {A | 9, 1}, 2, "", 1, 2, 774647143},
+    {BABY_BEAR, FORM_1, {A | 1, 9}, 2, "", 1, 2, 669881811},
+    {BABY_BEAR, FORM_1, {A | 8, 8, A | 1, 1}, 4, "", 1, 2, 19357506},
+    {BABY_BEAR, FORM_1, {A | 8, 8, A | 1, 1}, 4, "AB", 1, 2, 1610560294},
+    {BABY_BEAR, FORM_1, {A | 8}, 1, "", 1, 0, 0},
+    {BABY_BEAR, FORM_1, {A | 9}, 1, "", 1, 1, 0},
+    {BABY_BEAR, FORM_1, {A | 8, 8, A | 9}, 3, "", 1, 2, 1386593099},
+    {KOALA_BEAR, FORM_1, {A | 8, 1}, 2, "", 1, 1, 660617525},
+    {KOALA_BEAR, FORM_1, {A | 9, 1}, 2, "", 1, 2, 340153162},
+    {KOALA_BEAR, FORM_1, {A | 1, 9}, 2, "", 1, 2, 992041210},
+    {KOALA_BEAR, FORM_1, {A | 8, 8, A | 1, 1}, 4, "", 1, 2, 1420244152},
+    {KOALA_BEAR, FORM_1, {A | 8, 8, A | 1, 1}, 4, "AB", 1, 2, 71205172},
+    {KOALA_BEAR, FORM_1, {A | 8, 1}, 2, "", BETWEEN, 1, 2112122197},
+    {KOALA_BEAR, FORM_1, {A | 8}, 1, "", BETWEEN, 0, 0},
+    {KOALA_BEAR, FORM_1, {A | 9}, 1, "", BETWEEN, 1, 0},
+    {KOALA_BEAR, FORM_1, {A | 8, 8, A | 9}, 3, "", 1, 2, 1473928020},
+    {BABY_BEAR, FORM_2, {A | 8, 1}, 2, "", 1, 1, 870047549},
+    {BABY_BEAR, FORM_2, {A | 8, 8, A | 1, 1}, 4, "AB", 1, 2, 762161457},
+    {BABY_BEAR, FORM_2, {A | 8, 8, A | 9}, 3, "AB", 1, 2, 29371843},
+    {KOALA_BEAR, FORM_2, {A | 8, 1}, 2, "", 1, 1, 138808816},
+    {KOALA_BEAR, FORM_2, {A | 8, 8, A | 1, 1}, 4, "AB", 1, 2, 1390424282},
+    {KOALA_BEAR, FORM_2, {A | 8, 8, A | 9}, 3, "AB", 1, 2, 1027997173},
 };
 
 /* One phase of a sample: absorbs the numbers from first on, or squeezes. Gives the last element. */
@@ -140,7 +127,7 @@ static void test_sample(const struct sample *sample)
     struct lent words = lend_copy(sample->words, sample->count * sizeof(uint32_t));
     struct lent separator = lend_copy(sample->separator, strlen(sample->separator));
     struct tuilarder_session *session = record.part;
-    CHECK(tuilarder_start(session, sample->field, words.part, sample->count, separator.part, separator.length)
+    CHECK(tuilarder_start(session, sample->field, sample->form, words.part, sample->count, separator.part, separator.length)
           == TUILARDER_ACCEPTED);
     uint32_t next = sample->first, squeezed = 0;
     for (size_t k = 0; k < sample->count; k++) {
@@ -152,7 +139,7 @@ static void test_sample(const struct sample *sample)
     CHECK(session->permutations == sample->permutations);
     CHECK(squeezed == sample->last);
     CHECK(tuilarder_finish(session) == TUILARDER_ACCEPTED);
-    CHECK(wiped_record(&record));
+    CHECK(wiped(&record));
     CHECK(same(&words) && same(&separator));
     give_back(&separator);
     give_back(&words);
@@ -180,11 +167,12 @@ static const struct place {
     {2, 4, 0, 0, 7, 8},
 };
 
-static void check_place(const struct tuilarder_session *session, uint32_t field, const struct place *place)
+static void check_place(const struct tuilarder_session *session, uint32_t field, uint32_t form, const struct place *place)
 {
     const uint32_t words[TUILARDER_MAX_WORDS] = MEMBER_WORDS;
     CHECK(session->status == 1);
     CHECK(session->field == field);
+    CHECK(session->form == form);
     CHECK(memcmp(session->words, words, sizeof words) == 0);
     CHECK(session->count == 4);
     CHECK(session->phase == place->phase);
@@ -194,14 +182,16 @@ static void check_place(const struct tuilarder_session *session, uint32_t field,
     CHECK(session->permutations == place->permutations);
 }
 
-/* The state that START gives, whatever the field is: the eight words of the tag string's digest, of 30 bits each, behind eight zeros. The digest is
-   that of Python's hashlib. */
-static void check_first_state(const struct tuilarder_session *session)
+/* The state that START gives, whatever the field is: the eight words of the tag string's digest, of 30 bits each, behind eight zeros. The digests, of
+   form 1's string and form 2's, are those of Python's hashlib. */
+static void check_first_state(const struct tuilarder_session *session, uint32_t form)
 {
-    const uint32_t state[TUILARDER_WIDTH] = {
-        0, 0, 0, 0, 0, 0, 0, 0,
-        623774289, 539521011, 351027650, 984081605, 326586652, 53903310, 842546509, 409758037};
-    CHECK(memcmp(session->state, state, sizeof state) == 0);
+    const uint32_t states[2][TUILARDER_WIDTH] = {
+        {0, 0, 0, 0, 0, 0, 0, 0,
+         623774289, 539521011, 351027650, 984081605, 326586652, 53903310, 842546509, 409758037},
+        {0, 0, 0, 0, 0, 0, 0, 0,
+         146954842, 1068976873, 1048048235, 203322670, 207474281, 756664685, 738555886, 162951480}};
+    CHECK(memcmp(session->state, states[form - 1], sizeof *states) == 0);
 }
 
 /* Absorbs 101, 102 .. or squeezes, and compares with the state: nothing else lies there before the first permutation, and squeezed elements
@@ -221,17 +211,17 @@ static void call_of_place(struct tuilarder_session *session, const struct place 
     }
 }
 
-static void test_members(uint32_t field)
+static void test_members(uint32_t field, uint32_t form)
 {
     const uint32_t words[] = MEMBER_WORDS;
     const struct place start = {0, 0, 0, 0, 0, 0};
     struct tuilarder_session session;
-    CHECK(tuilarder_start(&session, field, words, 4, (const uint8_t *)"fields", 6) == TUILARDER_ACCEPTED);
-    check_place(&session, field, &start);
-    check_first_state(&session);
+    CHECK(tuilarder_start(&session, field, form, words, 4, (const uint8_t *)"fields", 6) == TUILARDER_ACCEPTED);
+    check_place(&session, field, form, &start);
+    check_first_state(&session, form);
     for (size_t i = 0; i < sizeof places / sizeof *places; i++) {
         call_of_place(&session, &places[i]);
-        check_place(&session, field, &places[i]);
+        check_place(&session, field, form, &places[i]);
     }
     CHECK(tuilarder_finish(&session) == TUILARDER_ACCEPTED);
 }
@@ -272,24 +262,32 @@ static const struct start_example {
     {TUILARDER_ACCEPTED, {A | LIMIT, A | LIMIT, LIMIT, 1}, 4, 256},
 };
 
-/* START into a record of any bytes, in each field; in an unknown one it gives 18, whatever else is wrong. */
-static void start_in_fields(uint32_t number, const struct lent *words, const struct lent *separator)
+/* START into a record of any bytes, which it leaves open with its field and its form, or wiped. */
+static void start_in(uint32_t number, uint32_t field, uint32_t form, const struct lent *words, const struct lent *separator)
 {
-    size_t count = words->length / sizeof(uint32_t);
     struct lent record = lend(sizeof(struct tuilarder_session), 0);
     struct tuilarder_session *session = record.part;
-    for (size_t i = 0; i < 2; i++) {
-        fill_random(record.part, record.length);
-        CHECK(tuilarder_start(session, fields[i], words->part, count, separator->part, separator->length) == number);
-        CHECK(number == TUILARDER_ACCEPTED ? session->status == 1 && session->field == fields[i] : wiped_record(&record));
-    }
-    for (size_t i = 0; i < UNKNOWN_FIELDS; i++) {
-        fill_random(record.part, record.length);
-        CHECK(tuilarder_start(session, unknown_fields[i], words->part, count, separator->part, separator->length)
-              == TUILARDER_FIELD_UNKNOWN);
-        CHECK(wiped_record(&record));
-    }
+    fill_random(record.part, record.length);
+    CHECK(tuilarder_start(session, field, form, words->part, words->length / sizeof(uint32_t), separator->part, separator->length)
+          == number);
+    CHECK(number == TUILARDER_ACCEPTED ? session->status == 1 && session->field == field && session->form == form : wiped(&record));
     give_back(&record);
+}
+
+/* START in each field and form; in an unknown form it gives 22, and in an unknown field 18, whatever else is wrong. */
+static void start_in_all(uint32_t number, const struct lent *words, const struct lent *separator)
+{
+    for (size_t i = 0; i < 2; i++) {
+        for (size_t k = 0; k < 2; k++)
+            start_in(number, fields[i], forms[k], words, separator);
+        for (size_t k = 0; k < UNKNOWN; k++) {
+            start_in(TUILARDER_FORM_UNKNOWN, fields[i], unknown[k], words, separator);
+            start_in(TUILARDER_FIELD_UNKNOWN, unknown[k], forms[i], words, separator);
+        }
+    }
+    for (size_t i = 0; i < UNKNOWN; i++)
+        for (size_t k = 0; k < UNKNOWN; k++)
+            start_in(TUILARDER_FIELD_UNKNOWN, unknown[i], unknown[k], words, separator);
 }
 
 /* How many words a pattern has when it is merged. */
@@ -301,28 +299,42 @@ static size_t merged_count(const uint32_t *words, size_t count)
     return merged;
 }
 
-/* START, and the same of writing, which takes no field. */
+/* Writing into a buffer of any bytes, which is left where it is refused. */
+static void write_in(uint32_t number, uint32_t form, const struct lent *words, const struct lent *separator)
+{
+    struct lent out = lend(TUILARDER_MAX_TAG_STRING, 0);
+    size_t written = 1, count = words->length / sizeof(uint32_t);
+    fill_random(out.part, out.length);
+    remember(&out);
+    CHECK(tuilarder_write_tag(form, words->part, count, separator->part, separator->length, out.part, out.length, &written) == number);
+    if (number == TUILARDER_ACCEPTED)
+        CHECK(written == 4 * merged_count(words->part, count) + separator->length + (form == FORM_2 ? 4 : 0));
+    else
+        CHECK(written == 0 && same(&out));
+    give_back(&out);
+}
+
+/* START, and the same of writing, which takes no field: in an unknown form it gives 22 first. */
 static void test_start(const struct start_example *example)
 {
     struct lent words = lend(example->count * sizeof(uint32_t), 0);
     struct lent separator = lend(example->separator_length, 0);
-    struct lent out = lend(TUILARDER_MAX_TAG_STRING, 0);
-    size_t written = 1;
-    fill_random(out.part, out.length);
     memset(words.part, 0, words.length);
     memcpy(words.part, example->words, example->count > 4 ? sizeof example->words : words.length);
     memset(separator.part, 7, separator.length);
-    remember(&out);
-    start_in_fields(example->number, &words, &separator);
-    CHECK(tuilarder_write_tag(words.part, example->count, separator.part, separator.length, out.part, out.length, &written)
-          == example->number);
-    if (example->number == TUILARDER_ACCEPTED)
-        CHECK(written == 4 * merged_count(words.part, example->count) + separator.length);
-    else
-        CHECK(written == 0 && same(&out));
-    give_back(&out);
+    start_in_all(example->number, &words, &separator);
+    for (size_t k = 0; k < 2; k++)
+        write_in(example->number, forms[k], &words, &separator);
+    for (size_t k = 0; k < UNKNOWN; k++)
+        write_in(TUILARDER_FORM_UNKNOWN, unknown[k], &words, &separator);
     give_back(&separator);
     give_back(&words);
+}
+
+/* The form of the records below: of BabyBear form 2, of KoalaBear form 1, so that the two numbers of a record differ. */
+static uint32_t form_beside(uint32_t field)
+{
+    return 3 - field;
 }
 
 /* A record that START opened for ABSORB 1, SQUEEZE 1. */
@@ -330,7 +342,7 @@ static struct lent open_record(uint32_t field)
 {
     const uint32_t words[2] = {A | 1, 1};
     struct lent record = lend(sizeof(struct tuilarder_session), 0);
-    CHECK(tuilarder_start(record.part, field, words, 2, NULL, 0) == TUILARDER_ACCEPTED);
+    CHECK(tuilarder_start(record.part, field, form_beside(field), words, 2, NULL, 0) == TUILARDER_ACCEPTED);
     remember(&record);
     return record;
 }
@@ -342,11 +354,11 @@ static void check_all_refuse(struct lent *record, struct lent *buffer, uint32_t 
     remember(record);
     remember(buffer);
     CHECK(tuilarder_absorb(record->part, buffer->part, length) == number);
-    CHECK(same_record(record) && same(buffer));
+    CHECK(same(record) && same(buffer));
     CHECK(tuilarder_squeeze(record->part, buffer->part, length) == number);
-    CHECK(same_record(record) && same(buffer));
+    CHECK(same(record) && same(buffer));
     CHECK(tuilarder_finish(record->part) == number);
-    CHECK(same_record(record) && same(buffer));
+    CHECK(same(record) && same(buffer));
 }
 
 /* 7 after FINISH, and 8 at absorb position 9. */
@@ -360,7 +372,7 @@ static void test_bad_record(uint32_t field)
     CHECK(tuilarder_squeeze(finished.part, &squeezed, 1) == TUILARDER_ACCEPTED);
     CHECK(tuilarder_finish(finished.part) == TUILARDER_ACCEPTED);
     check_all_refuse(&finished, &buffer, TUILARDER_RECORD_NOT_OPEN);
-    CHECK(wiped_record(&finished));
+    CHECK(wiped(&finished));
     ((struct tuilarder_session *)spoilt.part)->absorb_position = 9;
     check_all_refuse(&spoilt, &buffer, TUILARDER_RECORD_NOT_SOUND);
     give_back(&spoilt);
@@ -374,8 +386,8 @@ static void test_record_of_another_field(uint32_t field)
     const uint32_t one = 1;
     struct lent record = open_record(field), buffer = lend_copy(&one, sizeof one);
     struct tuilarder_session *session = record.part;
-    for (size_t i = 0; i < UNKNOWN_FIELDS; i++) {
-        session->field = unknown_fields[i];
+    for (size_t i = 0; i < UNKNOWN; i++) {
+        session->field = unknown[i];
         check_all_refuse(&record, &buffer, TUILARDER_RECORD_NOT_SOUND);
     }
     session->state[23] = BETWEEN;
@@ -388,6 +400,25 @@ static void test_record_of_another_field(uint32_t field)
     give_back(&record);
 }
 
+/* 8 for a record of an unknown form; one that says the other form is sound, and keeps that. */
+static void test_record_of_another_form(uint32_t field)
+{
+    const uint32_t one = 1;
+    uint32_t squeezed;
+    struct lent record = open_record(field), buffer = lend_copy(&one, sizeof one);
+    struct tuilarder_session *session = record.part;
+    for (size_t i = 0; i < UNKNOWN; i++) {
+        session->form = unknown[i];
+        check_all_refuse(&record, &buffer, TUILARDER_RECORD_NOT_SOUND);
+    }
+    session->form = field;
+    CHECK(tuilarder_absorb(session, &one, 1) == TUILARDER_ACCEPTED && session->form == field);
+    CHECK(tuilarder_squeeze(session, &squeezed, 1) == TUILARDER_ACCEPTED && session->form == field);
+    CHECK(tuilarder_finish(session) == TUILARDER_ACCEPTED && wiped(&record));
+    give_back(&buffer);
+    give_back(&record);
+}
+
 /* 9 for the wrong kind, past the phase's end, and after the last phase. */
 static void test_call_not_in_pattern(uint32_t field)
 {
@@ -396,13 +427,13 @@ static void test_call_not_in_pattern(uint32_t field)
     struct lent buffer = lend_copy(ones, sizeof ones);
     struct lent wrong_kind = open_record(field), past_end = open_record(field), after_last = open_record(field);
     CHECK(tuilarder_squeeze(wrong_kind.part, buffer.part, 1) == TUILARDER_CALL_NOT_IN_PATTERN);
-    CHECK(wiped_record(&wrong_kind) && same(&buffer));
+    CHECK(wiped(&wrong_kind) && same(&buffer));
     CHECK(tuilarder_absorb(past_end.part, buffer.part, 2) == TUILARDER_CALL_NOT_IN_PATTERN);
-    CHECK(wiped_record(&past_end) && same(&buffer));
+    CHECK(wiped(&past_end) && same(&buffer));
     CHECK(tuilarder_absorb(after_last.part, ones, 1) == TUILARDER_ACCEPTED);
     CHECK(tuilarder_squeeze(after_last.part, &squeezed, 1) == TUILARDER_ACCEPTED);
     CHECK(tuilarder_squeeze(after_last.part, buffer.part, 1) == TUILARDER_CALL_NOT_IN_PATTERN);
-    CHECK(wiped_record(&after_last) && same(&buffer));
+    CHECK(wiped(&after_last) && same(&buffer));
     give_back(&after_last);
     give_back(&past_end);
     give_back(&wrong_kind);
@@ -415,11 +446,11 @@ static void test_element_and_finish(uint32_t field)
     const uint32_t p = prime(field), less = p - 1;
     struct lent record = open_record(field), unfinished = open_record(field);
     CHECK(tuilarder_absorb(record.part, &p, 1) == TUILARDER_ELEMENT_NOT_REDUCED);
-    CHECK(same_record(&record));
+    CHECK(same(&record));
     CHECK(tuilarder_absorb(record.part, &less, 1) == TUILARDER_ACCEPTED);
-    CHECK(!same_record(&record));
+    CHECK(!same(&record));
     CHECK(tuilarder_finish(unfinished.part) == TUILARDER_PATTERN_NOT_DONE);
-    CHECK(wiped_record(&unfinished));
+    CHECK(wiped(&unfinished));
     give_back(&unfinished);
     give_back(&record);
 }
@@ -454,9 +485,9 @@ static void check_no_call(const struct lent *record)
     const uint32_t one = 1;
     struct lent buffer = lend_copy(&one, sizeof one), absorbing = fork_of(record), squeezing = fork_of(record);
     CHECK(tuilarder_absorb(absorbing.part, buffer.part, 1) == TUILARDER_CALL_NOT_IN_PATTERN);
-    CHECK(wiped_record(&absorbing) && same(&buffer));
+    CHECK(wiped(&absorbing) && same(&buffer));
     CHECK(tuilarder_squeeze(squeezing.part, buffer.part, 1) == TUILARDER_CALL_NOT_IN_PATTERN);
-    CHECK(wiped_record(&squeezing) && same(&buffer));
+    CHECK(wiped(&squeezing) && same(&buffer));
     give_back(&squeezing);
     give_back(&absorbing);
     give_back(&buffer);
@@ -467,9 +498,9 @@ static void check_not_done(const struct lent *record)
 {
     const uint32_t one = 1;
     struct lent buffer = lend_copy(&one, sizeof one), finishing = fork_of(record), squeezing = fork_of(record);
-    CHECK(tuilarder_finish(finishing.part) == TUILARDER_PATTERN_NOT_DONE && wiped_record(&finishing));
+    CHECK(tuilarder_finish(finishing.part) == TUILARDER_PATTERN_NOT_DONE && wiped(&finishing));
     CHECK(tuilarder_squeeze(squeezing.part, buffer.part, 1) == TUILARDER_CALL_NOT_IN_PATTERN);
-    CHECK(wiped_record(&squeezing) && same(&buffer));
+    CHECK(wiped(&squeezing) && same(&buffer));
     give_back(&squeezing);
     give_back(&finishing);
     give_back(&buffer);
@@ -483,10 +514,10 @@ static void check_done(struct lent *record, const struct ending *ending)
     CHECK(session->absorb_position == ending->absorb_position && session->squeeze_position == 8);
     CHECK(session->permutations == ending->permutations);
     remember(record);
-    CHECK(tuilarder_absorb(record->part, NULL, 0) == TUILARDER_ACCEPTED && same_record(record));
-    CHECK(tuilarder_squeeze(record->part, NULL, 0) == TUILARDER_ACCEPTED && same_record(record));
+    CHECK(tuilarder_absorb(record->part, NULL, 0) == TUILARDER_ACCEPTED && same(record));
+    CHECK(tuilarder_squeeze(record->part, NULL, 0) == TUILARDER_ACCEPTED && same(record));
     check_no_call(record);
-    CHECK(tuilarder_finish(record->part) == TUILARDER_ACCEPTED && wiped_record(record));
+    CHECK(tuilarder_finish(record->part) == TUILARDER_ACCEPTED && wiped(record));
 }
 
 static void test_ending(uint32_t field, const struct ending *ending)
@@ -495,7 +526,7 @@ static void test_ending(uint32_t field, const struct ending *ending)
     struct lent record = lend(sizeof(struct tuilarder_session), 0);
     struct tuilarder_session *session = record.part;
     uint32_t last = ending->words[ending->count - 1], before;
-    CHECK(tuilarder_start(session, field, words.part, ending->count, (const uint8_t *)"ending", 6) == TUILARDER_ACCEPTED);
+    CHECK(tuilarder_start(session, field, form_beside(field), words.part, ending->count, (const uint8_t *)"ending", 6) == TUILARDER_ACCEPTED);
     for (size_t k = 0; k + 1 < ending->count; k++)
         run_phase(session, ending->words[k], 1);
     if ((last & ~A) > 1)
@@ -518,7 +549,7 @@ static void test_words_of_record(uint32_t field)
     session->words[1] = 0;
     session->count = 1;
     CHECK(tuilarder_absorb(session, &one, 1) == TUILARDER_ACCEPTED && session->phase == 1);
-    CHECK(tuilarder_finish(session) == TUILARDER_ACCEPTED && wiped_record(&record));
+    CHECK(tuilarder_finish(session) == TUILARDER_ACCEPTED && wiped(&record));
     empty->words[0] = empty->words[1] = 0;
     empty->count = 0;
     check_all_refuse(&none, &buffer, TUILARDER_RECORD_NOT_SOUND);
@@ -529,19 +560,20 @@ static void test_words_of_record(uint32_t field)
 
 /* ---- tag strings, words cut, the permutation, the generator and the hash */
 
-/* Sample B1: its string, written into 10 bytes and 11, and not into 9. */
-static void test_write_tag(void)
+/* Sample B1 in a form: its string, written into as many bytes and one more, and not into one less. */
+static void test_write_tag(uint32_t form, size_t size)
 {
     const uint32_t words[3] = {A | 3, A | 3, 3};
-    const uint8_t separator[2] = {0x41, 0x42}, string[11] = {0x80, 0, 0, 6, 0, 0, 0, 3, 0x41, 0x42, '!'};
-    struct lent exact = lend(10, 0), longer = lend_copy("!!!!!!!!!!!", 11), shorter = lend_copy("unchanged", 9);
+    const uint8_t separator[2] = {0x41, 0x42}, string[14] = {0x80, 0, 0, 6, 0, 0, 0, 3, 0x41, 0x42, 0, 0, 0, 2};
+    struct lent exact = lend(size, 0), longer = lend(size + 1, 0), shorter = lend_copy("unchanged, all", size - 1);
     struct lent length = lend(sizeof(size_t), 0);
     size_t *written = length.part;
-    CHECK(tuilarder_write_tag(words, 3, separator, 2, exact.part, 10, written) == TUILARDER_ACCEPTED);
-    CHECK(*written == 10 && holds(&exact, string));
-    CHECK(tuilarder_write_tag(words, 3, separator, 2, longer.part, 11, written) == TUILARDER_ACCEPTED);
-    CHECK(*written == 10 && holds(&longer, string));
-    CHECK(tuilarder_write_tag(words, 3, separator, 2, shorter.part, 9, written) == TUILARDER_BUFFER_TOO_SHORT);
+    CHECK(tuilarder_write_tag(form, words, 3, separator, 2, exact.part, size, written) == TUILARDER_ACCEPTED);
+    CHECK(*written == size && holds(&exact, string));
+    ((uint8_t *)longer.part)[size] = '!';
+    CHECK(tuilarder_write_tag(form, words, 3, separator, 2, longer.part, size + 1, written) == TUILARDER_ACCEPTED);
+    CHECK(*written == size && memcmp(longer.part, string, size) == 0 && ((uint8_t *)longer.part)[size] == '!' && same_guards(&longer));
+    CHECK(tuilarder_write_tag(form, words, 3, separator, 2, shorter.part, size - 1, written) == TUILARDER_BUFFER_TOO_SHORT);
     CHECK(wiped(&length) && same(&shorter));
     give_back(&length);
     give_back(&shorter);
@@ -549,56 +581,157 @@ static void test_write_tag(void)
     give_back(&exact);
 }
 
+/* What reading gives: the number, the words and how many they are, and where the separator lies. */
+struct reading {
+    uint32_t number;
+    uint32_t words[TUILARDER_MAX_WORDS];
+    size_t count, separator_start, separator_count;
+};
+
+/* Reads a string, which is only read, into what nobody has set, and compares all of it. */
+static void check_read(uint32_t form, const void *bytes, size_t length, size_t given, const struct reading *wanted)
+{
+    struct lent string = lend_copy(bytes, length), words = lend(sizeof wanted->words, 0);
+    struct lent count = lend(sizeof(size_t), 0), start = lend(sizeof(size_t), 0), size = lend(sizeof(size_t), 0);
+    CHECK(tuilarder_read_tag(form, string.part, length, given, words.part, count.part, start.part, size.part) == wanted->number);
+    CHECK(holds(&words, wanted->words) && holds(&count, &wanted->count) && same(&string));
+    CHECK(holds(&start, &wanted->separator_start) && holds(&size, &wanted->separator_count));
+    give_back(&size);
+    give_back(&start);
+    give_back(&count);
+    give_back(&words);
+    give_back(&string);
+}
+
+/* A refused string: no words, and the empty separator at its end. */
+static void check_not_read(uint32_t form, const void *bytes, size_t length, size_t given, uint32_t number)
+{
+    const struct reading refused = {number, {0}, 0, length, 0};
+    check_read(form, bytes, length, given, &refused);
+}
+
 /* B1's string read back; with length 0, 80000003, which is a tag string, and 00000001, which is none; and a separator that is too long. */
 static void test_read_tag(void)
 {
-    const uint32_t merged[TUILARDER_MAX_WORDS] = {A | 6, 3}, absorbing[TUILARDER_MAX_WORDS] = {A | 3};
+    const struct reading merged = {TUILARDER_ACCEPTED, {A | 6, 3}, 2, 8, 2}, absorbing = {TUILARDER_ACCEPTED, {A | 3}, 1, 4, 0};
     const uint8_t string[10] = {0x80, 0, 0, 6, 0, 0, 0, 3, 0x41, 0x42}, absorb[4] = {0x80, 0, 0, 3}, squeeze[4] = {0, 0, 0, 1};
-    struct lent whole = lend_copy(string, sizeof string), one = lend_copy(absorb, sizeof absorb), part = lend_copy(squeeze, sizeof squeeze);
-    struct lent words = lend(sizeof merged, 0), number = lend(sizeof(size_t), 0);
-    size_t *count = number.part;
-    CHECK(tuilarder_read_tag(whole.part, 10, 2, words.part, count) == TUILARDER_ACCEPTED);
-    CHECK(*count == 2 && holds(&words, merged) && same(&whole));
-    CHECK(tuilarder_read_tag(one.part, 4, 0, words.part, count) == TUILARDER_ACCEPTED);
-    CHECK(*count == 1 && holds(&words, absorbing) && same(&one));
-    CHECK(tuilarder_read_tag(part.part, 4, 0, words.part, count) == TUILARDER_NOT_TAG_STRING);
-    CHECK(wiped(&number) && wiped(&words) && same(&part));
-    fill_random(words.part, words.length);
-    *count = 1;
-    CHECK(tuilarder_read_tag(whole.part, 10, 257, words.part, count) == TUILARDER_SEPARATOR_TOO_LONG);
-    CHECK(wiped(&number) && wiped(&words) && same(&whole));
-    give_back(&number);
-    give_back(&words);
-    give_back(&part);
-    give_back(&one);
-    give_back(&whole);
+    check_read(FORM_1, string, 10, 2, &merged);
+    check_read(FORM_1, absorb, 4, 0, &absorbing);
+    check_not_read(FORM_1, squeeze, 4, 0, TUILARDER_NOT_TAG_STRING);
+    check_not_read(FORM_1, string, 10, 257, TUILARDER_SEPARATOR_TOO_LONG);
+    check_not_read(FORM_1, string, 10, 11, TUILARDER_NOT_TAG_STRING);
+    for (size_t i = 0; i < UNKNOWN; i++) {
+        check_not_read(unknown[i], string, 10, 2, TUILARDER_FORM_UNKNOWN);
+        check_not_read(unknown[i], string, 10, 257, TUILARDER_FORM_UNKNOWN);
+        check_not_read(unknown[i], "", 0, 0, TUILARDER_FORM_UNKNOWN);
+    }
 }
 
-/* The longest tag string, 64 words that do not merge and 256 bytes: written into as many bytes and not into one less, and read back. */
-static void test_longest_tag_string(void)
+/* Lengths that may be given in form 2, where none is looked at. */
+#define GIVEN 6
+static const size_t any_given[GIVEN] = {0, 2, 3, 256, 257, SIZE_MAX};
+
+/* Strings of form 2 that are read: B1's, one without a separator, one with a byte, and one whose separator could be a word. */
+static void test_read_form_2(void)
 {
-    uint32_t declared[64];
-    uint8_t wanted[512];
+    static const struct {
+        uint8_t bytes[16];
+        size_t length;
+        struct reading wanted;
+    } strings[] = {
+        {{0x80, 0, 0, 6, 0, 0, 0, 3, 0x41, 0x42, 0, 0, 0, 2}, 14, {TUILARDER_ACCEPTED, {A | 6, 3}, 2, 8, 2}},
+        {{0x80, 0, 0, 1, 0, 0, 0, 0}, 8, {TUILARDER_ACCEPTED, {A | 1}, 1, 4, 0}},
+        {{0x80, 0, 0, 1, 7, 0, 0, 0, 1}, 9, {TUILARDER_ACCEPTED, {A | 1}, 1, 4, 1}},
+        {{0x80, 0, 0, 1, 0, 0, 0, 1, 0, 0, 0, 0}, 12, {TUILARDER_ACCEPTED, {A | 1, 1}, 2, 8, 0}},
+        {{0x80, 0, 0, 1, 0, 0, 0, 1, 0, 0, 0, 4}, 12, {TUILARDER_ACCEPTED, {A | 1}, 1, 4, 4}},
+    };
+    for (size_t i = 0; i < sizeof strings / sizeof *strings; i++)
+        for (size_t k = 0; k < GIVEN; k++)
+            check_read(FORM_2, strings[i].bytes, strings[i].length, any_given[k], &strings[i].wanted);
+}
+
+/* Strings of form 2 that are not: of 0 to 8 bytes; with a tail that names all that precedes it, or one byte more; with one above 256, which gets 6
+   whatever precedes it; and with a tail whose bytes are in the other order. */
+static void test_not_read_form_2(void)
+{
+    static const struct {
+        uint8_t bytes[16];
+        size_t length;
+        uint32_t number;
+    } strings[] = {
+        {{0}, 0, TUILARDER_NOT_TAG_STRING},
+        {{0}, 1, TUILARDER_NOT_TAG_STRING},
+        {{0, 0}, 2, TUILARDER_NOT_TAG_STRING},
+        {{0xff, 0xff, 0xff}, 3, TUILARDER_NOT_TAG_STRING},
+        {{0, 0, 0, 0}, 4, TUILARDER_NOT_TAG_STRING},
+        {{0, 0, 0, 1}, 4, TUILARDER_NOT_TAG_STRING},
+        {{0, 0, 1, 0}, 4, TUILARDER_NOT_TAG_STRING},
+        {{0, 0, 1, 1}, 4, TUILARDER_SEPARATOR_TOO_LONG},
+        {{0xff, 0xff, 0xff, 0xff}, 4, TUILARDER_SEPARATOR_TOO_LONG},
+        {{7, 0, 0, 0, 1}, 5, TUILARDER_NOT_TAG_STRING},
+        {{7, 0, 0, 0, 0}, 5, TUILARDER_NOT_TAG_STRING},
+        {{0x80, 0, 0, 0, 0, 0}, 6, TUILARDER_NOT_TAG_STRING},
+        {{0x80, 0, 0, 0, 0, 0, 0}, 7, TUILARDER_NOT_TAG_STRING},
+        {{0x80, 0, 0, 1, 0, 0, 0, 4}, 8, TUILARDER_NOT_TAG_STRING},
+        {{0x80, 0, 0, 1, 0, 0, 0, 5}, 8, TUILARDER_NOT_TAG_STRING},
+        {{0x80, 0, 0, 1, 0, 0, 0, 1}, 8, TUILARDER_NOT_TAG_STRING},
+        {{0x80, 0, 0, 1, 0, 0, 1, 0}, 8, TUILARDER_NOT_TAG_STRING},
+        {{0x80, 0, 0, 1, 0, 0, 1, 1}, 8, TUILARDER_SEPARATOR_TOO_LONG},
+        {{0x80, 0, 0, 1, 0xff, 0xff, 0xff, 0xff}, 8, TUILARDER_SEPARATOR_TOO_LONG},
+        {{0x00, 0, 0, 1, 0, 0, 0, 0}, 8, TUILARDER_NOT_TAG_STRING},
+        {{0x80, 0, 0, 1, 7, 1, 0, 0, 0}, 9, TUILARDER_SEPARATOR_TOO_LONG},
+        {{0x80, 0, 0, 1, 0, 0, 0, 1, 0, 0, 0, 8}, 12, TUILARDER_NOT_TAG_STRING},
+        {{0x80, 0, 0, 1, 0, 0, 0, 1, 0, 0, 0, 9}, 12, TUILARDER_NOT_TAG_STRING},
+    };
+    for (size_t i = 0; i < sizeof strings / sizeof *strings; i++)
+        for (size_t k = 0; k < GIVEN; k++)
+            check_not_read(FORM_2, strings[i].bytes, strings[i].length, any_given[k], strings[i].number);
+}
+
+/* The longest tag strings, 64 words that do not merge and 256 bytes: written into as many bytes and not into one less, and read back. */
+static void test_longest_tag_string(uint32_t form)
+{
+    const size_t length = form == FORM_2 ? 516 : 512;
+    struct reading read = {TUILARDER_ACCEPTED, {0}, 64, 256, 256};
+    uint8_t wanted[516] = {0};
     for (uint32_t k = 0; k < 64; k++) {
         const uint8_t bytes[4] = {k % 2 ? 0x00 : 0x80, 0xf2, 0x03, (uint8_t)k};
-        declared[k] = (k % 2 ? 0x00f20300u : 0x80f20300u) + k;
+        read.words[k] = (k % 2 ? 0x00f20300u : 0x80f20300u) + k;
         memcpy(wanted + 4 * k, bytes, 4);
     }
     for (size_t i = 0; i < 256; i++)
         wanted[256 + i] = (uint8_t)(i * 7 + 1);
-    struct lent words = lend_copy(declared, sizeof declared), separator = lend_copy(wanted + 256, TUILARDER_MAX_SEPARATOR);
-    struct lent string = lend(TUILARDER_MAX_TAG_STRING, 0), merged = lend(TUILARDER_MAX_WORDS * sizeof(uint32_t), 0);
+    wanted[514] = 1;
+    struct lent words = lend_copy(read.words, sizeof read.words), separator = lend_copy(wanted + 256, TUILARDER_MAX_SEPARATOR);
+    struct lent string = lend(length, 0);
     size_t number = 1;
-    CHECK(tuilarder_write_tag(words.part, 64, separator.part, 256, string.part, 511, &number) == TUILARDER_BUFFER_TOO_SHORT);
+    CHECK(tuilarder_write_tag(form, words.part, 64, separator.part, 256, string.part, length - 1, &number) == TUILARDER_BUFFER_TOO_SHORT);
     CHECK(number == 0);
-    CHECK(tuilarder_write_tag(words.part, 64, separator.part, 256, string.part, 512, &number) == TUILARDER_ACCEPTED);
-    CHECK(number == 512 && holds(&string, wanted) && same(&words) && same(&separator));
-    CHECK(tuilarder_read_tag(string.part, 512, 256, merged.part, &number) == TUILARDER_ACCEPTED);
-    CHECK(number == 64 && holds(&merged, declared) && same(&string));
-    give_back(&merged);
+    CHECK(tuilarder_write_tag(form, words.part, 64, separator.part, 256, string.part, length, &number) == TUILARDER_ACCEPTED);
+    CHECK(number == length && holds(&string, wanted) && same(&words) && same(&separator));
+    check_read(form, wanted, length, 256, &read);
     give_back(&string);
     give_back(&separator);
     give_back(&words);
+}
+
+/* Sample B2's two patterns with their separators: one string and one state in form 1, and two in form 2. */
+static void test_unequal_lengths(void)
+{
+    const uint32_t words[4] = {A | 1, 1, A | 2, 2};
+    const uint8_t separator[8] = {0x80, 0, 0, 2, 0, 0, 0, 2};
+    for (size_t k = 0; k < 2; k++) {
+        struct tuilarder_session first, second;
+        uint8_t one[20] = {0}, other[20] = {0};
+        size_t length = 0, other_length = 0;
+        CHECK(tuilarder_start(&first, BABY_BEAR, forms[k], words, 2, separator, 8) == TUILARDER_ACCEPTED);
+        CHECK(tuilarder_start(&second, BABY_BEAR, forms[k], words, 4, NULL, 0) == TUILARDER_ACCEPTED);
+        CHECK(tuilarder_write_tag(forms[k], words, 2, separator, 8, one, 20, &length) == TUILARDER_ACCEPTED);
+        CHECK(tuilarder_write_tag(forms[k], words, 4, NULL, 0, other, 20, &other_length) == TUILARDER_ACCEPTED);
+        CHECK(length == (forms[k] == FORM_2 ? 20 : 16) && length == other_length);
+        CHECK((memcmp(one, other, 20) == 0) == (forms[k] == FORM_1));
+        CHECK((memcmp(first.state, second.state, sizeof first.state) == 0) == (forms[k] == FORM_1));
+    }
 }
 
 /* Cuts words, which are only read, into calls and a count that nobody has set, and compares all of both. */
@@ -671,16 +804,16 @@ static void test_longest_calls(size_t absorbing)
     uint32_t declared[TUILARDER_MAX_WORDS], read[TUILARDER_MAX_WORDS];
     struct tuilarder_session session;
     struct lent written = lend(4 * phases, 0), words;
-    size_t length, count;
+    size_t length, count, start, size;
     for (size_t k = 0; k < TUILARDER_MAX_WORDS; k++)
         declared[k] = k < absorbing ? A | LIMIT : LIMIT;
-    CHECK(tuilarder_start(&session, KOALA_BEAR, declared, 64, NULL, 0) == TUILARDER_ACCEPTED);
+    CHECK(tuilarder_start(&session, KOALA_BEAR, FORM_1, declared, 64, NULL, 0) == TUILARDER_ACCEPTED);
     CHECK(session.count == phases && memcmp(session.words, merged, sizeof merged) == 0);
-    CHECK(tuilarder_write_tag(declared, 64, NULL, 0, written.part, written.length, &length) == TUILARDER_ACCEPTED);
+    CHECK(tuilarder_write_tag(FORM_1, declared, 64, NULL, 0, written.part, written.length, &length) == TUILARDER_ACCEPTED);
     CHECK(length == written.length && holds(&written, string));
-    CHECK(tuilarder_read_tag(written.part, written.length, 0, read, &count) == TUILARDER_ACCEPTED);
-    CHECK(count == phases && memcmp(read, merged, sizeof merged) == 0);
-    CHECK(tuilarder_start(&session, KOALA_BEAR, read, phases, NULL, 0) == TUILARDER_CALL_TOO_LONG);
+    CHECK(tuilarder_read_tag(FORM_1, written.part, written.length, 0, read, &count, &start, &size) == TUILARDER_ACCEPTED);
+    CHECK(count == phases && memcmp(read, merged, sizeof merged) == 0 && start == written.length && size == 0);
+    CHECK(tuilarder_start(&session, KOALA_BEAR, FORM_1, read, phases, NULL, 0) == TUILARDER_CALL_TOO_LONG);
     words = lend_copy(read, phases * sizeof(uint32_t));
     check_cut(&words, TUILARDER_ACCEPTED, declared, 64);
     give_back(&words);
@@ -688,31 +821,31 @@ static void test_longest_calls(size_t absorbing)
 }
 
 /* START for a tag string, as the guide shows it. */
-static uint32_t start_of_string(struct tuilarder_session *session, const uint8_t *string, size_t length, size_t separator_length)
+static uint32_t start_of_string(struct tuilarder_session *session, uint32_t form, const uint8_t *string, size_t length, size_t separator_length)
 {
     uint32_t words[TUILARDER_MAX_WORDS], calls[TUILARDER_MAX_WORDS];
-    size_t word_count, call_count;
-    uint32_t number = tuilarder_read_tag(string, length, separator_length, words, &word_count);
+    size_t word_count, call_count, start, count;
+    uint32_t number = tuilarder_read_tag(form, string, length, separator_length, words, &word_count, &start, &count);
     if (number == TUILARDER_ACCEPTED)
         number = tuilarder_cut(words, word_count, calls, &call_count);
     if (number == TUILARDER_ACCEPTED)
-        number = tuilarder_start(session, TUILARDER_BABY_BEAR, calls, call_count, string + (length - separator_length), separator_length);
+        number = tuilarder_start(session, TUILARDER_BABY_BEAR, form, calls, call_count, string + start, count);
     return number;
 }
 
 /* A phase of 20,000,000 elements, declared as two calls, and the session of its tag string. */
-static void test_start_of_string(void)
+static void test_start_of_string(uint32_t form, size_t size)
 {
     const uint32_t declared[3] = {A | 8, 10000000u, 10000000u};
     struct tuilarder_session first, second;
-    struct lent string = lend(12, 0);
+    struct lent string = lend(size, 0);
     size_t length;
-    CHECK(tuilarder_start(&first, BABY_BEAR, declared, 3, (const uint8_t *)"long", 4) == TUILARDER_ACCEPTED);
-    CHECK(tuilarder_write_tag(declared, 3, (const uint8_t *)"long", 4, string.part, 12, &length) == TUILARDER_ACCEPTED && length == 12);
+    CHECK(tuilarder_start(&first, BABY_BEAR, form, declared, 3, (const uint8_t *)"long", 4) == TUILARDER_ACCEPTED);
+    CHECK(tuilarder_write_tag(form, declared, 3, (const uint8_t *)"long", 4, string.part, size, &length) == TUILARDER_ACCEPTED && length == size);
     remember(&string);
-    CHECK(start_of_string(&second, string.part, 12, 4) == TUILARDER_ACCEPTED && same(&string));
-    CHECK(same_members(&first, &second) && second.words[1] == 20000000u);
-    CHECK(start_of_string(&second, string.part, 12, 5) == TUILARDER_NOT_TAG_STRING);
+    CHECK(start_of_string(&second, form, string.part, size, 4) == TUILARDER_ACCEPTED && same(&string));
+    CHECK(memcmp(&first, &second, sizeof first) == 0 && second.words[1] == 20000000u);
+    CHECK(start_of_string(&second, form, string.part, size, 5) == (form == FORM_2 ? TUILARDER_ACCEPTED : TUILARDER_NOT_TAG_STRING));
     give_back(&string);
 }
 
@@ -725,15 +858,16 @@ static void test_read_and_not_cut(void)
     struct tuilarder_session session;
     for (size_t i = 0; i < 3; i++) {
         const size_t phases = i < 2 ? 2 : 1;
-        struct lent words = lend(sizeof *wanted, 0), used;
-        size_t count = 0;
-        CHECK(tuilarder_read_tag(strings[i], 4 * phases, 0, words.part, &count) == TUILARDER_ACCEPTED);
-        CHECK(count == phases && holds(&words, wanted[i]));
-        used = lend_copy(words.part, phases * sizeof(uint32_t));
+        struct reading read = {TUILARDER_ACCEPTED, {wanted[i][0], wanted[i][1]}, phases, 4 * phases, 0};
+        struct lent used = lend_copy(wanted[i], phases * sizeof(uint32_t));
+        uint8_t string[12] = {0};
+        memcpy(string, strings[i], 4 * phases);
+        check_read(FORM_1, string, 4 * phases, 0, &read);
+        check_read(FORM_2, string, 4 * phases + 4, 0, &read);
         check_cut(&used, TUILARDER_WORD_COUNT_OUT_OF_RANGE, zeros, 0);
-        CHECK(start_of_string(&session, strings[i], 4 * phases, 0) == TUILARDER_WORD_COUNT_OUT_OF_RANGE);
+        CHECK(start_of_string(&session, FORM_1, string, 4 * phases, 0) == TUILARDER_WORD_COUNT_OUT_OF_RANGE);
+        CHECK(start_of_string(&session, FORM_2, string, 4 * phases + 4, 0) == TUILARDER_WORD_COUNT_OUT_OF_RANGE);
         give_back(&used);
-        give_back(&words);
     }
 }
 
@@ -845,22 +979,25 @@ static void test_empty(void *place)
     const uint8_t separator[1] = {7};
     uint32_t read[TUILARDER_MAX_WORDS];
     struct lent record = open_record(BABY_BEAR);
-    size_t number = 1;
-    CHECK(tuilarder_absorb(record.part, place, 0) == TUILARDER_ACCEPTED && same_record(&record));
-    CHECK(tuilarder_squeeze(record.part, place, 0) == TUILARDER_ACCEPTED && same_record(&record));
-    CHECK(tuilarder_start(record.part, BABY_BEAR, words, 2, place, 0) == TUILARDER_ACCEPTED && same_record(&record));
-    CHECK(tuilarder_start(record.part, BABY_BEAR, place, 0, separator, 1) == TUILARDER_WORD_COUNT_OUT_OF_RANGE);
-    CHECK(wiped_record(&record));
-    CHECK(tuilarder_absorb(record.part, place, 0) == TUILARDER_RECORD_NOT_OPEN && wiped_record(&record));
-    CHECK(tuilarder_squeeze(record.part, place, 0) == TUILARDER_RECORD_NOT_OPEN && wiped_record(&record));
-    CHECK(tuilarder_write_tag(words, 2, place, 0, place, 0, &number) == TUILARDER_BUFFER_TOO_SHORT && number == 0);
-    number = 1;
-    CHECK(tuilarder_write_tag(place, 0, place, 0, place, 0, &number) == TUILARDER_WORD_COUNT_OUT_OF_RANGE && number == 0);
-    number = 1;
-    CHECK(tuilarder_read_tag(place, 0, 0, read, &number) == TUILARDER_NOT_TAG_STRING && number == 0);
-    number = 1;
-    CHECK(tuilarder_read_tag(place, 0, 5, read, &number) == TUILARDER_NOT_TAG_STRING && number == 0);
-    number = 1;
+    size_t number = 1, start = 1, size = 1;
+    CHECK(tuilarder_absorb(record.part, place, 0) == TUILARDER_ACCEPTED && same(&record));
+    CHECK(tuilarder_squeeze(record.part, place, 0) == TUILARDER_ACCEPTED && same(&record));
+    CHECK(tuilarder_start(record.part, BABY_BEAR, form_beside(BABY_BEAR), words, 2, place, 0) == TUILARDER_ACCEPTED && same(&record));
+    CHECK(tuilarder_start(record.part, BABY_BEAR, FORM_1, place, 0, separator, 1) == TUILARDER_WORD_COUNT_OUT_OF_RANGE);
+    CHECK(wiped(&record));
+    CHECK(tuilarder_absorb(record.part, place, 0) == TUILARDER_RECORD_NOT_OPEN && wiped(&record));
+    CHECK(tuilarder_squeeze(record.part, place, 0) == TUILARDER_RECORD_NOT_OPEN && wiped(&record));
+    for (size_t k = 0; k < 2; k++) {
+        CHECK(tuilarder_write_tag(forms[k], words, 2, place, 0, place, 0, &number) == TUILARDER_BUFFER_TOO_SHORT && number == 0);
+        number = 1;
+        CHECK(tuilarder_write_tag(forms[k], place, 0, place, 0, place, 0, &number) == TUILARDER_WORD_COUNT_OUT_OF_RANGE && number == 0);
+        for (size_t length = 0; length <= 5; length += 5) {
+            number = start = size = 1;
+            CHECK(tuilarder_read_tag(forms[k], place, 0, length, read, &number, &start, &size) == TUILARDER_NOT_TAG_STRING);
+            CHECK(number == 0 && start == 0 && size == 0);
+        }
+        number = 1;
+    }
     CHECK(tuilarder_cut(place, 0, read, &number) == TUILARDER_ACCEPTED && number == 0);
     test_sha3(place);
     give_back(&record);
@@ -868,12 +1005,13 @@ static void test_empty(void *place)
 
 /* ---- bad records */
 
-/* Bytes at random, at times with a field that there is: an element is then bad. */
+/* Bytes at random, at times with a field and a form that there are: an element is then bad. */
 static void make_random(struct tuilarder_session *record)
 {
     fill_random(record, sizeof *record);
     if (next_random() % 2) {
         record->field = fields[below(2)];
+        record->form = forms[below(2)];
         record->state[below(TUILARDER_WIDTH)] = bad_element(record->field);
     }
 }
@@ -883,6 +1021,7 @@ static void make_small(struct tuilarder_session *record)
 {
     memset(record, 0, sizeof *record);
     record->field = fields[below(2)];
+    record->form = forms[below(2)];
     record->count = below(67);
     for (uint32_t k = 0; k < record->count && k < TUILARDER_MAX_WORDS; k++)
         record->words[k] = (k % 2 ? 0 : A) + 1 + below(4);
@@ -901,7 +1040,7 @@ static void make_sound(struct tuilarder_session *record)
     size_t count = 1 + below(8), phases = below(count + 1);
     for (size_t k = 0; k < count; k++)
         words[k] = (k % 2 ? 0 : A) + 1 + below(20);
-    CHECK(tuilarder_start(record, fields[below(2)], words, count, NULL, 0) == TUILARDER_ACCEPTED);
+    CHECK(tuilarder_start(record, fields[below(2)], forms[below(2)], words, count, NULL, 0) == TUILARDER_ACCEPTED);
     for (size_t k = 0; k < phases; k++) {
         size_t length = words[k] & ~A;
         if (k + 1 == phases)
@@ -914,7 +1053,7 @@ static void make_sound(struct tuilarder_session *record)
 static void spoil(struct tuilarder_session *record)
 {
     uint32_t used = below(record->count), other = 1 + below(next_random() % 2 ? 9 : UINT32_MAX);
-    switch (below(11)) {
+    switch (below(12)) {
     case 0: record->state[below(TUILARDER_WIDTH)] = bad_element(record->field); break;
     case 1: record->words[record->count + below(TUILARDER_MAX_WORDS - record->count)] = other; break;
     case 2: record->words[used] ^= A; break;
@@ -924,7 +1063,8 @@ static void spoil(struct tuilarder_session *record)
     case 6: record->done += other; break;
     case 7: record->absorb_position += other; break;
     case 8: record->squeeze_position += other; break;
-    case 9: record->field = unknown_fields[below(UNKNOWN_FIELDS)]; break;
+    case 9: record->field = unknown[below(UNKNOWN)]; break;
+    case 10: record->form = unknown[below(UNKNOWN)]; break;
     default: record->permutations += next_random() % 2 ? other : (uint64_t)other << 32; break;
     }
 }
@@ -962,9 +1102,11 @@ static void test_bad_records(void)
 /* What is the same in both fields but for p, the constants and what is squeezed. */
 static void test_field(uint32_t field)
 {
-    test_members(field);
+    for (size_t k = 0; k < 2; k++)
+        test_members(field, forms[k]);
     test_bad_record(field);
     test_record_of_another_field(field);
+    test_record_of_another_form(field);
     test_call_not_in_pattern(field);
     test_element_and_finish(field);
     for (size_t i = 0; i < sizeof endings / sizeof *endings; i++)
@@ -977,25 +1119,31 @@ static void test_field(uint32_t field)
 int main(void)
 {
     struct lent empty = lend(0, 0);
-    CHECK(tuilarder_layout_2() == TUILARDER_LAYOUT);
+    CHECK(tuilarder_layout_3() == TUILARDER_LAYOUT);
     for (size_t i = 0; i < sizeof samples / sizeof *samples; i++)
         test_sample(&samples[i]);
     for (size_t i = 0; i < sizeof start_examples / sizeof *start_examples; i++)
         test_start(&start_examples[i]);
     for (size_t i = 0; i < 2; i++)
         test_field(fields[i]);
-    for (size_t i = 0; i < UNKNOWN_FIELDS; i++) {
-        test_permute_unknown(unknown_fields[i]);
-        test_generate_unknown(unknown_fields[i]);
+    for (size_t i = 0; i < UNKNOWN; i++) {
+        test_permute_unknown(unknown[i]);
+        test_generate_unknown(unknown[i]);
     }
-    test_write_tag();
+    test_write_tag(FORM_1, 10);
+    test_write_tag(FORM_2, 14);
     test_read_tag();
-    test_longest_tag_string();
+    test_read_form_2();
+    test_not_read_form_2();
+    test_longest_tag_string(FORM_1);
+    test_longest_tag_string(FORM_2);
+    test_unequal_lengths();
     test_cut();
     test_cut_of_copies();
     test_longest_calls(63);
     test_longest_calls(64);
-    test_start_of_string();
+    test_start_of_string(FORM_1, 12);
+    test_start_of_string(FORM_2, 16);
     test_read_and_not_cut();
     test_empty(NULL);
     test_empty(empty.part);

@@ -1,6 +1,6 @@
-//! A tag string is the merged pattern in bytes, then the separator, a byte string naming the protocol.
+//! A tag string is the merged pattern in bytes, then the separator, a byte string naming the protocol; and in form 2 the separator's length.
 
-use tuilarder::{Call::*, Pattern, Refusal};
+use tuilarder::{Call::*, Form, Pattern, Refusal};
 
 fn main() -> Result<(), Refusal> {
     let pattern = Pattern::new(&[Absorb(3), Absorb(3), Squeeze(3)])?;
@@ -12,5 +12,11 @@ fn main() -> Result<(), Refusal> {
     println!("read with length 2: {merged:?}, separator {separator:02x?}");
     let refusal = Pattern::read(string, 3).unwrap_err();
     println!("read with length 3: refused with {}: {refusal}", refusal.number());
+
+    // In form 2 the string says it in its last four bytes.
+    let string = pattern.tag_string_with_form(Form::Two, b"AB", &mut buffer)?;
+    println!("tag string of form 2 {string:02x?}");
+    let (merged, separator) = Pattern::read_form_2(string)?;
+    println!("read: {merged:?}, separator {separator:02x?}");
     Ok(())
 }

@@ -20,6 +20,8 @@ pub struct Record {
     pub status: u32,
     /// The number of the field that its elements are of.
     pub field: u32,
+    /// The number of the form of its tag string.
+    pub form: u32,
     /// Eight outer elements, then sixteen inner ones.
     pub state: [u32; 24],
     /// The merged words of the pattern, with unused ones 0.
@@ -43,6 +45,7 @@ impl Record {
     pub const WIPED: Record = Record {
         status: 0,
         field: 0,
+        form: 0,
         state: [0; 24],
         words: [0; 64],
         count: 0,
@@ -54,36 +57,38 @@ impl Record {
     };
 }
 
-// The library was compiled for this layout. Four bytes of padding stand before `permutations`.
+// The library was compiled for this layout.
 const _: () = {
     assert!(size_of::<Record>() == 392);
     assert!(offset_of!(Record, status) == 0);
     assert!(offset_of!(Record, field) == 4);
-    assert!(offset_of!(Record, state) == 8);
-    assert!(offset_of!(Record, words) == 104);
-    assert!(offset_of!(Record, count) == 360);
-    assert!(offset_of!(Record, phase) == 364);
-    assert!(offset_of!(Record, done) == 368);
-    assert!(offset_of!(Record, absorb_position) == 372);
-    assert!(offset_of!(Record, squeeze_position) == 376);
+    assert!(offset_of!(Record, form) == 8);
+    assert!(offset_of!(Record, state) == 12);
+    assert!(offset_of!(Record, words) == 108);
+    assert!(offset_of!(Record, count) == 364);
+    assert!(offset_of!(Record, phase) == 368);
+    assert!(offset_of!(Record, done) == 372);
+    assert!(offset_of!(Record, absorb_position) == 376);
+    assert!(offset_of!(Record, squeeze_position) == 380);
     assert!(offset_of!(Record, permutations) == 384);
     assert!(size_of::<usize>() == 8);
 };
 
-/// The version of the functions and of the record, from bit 32 on, and below it the bytes of a record: what [`tuilarder_layout_2`] answers in the
+/// The version of the functions and of the record, from bit 32 on, and below it the bytes of a record: what [`tuilarder_layout_3`] answers in the
 /// library that this crate is written for.
-pub const LAYOUT: u64 = (2 << 32) | 392;
+pub const LAYOUT: u64 = (3 << 32) | 392;
 
 extern "C" {
     /// What the library was compiled for: [`LAYOUT`]. A library of another version has no function of this name, and the build of this crate
     /// turns it away.
-    pub fn tuilarder_layout_2() -> u64;
+    pub fn tuilarder_layout_3() -> u64;
 
-    /// START: opens a session of a field in the record, whatever that held. Checks 18, 1, 2, 19, 3 and 6, in this order. Refused, it leaves
-    /// a wiped record.
+    /// START: opens a session of a field in the record, whatever that held, with the tag string of a form. Checks 18, 22, 1, 2, 19, 3 and 6, in
+    /// this order. Refused, it leaves a wiped record. [`Form`](crate::Form) says which form to take.
     pub fn tuilarder_start(
         record: *mut Record,
         field: u32,
+        form: u32,
         words: *const u32,
         words_len: usize,
         separator: *const u8,
@@ -109,9 +114,10 @@ extern "C" {
     /// 744 zeros and count 0.
     pub fn tuilarder_generate(field: u32, constants: *mut [u32; 744], count: *mut usize) -> u32;
 
-    /// Writes a tag string, from the start of `out` and only the string's bytes, and its length to `written`. Checks 1, 2, 19, 3, 6 and 12,
-    /// in this order. Refused, it writes nothing to `out`, and 0 to `written`.
+    /// Writes a tag string of a form, from the start of `out` and only the string's bytes, and its length to `written`. Checks 22, 1, 2, 19, 3, 6
+    /// and 12, in this order. Refused, it writes nothing to `out`, and 0 to `written`.
     pub fn tuilarder_write_tag(
+        form: u32,
         words: *const u32,
         words_len: usize,
         separator: *const u8,
@@ -121,15 +127,20 @@ extern "C" {
         written: *mut usize,
     ) -> u32;
 
-    /// Reads a tag string back, given the length of its separator: its merged words, with unused ones 0, and how many they are.
-    /// Checks 6 (of the length given), then 13. Refused, it gives 64 zero words and count 0. Merged words may be longer than a declared call:
-    /// [`tuilarder_cut`] makes words of them that START takes.
+    /// Reads a tag string of a form back: its merged words, with unused ones 0, and how many they are; and of its separator where in the string it
+    /// begins, and how many bytes it has. Checks 22, 6, then 13. In form 1 the separator is the string's last part, of the length given, which 6 is
+    /// of. In form 2 the string's last four bytes say how long the separator before them is, and 6 is of that; the length given is ignored, and a
+    /// string under four bytes gets 13. Refused, it gives 64 zero words, count 0, and as separator the empty part at the string's end. Merged words
+    /// may be longer than a declared call: [`tuilarder_cut`] makes words of them that START takes.
     pub fn tuilarder_read_tag(
+        form: u32,
         string: *const u8,
         len: usize,
         separator_len: usize,
         words: *mut [u32; 64],
         count: *mut usize,
+        separator_start: *mut usize,
+        separator_count: *mut usize,
     ) -> u32;
 
     /// Cuts words into calls that a pattern may declare, in order: a word longer than [`Pattern::MAX_CALL`](crate::Pattern::MAX_CALL) becomes

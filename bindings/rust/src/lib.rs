@@ -6,17 +6,24 @@
 //!
 //! # Separators
 //!
-//! **Every protocol of a verifier needs a separator of its own, and all of them one length.** Then, as is proved, no two of them share a tag
-//! string. Sessions of one tag string and field get the same challenges for the same messages, so a proof made for one protocol passes in the
-//! other.
-//! With one separator, two protocols share it where their merged patterns are equal: calls of 3 and 3 elements merge to one of 6. With
-//! separators of unequal length, other patterns can share it too: a tag string is the merged pattern's words in bytes with the separator
-//! behind them, and says nowhere where the separator begins. It does not say the field either, and what sessions of two fields squeeze is compared by
-//! no theorem: so their separators have to differ too.
+//! **Every protocol of a verifier needs a separator of its own, and all of them one [`Form`]: form 2, or form 1 with separators of one length.** Then, as
+//! is proved, no two of them share a tag string. Sessions of one tag string and field get the same challenges for the same messages, so a proof made
+//! for one protocol passes in the other.
+//!
+//! With one separator, two protocols share it where their merged patterns are equal: calls of 3 and 3 elements merge to one of 6. In form 1 a tag string
+//! is the merged pattern's words in bytes with the separator behind them, and says nowhere where the separator begins: with separators of unequal
+//! length, other patterns can share it too. In form 2 the separator's length stands behind that, and lengths are free.
+//!
+//! - [`Protocol::with_form`] with [`Form::Two`] opens sessions of form 2. Take it for a suite whose separators differ in length, or may once do.
+//! - [`Protocol::new`] opens sessions of form 1, for protocols whose separators all have one length.
+//!
+//! Between the forms nothing is said, since a tag string does not say its form: a separator of form 1 that ends with four bytes for its length can make
+//! the string of a protocol of form 2. It does not say the field either, and what sessions of two fields squeeze is compared by no theorem: so their
+//! separators have to differ too.
 //!
 //! Where a house hands out separators to its product lines, [`Owners`] is the table of which line has which.
 //!
-//! A note that is sealed by [`Seal`] is a session too: its separator is one of the verifier's, and no other protocol has it.
+//! A note that is sealed by [`Seal`] is a session too, of form 1 always: its separator is one of the verifier's, and no other protocol has it.
 //!
 //! # A protocol of two rounds
 //!
@@ -24,11 +31,11 @@
 //! same protocol and absorb the same messages, so both derive the same challenges.
 //!
 //! ```
-//! use tuilarder::{Call, Field, Pattern, Protocol, Refusal};
+//! use tuilarder::{Call, Field, Form, Pattern, Protocol, Refusal};
 //!
 //! fn challenges(commitment: [u32; 4], response: [u32; 2]) -> Result<[u32; 2], Refusal> {
 //!     let pattern = Pattern::new(&[Call::Absorb(4), Call::Squeeze(1), Call::Absorb(2), Call::Squeeze(1)])?;
-//!     let mut session = Protocol::new(Field::BabyBear, &pattern, b"two rounds")?.start();
+//!     let mut session = Protocol::with_form(Field::BabyBear, Form::Two, &pattern, b"two rounds")?.start();
 //!     session.absorb(&commitment)?;
 //!     let [first] = session.challenge()?;
 //!     session.absorb(&response)?;
@@ -63,6 +70,7 @@
 
 pub mod ffi;
 mod field;
+mod form;
 mod owners;
 mod pattern;
 mod protocol;
@@ -71,6 +79,7 @@ mod seal;
 mod session;
 
 pub use field::Field;
+pub use form::Form;
 pub use owners::{Owners, OwnersFault};
 pub use pattern::{Call, Pattern};
 pub use protocol::Protocol;

@@ -1,6 +1,7 @@
 use core::fmt;
 
 use crate::ffi;
+use crate::form::Form;
 use crate::refusal::{result, Refusal};
 
 /// The top bit of a word, set for ABSORB.
@@ -41,8 +42,8 @@ impl Call {
 /// The first is an ABSORB; the last may be of either kind.
 ///
 /// Two patterns are equal if they declare the same calls. The sponge sees merged patterns, in which neighbours of one kind are added
-/// together, so that a phase may be longer than a call: with separators of one length, two protocols have the same tag string exactly if
-/// merged patterns and separators are both equal. Patterns that merge to the same have the same [`Pattern::merged`].
+/// together, so that a phase may be longer than a call: in form 2, and in form 1 with separators of one length, two protocols have the same tag
+/// string exactly if merged patterns and separators are both equal. Patterns that merge to the same have the same [`Pattern::merged`].
 ///
 /// Where a transcript ends on a message, so does its pattern. Its session ends only when all of that message is absorbed; but what is absorbed
 /// last bears on no challenge, since none is squeezed after it.
@@ -78,8 +79,8 @@ impl Pattern {
     /// The longest separator, in bytes.
     pub const MAX_SEPARATOR: usize = 256;
 
-    /// The longest tag string, in bytes: a buffer of this length is never too short.
-    pub const MAX_TAG_STRING: usize = 4 * Pattern::MAX_WORDS + Pattern::MAX_SEPARATOR;
+    /// The longest tag string, in bytes, which is one of form 2: a buffer of this length is never too short.
+    pub const MAX_TAG_STRING: usize = 4 * Pattern::MAX_WORDS + Pattern::MAX_SEPARATOR + 4;
 
     /// The pattern of these calls.
     ///
@@ -101,7 +102,7 @@ impl Pattern {
     ///
     /// [`Refusal`] 1, 2, 19 or 3, the first that applies, in this order.
     pub fn from_words(words: &[u32]) -> Result<Pattern, Refusal> {
-        write_tag(words, &[], &mut [0; 4 * Pattern::MAX_WORDS])?;
+        write_tag(Form::One, words, &[], &mut [0; 4 * Pattern::MAX_WORDS])?;
         let mut pattern = Pattern {
             words: [0; Pattern::MAX_WORDS],
             count: words.len(),
@@ -110,9 +111,9 @@ impl Pattern {
         Ok(pattern)
     }
 
-    /// The pattern and the separator that a tag string was written from, given the separator's length. The pattern is a merged one, with calls
-    /// longer than [`Pattern::MAX_CALL`] cut into calls of that length and any rest, and the separator is that part of the string. Together
-    /// they have this tag string.
+    /// The pattern and the separator that a tag string of form 1 was written from, given the separator's length. The pattern is a merged one, with
+    /// calls longer than [`Pattern::MAX_CALL`] cut into calls of that length and any rest, and the separator is that part of the string. Together
+    /// they have this tag string. [`Pattern::read_form_2`] reads the other form.
     ///
     /// # Errors
     ///
@@ -120,12 +121,20 @@ impl Pattern {
     /// string is read, but 64 calls do not suffice for its words, so no pattern and separator of that length have it. The words themselves are
     /// then only given by [`ffi::tuilarder_read_tag`].
     pub fn read(string: &[u8], separator_length: usize) -> Result<(Pattern, &[u8]), Refusal> {
-        let (mut words, mut count) = ([0; Pattern::MAX_WORDS], 0);
-        // SAFETY: the string is valid for its length, and the words and the count are this function's own.
-        let number =
-            unsafe { ffi::tuilarder_read_tag(string.as_ptr(), string.len(), separator_length, &mut words, &mut count) };
-        result(number)?;
-        Ok((cut(&words[..count])?, &string[string.len() - separator_length..]))
+        read(Form::One, string, separator_length)
+    }
+
+    /// The pattern and the separator that a tag string of form 2 was written from: the string says itself how long its separator is. The pattern
+    /// is cut as [`Pattern::read`] cuts it, and the separator is that part of the string.
+    ///
+    /// # Errors
+    ///
+    /// [`Refusal::SeparatorTooLong`] (6, of the length that the last four bytes name), then [`Refusal::NotTagString`] (13, of a string under four bytes
+    /// too), then [`Refusal::WordCountOutOfRange`] (1): the string is read, but 64 calls do not suffice for its words, so no pattern and separator
+    /// have it.
+    pub fn read_form_2(string: &[u8]) -> Result<(Pattern, &[u8]), Refusal> {
+        // no length is looked at in form 2
+        read(Form::Two, string, 0)
     }
 
     /// The words as they were declared.
@@ -150,13 +159,27 @@ impl Pattern {
             .0
     }
 
-    /// Writes the tag string of this pattern and a separator to the start of the buffer, and gives the part that was written.
+    /// Writes the tag string of form 1 of this pattern and a separator to the start of the buffer, and gives the part that was written.
+    ///
+    /// # Errors
+    ///
+    /// As [`Pattern::tag_string_with_form`].
+    pub fn tag_string<'a>(&self, separator: &[u8], buffer: &'a mut [u8]) -> Result<&'a [u8], Refusal> {
+        self.tag_string_with_form(Form::One, separator, buffer)
+    }
+
+    /// Writes the tag string of a form of this pattern and a separator to the start of the buffer, and gives the part that was written.
     ///
     /// # Errors
     ///
     /// [`Refusal::SeparatorTooLong`] (6), then [`Refusal::BufferTooShort`] (12); nothing is written.
-    pub fn tag_string<'a>(&self, separator: &[u8], buffer: &'a mut [u8]) -> Result<&'a [u8], Refusal> {
-        let length = write_tag(self.words(), separator, buffer)?;
+    pub fn tag_string_with_form<'a>(
+        &self,
+        form: Form,
+        separator: &[u8],
+        buffer: &'a mut [u8],
+    ) -> Result<&'a [u8], Refusal> {
+        let length = write_tag(form, self.words(), separator, buffer)?;
         Ok(&buffer[..length])
     }
 }
@@ -166,6 +189,28 @@ impl fmt::Debug for Pattern {
         f.write_str("Pattern ")?;
         f.debug_list().entries(self.calls()).finish()
     }
+}
+
+/// The pattern of a tag string, and the part of the string that is its separator.
+fn read(form: Form, string: &[u8], separator_length: usize) -> Result<(Pattern, &[u8]), Refusal> {
+    let (mut words, mut count) = ([0; Pattern::MAX_WORDS], 0);
+    let (mut separator_start, mut separator_count) = (0, 0);
+    // SAFETY: the string is valid for its length, and what is written is this function's own.
+    let number = unsafe {
+        ffi::tuilarder_read_tag(
+            form.number(),
+            string.as_ptr(),
+            string.len(),
+            separator_length,
+            &mut words,
+            &mut count,
+            &mut separator_start,
+            &mut separator_count,
+        )
+    };
+    result(number)?;
+    let separator = &string[separator_start..separator_start + separator_count];
+    Ok((cut(&words[..count])?, separator))
 }
 
 /// The pattern of the words of a tag string, which are merged, and may be longer than a call.
@@ -181,11 +226,12 @@ fn cut(words: &[u32]) -> Result<Pattern, Refusal> {
 }
 
 /// Writes a tag string to the start of a buffer, and gives its length.
-fn write_tag(words: &[u32], separator: &[u8], buffer: &mut [u8]) -> Result<usize, Refusal> {
+fn write_tag(form: Form, words: &[u32], separator: &[u8], buffer: &mut [u8]) -> Result<usize, Refusal> {
     let mut written = 0;
     // SAFETY: the three slices are valid for their lengths, and no two of buffer, `written` and the rest overlap.
     let number = unsafe {
         ffi::tuilarder_write_tag(
+            form.number(),
             words.as_ptr(),
             words.len(),
             separator.as_ptr(),

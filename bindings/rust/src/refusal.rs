@@ -53,6 +53,7 @@ refusals! {
     4 LastWordAbsorb "last word is ABSORB (unused)",
     /// Nothing gives it: 64 calls of [`Pattern::MAX_CALL`](crate::Pattern::MAX_CALL) elements add up to less.
     5 MergedLengthTooLong "merged length above 2147483647 (unused)",
+    /// Of a tag string of form 2 that is read, it says that the string's last four bytes name so long a separator.
     6 SeparatorTooLong "separator over 256 bytes",
     7 RecordNotOpen "record not open",
     8 RecordNotSound "open record not sound",
@@ -63,6 +64,7 @@ refusals! {
     /// The record is wiped.
     11 PatternNotDone "FINISH before the last phase's end",
     12 BufferTooShort "lent buffer shorter than the tag string",
+    /// In form 2 the length is that which the string's last four bytes name, and a string under four bytes names none.
     13 NotTagString "no tag string of that separator length",
     /// [`OwnersFault::Row`](crate::OwnersFault::Row) says which row.
     15 OwnersRowInvalid "a row whose first is above its last or not above the previous row's last, a row 129 or a row cut short",
@@ -79,6 +81,9 @@ refusals! {
     20 SealLengthInvalid "no blocks or over 31, a block length of 0 or above 16,777,216, or any other lent list or buffer, key and nonce too, whose length isn't exactly what is needed",
     /// The buffer holds zeros, and nothing of the note.
     21 MarkDiffers "the mark differs",
+    /// Only functions of [`ffi`](crate::ffi) give it: a [`Form`](crate::Form) has a known number. It is checked straight behind 18, and where there is no
+    /// field first.
+    22 FormUnknown "form number neither 1 nor 2",
 }
 
 impl core::error::Error for Refusal {}

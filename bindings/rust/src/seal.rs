@@ -59,9 +59,12 @@ use crate::refusal::{result, Refusal};
 ///
 /// # Separators of one length
 ///
-/// **All separators under one key have one length**, as those of a verifier's protocols have. With lengths 3 and 8 and a separator S a note has the tag
-/// string that length 3 has with the separator 8000000800000008 followed by S. Who knows the second block of such a note has, without the key, a
-/// note of three elements that opens with that separator.
+/// **All separators under one key have one length**, since a note's tag string is of [form 1](crate::Form), whatever form a verifier's protocols
+/// have. With lengths 3 and 8 and a separator S a note has the tag string that length 3 has with the separator 8000000800000008 followed by S. Who
+/// knows the second block of such a note has, without the key, a note of three elements that opens with that separator.
+///
+/// Beside protocols of form 2, let a note's separator end with four letters. As a number of four bytes they are above 256, so that the note's tag
+/// string is one of form 2 of no protocol.
 ///
 /// How many elements a note has, and in which blocks, is not hidden. No strength against attack is claimed.
 #[derive(Clone, Copy)]

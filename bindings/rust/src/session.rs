@@ -4,6 +4,7 @@ use core::sync::atomic::{compiler_fence, Ordering};
 
 use crate::ffi::{self, Record};
 use crate::field::Field;
+use crate::form::Form;
 use crate::refusal::{result, Refusal};
 
 /// One use of the sponge, from START to FINISH. [`Protocol::start`](crate::Protocol::start) opens one.
@@ -79,6 +80,11 @@ impl Session {
     /// The field that its elements are of; none where the record is wiped or has another number.
     pub fn field(&self) -> Option<Field> {
         Field::from_number(self.record.field)
+    }
+
+    /// The form of the tag string that it was opened with; none where the record is wiped or has another number.
+    pub fn form(&self) -> Option<Form> {
+        Form::from_number(self.record.form)
     }
 
     /// How many permutations the session has had.

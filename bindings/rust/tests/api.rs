@@ -2,15 +2,15 @@
 //!
 //! Squeezed elements, permuted states and round constants are from the second implementation, in Python, of documents 01 and 02. The numbers
 //! and their conditions are those of docs/NUMBERS.md, the examples those of document 01's table, "Calls turned away"; B1 to B7 are its samples.
-//! What tables of owners give, and how words are cut, is worked out by hand from document 02. Sealed notes are from the second implementation too.
+//! What tables of owners give, how words are cut, and the strings of form 2 are worked out by hand from document 02. Sealed notes are from the second implementation too.
 
 use std::mem::{size_of, ManuallyDrop};
 use std::ptr;
 
 use tuilarder::ffi::Record;
 use tuilarder::{
-    permute, round_constants, sha3_256, Call, Field, Owners, OwnersFault, Pattern, Protocol, Refusal, Seal, Session,
-    CAPACITY, MAX_ROUND_CONSTANTS, RATE, WIDTH,
+    permute, round_constants, sha3_256, Call, Field, Form, Owners, OwnersFault, Pattern, Protocol, Refusal, Seal,
+    Session, CAPACITY, MAX_ROUND_CONSTANTS, RATE, WIDTH,
 };
 use Call::{Absorb, Squeeze};
 use Field::{BabyBear, KoalaBear};
@@ -44,8 +44,8 @@ fn refused_with(number: u32) -> Vec<Result<(), Refusal>> {
         4 | 5 => vec![],
         6 | 12 | 13 => strings_refused_with(number),
         15..=17 => owners_refused_with(number),
-        // a field's number is known
-        18 => vec![],
+        // the number of a field and that of a form are known
+        18 | 22 => vec![],
         20 | 21 => notes_refused_with(number),
         _ => sessions_refused_with(number),
     }
@@ -65,6 +65,8 @@ fn patterns_refused_with(number: u32) -> Vec<Result<(), Refusal>> {
             Pattern::read(&[0xff, 0xff, 0xff, 0xff, 0, 0, 0, 1], 0).map(drop),
             Pattern::read(&[0xbf, 0, 0, 1, 0, 0, 0, 1], 0).map(drop),
             Pattern::read(&[0xc0, 0, 0, 1], 0).map(drop),
+            Pattern::read_form_2(&[0xff, 0xff, 0xff, 0xff, 0, 0, 0, 1, 0, 0, 0, 0]).map(drop),
+            Pattern::read_form_2(&[0xc0, 0, 0, 1, 7, 0, 0, 0, 1]).map(drop),
         ],
         2 => vec![words(&[0x80000003, 0x00000000]), calls(&[Absorb(3), Squeeze(0)])],
         3 => vec![words(&[0x00000001]), calls(&[Squeeze(1)])],
@@ -86,8 +88,17 @@ fn strings_refused_with(number: u32) -> Vec<Result<(), Refusal>> {
         6 => vec![
             Protocol::new(BabyBear, &one_and_one(), &long).map(drop),
             Protocol::new(KoalaBear, &one_and_one(), &long).map(drop),
+            Protocol::with_form(BabyBear, Form::One, &one_and_one(), &long).map(drop),
+            Protocol::with_form(KoalaBear, Form::Two, &one_and_one(), &long).map(drop),
             one_and_one().tag_string(&long, &mut [0; 1024]).map(drop),
+            one_and_one()
+                .tag_string_with_form(Form::Two, &long, &mut [0; 1024])
+                .map(drop),
             Pattern::read(&long, 257).map(drop),
+            // a tail above 256, however few bytes precede it
+            Pattern::read_form_2(&[0xff; 4]).map(drop),
+            Pattern::read_form_2(&[0, 0, 1, 1]).map(drop),
+            Pattern::read_form_2(&[0x80, 0, 0, 1, 0, 0, 1, 1]).map(drop),
             Seal {
                 separator: &long,
                 ..note()
@@ -99,11 +110,20 @@ fn strings_refused_with(number: u32) -> Vec<Result<(), Refusal>> {
             }
             .open(&SEALED, &mut [0; 3]),
         ],
-        12 => vec![b1().tag_string(b"AB", &mut [0; 9]).map(drop)],
+        12 => vec![
+            b1().tag_string(b"AB", &mut [0; 9]).map(drop),
+            b1().tag_string_with_form(Form::Two, b"AB", &mut [0; 13]).map(drop),
+        ],
         _ => vec![
             Pattern::read(&[0, 0, 0, 1], 0).map(drop),
             Pattern::read(&[], 0).map(drop),
             Pattern::read(&[], 1).map(drop),
+            // under four bytes, and a tail that names one byte more than precede it
+            Pattern::read_form_2(&[]).map(drop),
+            Pattern::read_form_2(&[0, 0, 0]).map(drop),
+            Pattern::read_form_2(&[0, 0, 0, 0]).map(drop),
+            Pattern::read_form_2(&[0, 0, 0, 1]).map(drop),
+            Pattern::read_form_2(&[0x80, 0, 0, 1, 0, 0, 0, 5]).map(drop),
         ],
     }
 }
@@ -111,16 +131,26 @@ fn strings_refused_with(number: u32) -> Vec<Result<(), Refusal>> {
 fn sessions_refused_with(number: u32) -> Vec<Result<(), Refusal>> {
     match number {
         7 => on_each_call(Record::WIPED),
-        8 => [(1, 9), (2, 9), (0, 0), (3, 0), (1 << 31, 0)]
-            .into_iter()
-            .flat_map(|(field, absorb_position)| {
-                on_each_call(Record {
-                    field,
-                    absorb_position,
-                    ..*opened().record()
-                })
+        8 => [
+            (1, 1, 9),
+            (2, 2, 9),
+            (0, 1, 0),
+            (3, 1, 0),
+            (1 << 31, 1, 0),
+            (1, 0, 0),
+            (1, 3, 0),
+            (2, u32::MAX, 0),
+        ]
+        .into_iter()
+        .flat_map(|(field, form, absorb_position)| {
+            on_each_call(Record {
+                field,
+                form,
+                absorb_position,
+                ..*opened().record()
             })
-            .collect(),
+        })
+        .collect(),
         9 => vec![
             opened().squeeze(&mut [0]),
             opened().absorb(&[1, 1]),
@@ -317,6 +347,18 @@ fn a_pattern_has_at_most_64_words() {
     assert_eq!(pattern.merged(), pattern);
     let mut buffer = [0; Pattern::MAX_TAG_STRING];
     assert_eq!(pattern.tag_string(&[7; 256], &mut buffer).unwrap().len(), 512);
+    let string = pattern.tag_string_with_form(Form::Two, &[7; 256], &mut buffer).unwrap();
+    assert_eq!((string.len(), &string[255..257]), (516, &[64, 7][..]));
+    assert_eq!(string[511..], [7, 0, 0, 1, 0]);
+    assert_eq!(Pattern::read_form_2(string), Ok((pattern.clone(), &[7; 256][..])));
+    let mut short = [9; 515];
+    assert_eq!(
+        pattern.tag_string_with_form(Form::Two, &[7; 256], &mut short),
+        Err(Refusal::BufferTooShort)
+    );
+    assert_eq!(short, [9; 515]);
+    let protocol = Protocol::with_form(KoalaBear, Form::Two, &pattern, &[7; 256]).unwrap();
+    assert_eq!((protocol.tag_string(), protocol.separator()), (string, &[7; 256][..]));
 }
 
 /// 80000001 is document 01's example for 4, and 80000003 with length 0 its example for 13.
@@ -420,6 +462,105 @@ fn a_string_is_read_by_the_length_of_its_separator() {
     assert_eq!(Pattern::read(&string, 16), Err(Refusal::NotTagString));
     assert_eq!(Pattern::read(&string, 2), Err(Refusal::NotTagString));
     assert_eq!(Pattern::read(&string, 17), Err(Refusal::NotTagString));
+}
+
+/// "words, separator, then the separator's length as four bytes, highest first"; B1's in form 2.
+#[test]
+fn a_string_of_form_2_is_written_and_read_back() {
+    let string = [0x80, 0, 0, 6, 0, 0, 0, 3, 0x41, 0x42, 0, 0, 0, 2];
+    let mut buffer = [7; 16];
+    assert_eq!(
+        b1().tag_string_with_form(Form::Two, b"AB", &mut buffer),
+        Ok(&string[..])
+    );
+    assert_eq!(buffer[14..], [7, 7]);
+    assert_eq!(
+        b1().tag_string_with_form(Form::One, b"AB", &mut buffer),
+        Ok(&string[..10])
+    );
+    let (pattern, separator) = Pattern::read_form_2(&string).unwrap();
+    assert_eq!(pattern, b1().merged());
+    assert!(ptr::eq(separator, &string[8..10]));
+    assert_eq!(
+        pattern.tag_string_with_form(Form::Two, separator, &mut [0; 14]),
+        Ok(&string[..])
+    );
+    // in form 1 the tail is a part of the separator
+    assert_eq!(Pattern::read(&string, 6), Ok((b1().merged(), &string[8..])));
+}
+
+/// An empty separator, in form 2 and as form 1 reads the string.
+#[test]
+fn a_separator_may_be_empty_in_form_2() {
+    let string = [0x80, 0, 0, 1, 0, 0, 0, 0];
+    let one = Pattern::new(&[Absorb(1)]).unwrap();
+    assert_eq!(one.tag_string_with_form(Form::Two, &[], &mut [7; 8]), Ok(&string[..]));
+    let (pattern, separator) = Pattern::read_form_2(&string).unwrap();
+    assert_eq!(pattern, one);
+    assert!(ptr::eq(separator, &string[4..4]));
+    assert_eq!(Pattern::read(&string, 0), Err(Refusal::NotTagString));
+    assert_eq!(Pattern::read(&string, 4), Ok((one, &string[4..])));
+}
+
+/// 260 bytes precede the last four. What these name is compared with 256 first, and lowest byte first they would name other lengths.
+#[test]
+fn a_string_of_form_2_is_read_by_its_last_four_bytes() {
+    let read = |tail: [u8; 4]| {
+        let string = [&[0x80, 0, 0, 1][..], &[7; 256], &tail].concat();
+        Pattern::read_form_2(&string).map(|(pattern, separator)| (pattern.words().to_vec(), separator.to_vec()))
+    };
+    assert_eq!(read([0, 0, 1, 0]), Ok((vec![0x80000001], vec![7; 256])));
+    assert_eq!(read([0, 0, 0, 255]), Err(Refusal::NotTagString));
+    assert_eq!(read([0, 0, 0, 254]), Err(Refusal::NotTagString));
+    for tail in [[0, 0, 1, 1], [0, 0, 1, 4], [0, 0, 1, 5], [1, 0, 0, 0], [0xff; 4]] {
+        assert_eq!(read(tail), Err(Refusal::SeparatorTooLong));
+    }
+    // two words, and a tail that names what precedes it, all but the first word, and one byte more than precedes it
+    let string = |tail| [0x80, 0, 0, 1, 0, 0, 0, 1, 0, 0, 0, tail];
+    assert_eq!(Pattern::read_form_2(&string(8)), Err(Refusal::NotTagString));
+    assert_eq!(Pattern::read_form_2(&string(9)), Err(Refusal::NotTagString));
+    let one = Pattern::new(&[Absorb(1)]).unwrap();
+    assert_eq!(Pattern::read_form_2(&string(4)), Ok((one, &[0, 0, 0, 1][..])));
+    assert_eq!(Pattern::read_form_2(&string(0)), Ok((one_and_one(), &[][..])));
+}
+
+/// B2's patterns and separators.
+#[test]
+fn form_2_tells_separators_of_unequal_length() {
+    let long = Pattern::new(&[Absorb(1), Squeeze(1), Absorb(2), Squeeze(2)]).unwrap();
+    let b2 = |form| {
+        [
+            Protocol::with_form(BabyBear, form, &one_and_one(), &[0x80, 0, 0, 2, 0, 0, 0, 2]).unwrap(),
+            Protocol::with_form(BabyBear, form, &long, &[]).unwrap(),
+        ]
+    };
+    let [first, second] = b2(Form::One);
+    assert_eq!(first.tag_string(), second.tag_string());
+    assert_eq!(first.start().record().state, second.start().record().state);
+    let [first, second] = b2(Form::Two);
+    let words = [0x80, 0, 0, 1, 0, 0, 0, 1, 0x80, 0, 0, 2, 0, 0, 0, 2];
+    assert_eq!(first.tag_string(), [&words[..], &[0, 0, 0, 8]].concat());
+    assert_eq!(second.tag_string(), [&words[..], &[0; 4]].concat());
+    assert_ne!(first.start().record().state, second.start().record().state);
+    for protocol in [first, second] {
+        let read = Pattern::read_form_2(protocol.tag_string());
+        assert_eq!(read, Ok((protocol.pattern().clone(), protocol.separator())));
+    }
+}
+
+/// A string does not say its form: this is one of form 1 and one of form 2, of one pattern.
+#[test]
+fn a_string_may_be_of_either_form() {
+    let in_form_1 = Protocol::new(BabyBear, &one_and_one(), b"coin\0\0\0\x04").unwrap();
+    let in_form_2 = Protocol::with_form(BabyBear, Form::Two, &one_and_one(), b"coin").unwrap();
+    assert_eq!(in_form_1.tag_string(), in_form_2.tag_string());
+    assert_ne!(in_form_1, in_form_2);
+    // one that ends with four letters is none of form 2
+    let letters = Protocol::new(BabyBear, &one_and_one(), b"coin").unwrap();
+    assert_eq!(
+        Pattern::read_form_2(letters.tag_string()),
+        Err(Refusal::SeparatorTooLong)
+    );
 }
 
 /// Absorbs the numbers from `first` on in one call a phase. Gives the elements squeezed, and the permutations before FINISH.
@@ -537,10 +678,42 @@ fn a_protocol_holds_what_it_was_made_of() {
     assert_eq!(protocol.tag_string(), [0x80, 0, 0, 6, 0, 0, 0, 3, b'A', b'"']);
     assert_eq!(
         format!("{protocol:?}"),
-        r#"Protocol { field: KoalaBear, pattern: Pattern [Absorb(3), Absorb(3), Squeeze(3)], separator: "A\"" }"#
+        r#"Protocol { field: KoalaBear, form: One, pattern: Pattern [Absorb(3), Absorb(3), Squeeze(3)], separator: "A\"" }"#
     );
     let none = Protocol::new(BabyBear, &b1(), b"").unwrap();
     assert_eq!((none.separator(), none.tag_string().len()), (&[][..], 8));
+    let in_form_2 = Protocol::with_form(KoalaBear, Form::Two, &b1(), b"A\"").unwrap();
+    assert_eq!((protocol.form(), in_form_2.form()), (Form::One, Form::Two));
+    assert_eq!((in_form_2.field(), in_form_2.pattern()), (KoalaBear, &b1()));
+    assert_eq!(in_form_2.separator(), b"A\"");
+    assert_eq!(
+        in_form_2.tag_string(),
+        [0x80, 0, 0, 6, 0, 0, 0, 3, b'A', b'"', 0, 0, 0, 2]
+    );
+    assert!(format!("{in_form_2:?}").starts_with("Protocol { field: KoalaBear, form: Two, "));
+}
+
+/// The record keeps the form; wiped, it has none.
+#[test]
+fn a_protocol_opens_sessions_of_its_form() {
+    for (form, number) in [(Form::One, 1), (Form::Two, 2)] {
+        let protocol = Protocol::with_form(KoalaBear, form, &one_and_one(), b"tag").unwrap();
+        let mut session = protocol.start();
+        assert_eq!((session.form(), session.record().form), (Some(form), number));
+        session.absorb(&[1]).unwrap();
+        session.challenge::<1>().unwrap();
+        assert_eq!(session.form(), Some(form));
+        assert_eq!(session.absorb(&[1]), Err(Refusal::CallNotInPattern));
+        assert_eq!((session.form(), session.record().form), (None, 0));
+        for number in [0, 3, 1 << 31, u32::MAX] {
+            let record = Record {
+                form: number,
+                ..*protocol.start().record()
+            };
+            assert_eq!(Session::from_record(record).form(), None);
+        }
+    }
+    assert_eq!(opened().form(), Some(Form::One));
 }
 
 /// The tag, and so the first state, does not depend on the field.
@@ -563,7 +736,7 @@ fn a_protocol_opens_sessions_of_its_field() {
 }
 
 #[test]
-fn protocols_are_equal_if_all_three_are() {
+fn protocols_are_equal_if_all_four_are() {
     let merged = b1().merged();
     let others = [
         (KoalaBear, &b1(), &b"two rounds"[..]),
@@ -576,6 +749,9 @@ fn protocols_are_equal_if_all_three_are() {
     for (field, pattern, separator) in others {
         assert_ne!(protocol, Protocol::new(field, pattern, separator).unwrap());
     }
+    let of = |form| Protocol::with_form(BabyBear, form, &b1(), b"two rounds").unwrap();
+    assert_eq!(protocol, of(Form::One));
+    assert_ne!(protocol, of(Form::Two));
 }
 
 #[test]
@@ -642,6 +818,7 @@ fn dropping_wipes_the_whole_record() {
     let record = Record {
         status: ONES,
         field: ONES,
+        form: ONES,
         state: [ONES; 24],
         words: [ONES; 64],
         count: ONES,
@@ -880,6 +1057,11 @@ fn the_figures_are_the_documents() {
     let known = [BabyBear, KoalaBear].map(|field| Field::from_number(field.number()));
     assert_eq!(known, [Some(BabyBear), Some(KoalaBear)]);
     assert_eq!([0, 3, 1 << 31, u32::MAX].map(Field::from_number), [None; 4]);
+    assert_eq!((Form::One.number(), Form::Two.number()), (1, 2));
+    let known = [Form::One, Form::Two].map(|form| Form::from_number(form.number()));
+    assert_eq!(known, [Some(Form::One), Some(Form::Two)]);
+    assert_eq!([0, 3, 1 << 31, u32::MAX].map(Form::from_number), [None; 4]);
+    assert_eq!(Pattern::MAX_TAG_STRING, 4 * 64 + 256 + 4);
 }
 
 const fn shared_between_threads<T: Send + Sync>() {}
@@ -888,6 +1070,7 @@ const _: () = {
     shared_between_threads::<Pattern>();
     shared_between_threads::<Protocol>();
     shared_between_threads::<Field>();
+    shared_between_threads::<Form>();
     shared_between_threads::<Call>();
     shared_between_threads::<Refusal>();
     shared_between_threads::<Owners>();

@@ -34,6 +34,8 @@ by_both! {
     long_calls
     tags_written_and_read_back
     reading_of_any_string
+    tails_of_any_string
+    strings_of_up_to_8_bytes
     words_cut_into_calls
     long_words_read_cut_and_written
     hashes_of_any_bytes
@@ -41,6 +43,7 @@ by_both! {
     constants_of_any_field
     elements_between_the_primes
     records_of_the_other_field
+    records_of_the_other_form
     owners_by_any_table
     notes_sealed_and_opened
 }
@@ -48,17 +51,26 @@ by_both! {
 fn start_on_any_pattern_and_separator(library: &'static dyn Interface) {
     let run = Run::of("start_on_any_pattern_and_separator", library, START_CALLS, |run| {
         let (words, separator) = (any_pattern(&mut run.random), any_separator(&mut run.random));
-        let (field, mut record) = (any_field(&mut run.random), Record::any(&mut run.random));
-        let number = run.call(&mut record, Call::Start(field, words, separator));
+        let (field, form) = (any_field(&mut run.random), any_form(&mut run.random));
+        let mut record = Record::any(&mut run.random);
+        let number = run.call(&mut record, Call::Start(field, form, words, separator));
         run.answered("field of a session", record.field);
-        assert_eq!(record.field, if number == 0 { field } else { 0 });
+        run.answered("form of a session", record.form);
+        assert_eq!(
+            (record.field, record.form),
+            if number == 0 { (field, form) } else { (0, 0) }
+        );
+        if !matches!((field, form), (1 | 2, 1 | 2)) {
+            assert_eq!(number, if matches!(field, 1 | 2) { 22 } else { 18 });
+        }
         if number == 0 {
             run.answered("ends with ABSORB", record.count % 2);
         }
     });
-    run.assert_numbers("START", &[0, 1, 2, 3, 6, 18, 19]);
+    run.assert_numbers("START", &[0, 1, 2, 3, 6, 18, 19, 22]);
     run.assert_numbers("ends with ABSORB", &[0, 1]);
     run.assert_numbers("field of a session", &[0, 1, 2]);
+    run.assert_numbers("form of a session", &[0, 1, 2]);
     assert!(run.session_calls() >= START_CALLS);
 }
 
@@ -67,8 +79,9 @@ fn open(run: &mut Run, record: &mut Record) {
     let count = phases(&mut run.random).min(9);
     let merged = merged_words(&mut run.random, count, short_length);
     let words = split_words(&mut run.random, &merged);
-    let (field, separator) = (known_field(&mut run.random), good_separator(&mut run.random));
-    assert_eq!(run.call(record, Call::Start(field, words, separator)), 0);
+    let (field, form) = (known_field(&mut run.random), known_form(&mut run.random));
+    let separator = good_separator(&mut run.random);
+    assert_eq!(run.call(record, Call::Start(field, form, words, separator)), 0);
 }
 
 /// One step with the sessions of a case: a fork, a call on a damaged copy, another START, or the next call of one.
@@ -186,9 +199,10 @@ fn long_calls(library: &'static dyn Interface) {
         let mut record = Record::any(&mut run.random);
         let (absorbed, squeezed) = (run.random.below(3000) as usize + 1, run.random.below(3000) as usize + 1);
         let (field, ends_with_absorb) = (1 + run.case as u32 % 2, run.case / 2 % 2 == 1);
+        let form = 1 + run.case as u32 / 4 % 2;
         let mut words = vec![ABSORB + absorbed as u32, squeezed as u32];
         words.extend(ends_with_absorb.then_some(ABSORB + absorbed as u32));
-        run.call(&mut record, Call::Start(field, words, vec![]));
+        run.call(&mut record, Call::Start(field, form, words, vec![]));
         let elements: Vec<u32> = (0..absorbed).map(|_| good_element(&mut run.random, field)).collect();
         assert_eq!(run.call(&mut record, Call::Absorb(elements.clone())), 0);
         let buffer = run.random.list(squeezed);
@@ -202,56 +216,122 @@ fn long_calls(library: &'static dyn Interface) {
 }
 
 fn tags_written_and_read_back(library: &'static dyn Interface) {
-    let run = Run::of("tags_written_and_read_back", library, 20_000, |run| {
+    let run = Run::of("tags_written_and_read_back", library, 25_000, |run| {
         let (words, separator) = (any_pattern(&mut run.random), any_separator(&mut run.random));
-        let needed = independent::write_tag(&words, &separator, &mut [0; 512]).unwrap_or(40);
-        let any = run.random.below(521) as usize;
+        let form = any_form(&mut run.random);
+        let needed = independent::write_tag(form, &words, &separator, &mut [0; 516]).unwrap_or(40);
+        let any = run.random.below(525) as usize;
         let size = run
             .random
-            .pick(&[needed, needed, needed + 1, needed + 9, needed - 1, any, 0]);
-        let (number, string) = run.write_tag(&words, &separator, size);
+            .pick(&[needed, needed, needed + 1, needed + 9, needed - 1, needed - 4, any, 0]);
+        let (number, string) = run.write_tag(form, &words, &separator, size);
         if number == 0 {
-            let (number, merged) = run.read_tag(&string, separator.len());
-            assert_eq!(number, 0);
+            run.answered("form of a string", form);
+            // "ignores any length given"
+            let given = match form {
+                1 => separator.len(),
+                _ => any_given(&mut run.random, &string, separator.len()),
+            };
+            let (number, merged, read) = run.read_tag(form, &string, given);
+            assert_eq!((number, &read), (0, &separator));
             let (number, calls) = run.cut(&merged);
             assert_eq!(number, 0);
             assert!(calls.len() <= words.len());
-            assert_eq!(run.write_tag(&calls, &separator, size), (0, string));
+            assert_eq!(run.write_tag(form, &calls, &separator, size), (0, string));
             run.answered("cut further", u32::from(calls != merged));
         }
     });
-    run.assert_numbers("write_tag", &[0, 1, 2, 3, 6, 12, 19]);
+    run.assert_numbers("write_tag", &[0, 1, 2, 3, 6, 12, 19, 22]);
+    run.assert_numbers("form of a string", &[1, 2]);
     run.assert_numbers("cut further", &[0, 1]);
     assert!(run.total(&["write_tag", "read_tag"]) >= 30_000);
 }
 
+/// Any words that reading may accept, and a string of them, at times with too many.
+fn words_to_read(random: &mut Random) -> Vec<u32> {
+    let mut words = merged_words(random, 68, any_length);
+    words.truncate(random.pick(&[0, 1, 2, 2, 3, 4, 6, 62, 63, 64, 64, 65, 66, 68]));
+    words
+}
+
 fn reading_of_any_string(library: &'static dyn Interface) {
-    let run = Run::of("reading_of_any_string", library, 30_000, |run| {
+    let run = Run::of("reading_of_any_string", library, 40_000, |run| {
         let random = &mut run.random;
-        let mut words = merged_words(random, 68, any_length);
-        words.truncate(random.pick(&[0, 1, 2, 2, 3, 4, 6, 62, 63, 64, 64, 65, 66, 68]));
-        let separator = any_separator(random);
-        let mut string: Vec<u8> = words.iter().flat_map(|word| word.to_be_bytes()).collect();
-        string.extend(&separator);
+        let (words, separator, form) = (words_to_read(random), any_separator(random), any_form(random));
+        let mut string = string_of(form, &words, &separator);
         for _ in 0..random.pick(&[0, 0, 0, 1, 2]) {
             damage_string(random, &mut string);
         }
-        let given = separator.len();
-        let near = given.wrapping_add(random.below(9) as usize).wrapping_sub(4);
-        let far = random.pick(&[
-            0,
-            255,
-            256,
-            257,
-            string.len(),
-            string.len() + 1,
-            usize::MAX,
-            given | 1 << 32,
-        ]);
-        let separator_length = random.pick(&[given, given, given, near, far]);
-        run.read_tag(&string, separator_length);
+        let given = any_given(random, &string, separator.len());
+        let number = run.read_tag(form, &string, given).0;
+        let name = ["read in form 1", "read in form 2"].get(form.wrapping_sub(1) as usize);
+        if let Some(name) = name {
+            run.answered(name, number);
+        }
+    });
+    run.assert_numbers("read_tag", &[0, 6, 13, 22]);
+    run.assert_numbers("read in form 1", &[0, 6, 13]);
+    run.assert_numbers("read in form 2", &[0, 6, 13]);
+}
+
+/// "Reading form 2 goes by the string's last four bytes": any of them, behind words and any bytes. What is read has the string again.
+fn tails_of_any_string(library: &'static dyn Interface) {
+    let run = Run::of("tails_of_any_string", library, 30_000, |run| {
+        let random = &mut run.random;
+        let mut string = string_of(1, &words_to_read(random), &any_separator(random));
+        let tail = any_tail(random, string.len());
+        let preceding = string.len();
+        string.extend(tail.to_be_bytes());
+        let given = any_given(random, &string, tail as usize);
+        let (number, words, separator) = run.read_tag(2, &string, given);
+        if number == 0 {
+            assert_eq!(string_of(2, &words, &separator), string);
+        }
+        // "a tail above 256 gets 6 before that"
+        let of_tail = [(257, u32::MAX, 6), (preceding as u32 + 1, 256, 13)];
+        for (first, last, wanted) in of_tail {
+            if (first..=last).contains(&tail) {
+                assert_eq!(number, wanted, "tail {tail}");
+            }
+        }
+        match tail as usize {
+            256 => run.answered("tail 256", number),
+            257 => run.answered("tail 257", number),
+            tail if tail == preceding => run.answered("all that precedes", number),
+            tail if tail == preceding + 1 => run.answered("one more than precedes", number),
+            _ => (),
+        }
     });
     run.assert_numbers("read_tag", &[0, 6, 13]);
+    run.assert_reached("tail 256", &[0, 13]);
+    run.assert_numbers("tail 257", &[6]);
+    run.assert_reached("all that precedes", &[6, 13]);
+    run.assert_reached("one more than precedes", &[6, 13]);
+}
+
+/// In form 2 a string has four bytes at least, and with four bytes before them the shortest word.
+fn strings_of_up_to_8_bytes(library: &'static dyn Interface) {
+    let run = Run::of("strings_of_up_to_8_bytes", library, 9 * 1_000, |run| {
+        let size = run.case as usize % 9;
+        let random = &mut run.random;
+        let word = ABSORB + random.pick(&[0, 1, 3, LONGEST_CALL + 1]);
+        let tail = random.pick(&[0, 0, 1, 3, 4, 5, 256, 257, u32::MAX]);
+        let mut string: Vec<u8> = [word, tail].map(u32::to_be_bytes).concat();
+        string.drain(..8 - size);
+        if random.once_in(4) {
+            string = random.list(size);
+        }
+        let given = random.pick(&[0, 1, 4, 256, 257, usize::MAX]);
+        let number = run.read_tag(2, &string, given).0;
+        if size < 4 {
+            assert_eq!(number, 13);
+        }
+        run.answered(["under 4 bytes", "4 to 7 bytes", "8 bytes"][size / 4], number);
+        run.read_tag(1, &string, given);
+    });
+    run.assert_numbers("under 4 bytes", &[13]);
+    run.assert_numbers("4 to 7 bytes", &[6, 13]);
+    run.assert_numbers("8 bytes", &[0, 6, 13]);
 }
 
 fn words_cut_into_calls(library: &'static dyn Interface) {
@@ -275,19 +355,21 @@ fn long_words_read_cut_and_written(library: &'static dyn Interface) {
             0 => words_of_about_64_calls(&mut run.random),
             _ => merged_words(&mut run.random, count, any_length),
         };
-        let (field, separator) = (known_field(&mut run.random), good_separator(&mut run.random));
-        let mut string: Vec<u8> = words.iter().flat_map(|word| word.to_be_bytes()).collect();
-        string.extend(&separator);
-        assert_eq!(run.read_tag(&string, separator.len()), (0, words.clone()));
+        let (field, form) = (known_field(&mut run.random), known_form(&mut run.random));
+        let separator = good_separator(&mut run.random);
+        let string = string_of(form, &words, &separator);
+        let read = run.read_tag(form, &string, separator.len());
+        assert_eq!(read, (0, words.clone(), separator.clone()));
         let (number, calls) = run.cut(&words);
         let mut record = Record::any(&mut run.random);
         if number == 0 {
-            assert_eq!(run.write_tag(&calls, &separator, string.len()), (0, string));
-            assert_eq!(run.call(&mut record, Call::Start(field, calls, separator.clone())), 0);
+            assert_eq!(run.write_tag(form, &calls, &separator, string.len()), (0, string));
+            let start = Call::Start(field, form, calls, separator.clone());
+            assert_eq!(run.call(&mut record, start), 0);
             assert_eq!(record.words[..words.len()], words);
         }
         let longest = words.iter().map(|word| length(*word)).max();
-        let number = run.call(&mut record, Call::Start(field, words, separator));
+        let number = run.call(&mut record, Call::Start(field, form, words, separator));
         assert_eq!(number, if longest > Some(LONGEST_CALL) { 19 } else { 0 });
     });
     run.assert_numbers("cut", &[0, 1]);
@@ -358,7 +440,8 @@ fn elements_between_the_primes(library: &'static dyn Interface) {
         let mut list = elements_of(&mut run.random, field);
         list[place] = between_the_primes(&mut run.random);
         let mut state: [u32; 24] = list[..].try_into().expect("24 elements");
-        let mut record = record_at(&mut run.random, field, &[ABSORB + 30, 30], 0, 0);
+        let form = known_form(&mut run.random);
+        let mut record = record_at(&mut run.random, field, form, &[ABSORB + 30, 30], 0, 0);
         let numbers = [
             run.call(&mut record, Call::Absorb(list)),
             run.call(&mut Record { state, ..record }, Call::Absorb(vec![1])),
@@ -389,6 +472,28 @@ fn records_of_the_other_field(library: &'static dyn Interface) {
         run.answered("sound", u32::from(sound));
     });
     run.assert_numbers("sound", &[0, 1]);
+}
+
+/// A session whose record says the other form, as no call leads to: it is sound, and goes on as before.
+fn records_of_the_other_form(library: &'static dyn Interface) {
+    let run = Run::of("records_of_the_other_form", library, 2_000, |run| {
+        let record = sound_record(&mut run.random);
+        let other = Record {
+            form: 3 - record.form,
+            ..record
+        };
+        let call = next_call(&mut run.random, &record, 12);
+        let (mut left, mut left_of_other) = (record, other);
+        let number = run.call(&mut left, call.clone());
+        assert_eq!(run.call(&mut left_of_other, call), number);
+        if left.status == 1 {
+            assert_eq!((left.form, left_of_other.form), (record.form, other.form));
+            left_of_other.form = left.form;
+        }
+        assert_eq!(left, left_of_other);
+        run.answered("form", record.form);
+    });
+    run.assert_numbers("form", &[1, 2]);
 }
 
 fn owners_by_any_table(library: &'static dyn Interface) {

@@ -6,7 +6,7 @@ use std::ops::{Deref, DerefMut};
 use std::{ptr, slice};
 
 use tuilarder::ffi::{self, Record};
-use tuilarder::{Call, Field, Owners, OwnersFault, Pattern, Protocol, Refusal, Seal, Session};
+use tuilarder::{Call, Field, Form, Owners, OwnersFault, Pattern, Protocol, Refusal, Seal, Session};
 
 const LENGTH: usize = (1 << 32) + 5;
 
@@ -66,7 +66,7 @@ fn open() -> Record {
     let mut record = Record::WIPED;
     // SAFETY: the pointers are to that many cells, and the lists are apart.
     assert_eq!(
-        unsafe { ffi::tuilarder_start(&mut record, 1, WORDS.as_ptr(), 2, [].as_ptr(), 0) },
+        unsafe { ffi::tuilarder_start(&mut record, 1, 1, WORDS.as_ptr(), 2, [].as_ptr(), 0) },
         0
     );
     record
@@ -101,7 +101,7 @@ fn pattern_of_more_than_32_bits_is_too_long() {
     words[..2].copy_from_slice(&WORDS);
     // SAFETY: the pointers are to that many cells, and the lists are apart.
     assert_eq!(
-        unsafe { ffi::tuilarder_start(&mut record, 1, words.as_ptr(), words.len(), [].as_ptr(), 0) },
+        unsafe { ffi::tuilarder_start(&mut record, 1, 2, words.as_ptr(), words.len(), [].as_ptr(), 0) },
         1
     );
     assert_eq!(record, Record::WIPED);
@@ -112,7 +112,7 @@ fn separator_of_more_than_32_bits_is_too_long() {
     let (separator, mut record) = (Zeros::<u8>::of(LENGTH), open());
     // SAFETY: the pointers are to that many cells, and the lists are apart.
     assert_eq!(
-        unsafe { ffi::tuilarder_start(&mut record, 1, WORDS.as_ptr(), 2, separator.as_ptr(), LENGTH) },
+        unsafe { ffi::tuilarder_start(&mut record, 1, 2, WORDS.as_ptr(), 2, separator.as_ptr(), LENGTH) },
         6
     );
     assert_eq!(record, Record::WIPED);
@@ -124,6 +124,7 @@ fn buffer_of_more_than_32_bits_is_long_enough() {
     // SAFETY: the pointers are to that many cells, and the lists are apart.
     let number = unsafe {
         ffi::tuilarder_write_tag(
+            1,
             WORDS.as_ptr(),
             2,
             [].as_ptr(),
@@ -137,13 +138,29 @@ fn buffer_of_more_than_32_bits_is_long_enough() {
     assert_eq!(out[..10], [0x80, 0, 0, 9, 0, 0, 0, 9, 0, 0]);
 }
 
+/// The first eight bytes alone are a tag string of the form.
 #[test]
 fn string_of_more_than_32_bits_is_no_tag_string() {
-    let (mut string, mut words, mut count) = (Zeros::<u8>::of((1 << 32) + 8), [77; 64], 77);
-    string[..8].copy_from_slice(&[0x80, 0, 0, 9, 0, 0, 0, 9]);
-    // SAFETY: the pointers are to that many cells, and the lists are apart.
-    let number = unsafe { ffi::tuilarder_read_tag(string.as_ptr(), string.len(), 0, &mut words, &mut count) };
-    assert_eq!((number, words, count), (13, [0; 64], 0));
+    let mut string = Zeros::<u8>::of((1 << 32) + 8);
+    for (form, last) in [(1, 9), (2, 0)] {
+        string[..8].copy_from_slice(&[0x80, 0, 0, 9, 0, 0, 0, last]);
+        let (mut words, mut count, mut start, mut length) = ([77; 64], 77, 77, 77);
+        // SAFETY: the pointers are to that many cells, and the lists are apart.
+        let number = unsafe {
+            ffi::tuilarder_read_tag(
+                form,
+                string.as_ptr(),
+                string.len(),
+                0,
+                &mut words,
+                &mut count,
+                &mut start,
+                &mut length,
+            )
+        };
+        assert_eq!((number, words, count), (13, [0; 64], 0));
+        assert_eq!((start, length), (string.len(), 0));
+    }
 }
 
 /// Zeros are words that stay, so that there are as many calls.
@@ -359,6 +376,8 @@ fn types_write_to_a_buffer_of_more_than_32_bits() {
     let string = [0x80, 0, 0, 9, 0, 0, 0, 9];
     assert_eq!(pattern().tag_string(&[], &mut out), Ok(&string[..]));
     assert_eq!((&out[..8], &out[8..10]), (&string[..], &[0, 0][..]));
+    let written = pattern().tag_string_with_form(Form::Two, &[7], &mut out);
+    assert_eq!(written, Ok(&[0x80, 0, 0, 9, 0, 0, 0, 9, 7, 0, 0, 0, 1][..]));
 }
 
 #[test]
@@ -366,6 +385,8 @@ fn types_read_no_string_of_more_than_32_bits() {
     let mut string = Zeros::<u8>::of((1 << 32) + 8);
     string[..8].copy_from_slice(&[0x80, 0, 0, 9, 0, 0, 0, 9]);
     assert_eq!(Pattern::read(&string, 0), Err(Refusal::NotTagString));
+    string[7] = 0;
+    assert_eq!(Pattern::read_form_2(&string), Err(Refusal::NotTagString));
 }
 
 #[test]

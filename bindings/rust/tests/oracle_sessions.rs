@@ -17,9 +17,9 @@ use stored::{bytes_of, words_of, Line};
 use tuilarder::ffi::Record;
 
 const PROGRAM: &str = "session_vectors";
-const LINES: usize = 8336;
-const CALLS: usize = 7194;
-const RECORDS: usize = 1142;
+const LINES: usize = 9009;
+const CALLS: usize = 7748;
+const RECORDS: usize = 1261;
 
 /// A record as its three lists: the numbers with the permutations as two words, the state, and the pattern words.
 type Lists = [Vec<u32>; 3];
@@ -29,6 +29,7 @@ fn lists_of(r: &Record) -> Lists {
     let numbers = [
         r.status,
         r.field,
+        r.form,
         r.count,
         r.phase,
         r.done,
@@ -46,14 +47,15 @@ fn record_of([numbers, state, words]: &Lists) -> Record {
     Record {
         status: numbers[0],
         field: numbers[1],
+        form: numbers[2],
         state: state[..].try_into().unwrap(),
         words: words[..].try_into().unwrap(),
-        count: numbers[2],
-        phase: numbers[3],
-        done: numbers[4],
-        absorb_position: numbers[5],
-        squeeze_position: numbers[6],
-        permutations: u64::from(numbers[7]) << 32 | u64::from(numbers[8]),
+        count: numbers[3],
+        phase: numbers[4],
+        done: numbers[5],
+        absorb_position: numbers[6],
+        squeeze_position: numbers[7],
+        permutations: u64::from(numbers[8]) << 32 | u64::from(numbers[9]),
     }
 }
 
@@ -62,12 +64,6 @@ struct Replay {
     by: &'static dyn Interface,
     record: Record,
     noise: Random,
-}
-
-fn word_of(digits: &str) -> u32 {
-    let words = words_of(digits);
-    assert_eq!(words.len(), 1);
-    words[0]
 }
 
 /// The three lists of a record with the zeros at their ends, where `=` is the list before.
@@ -81,7 +77,7 @@ fn lists_in(fields: &[&str], before: &Lists) -> Lists {
         words.resize(size, 0);
         words
     };
-    [list(0, 9), list(1, 24), list(2, 64)]
+    [list(0, 10), list(1, 24), list(2, 64)]
 }
 
 /// Does one line's call and compares all that it left with the line of output.
@@ -99,13 +95,11 @@ fn replay_line(replay: &mut Replay, input: &str, output: &str) {
     let Replay { by, record, noise } = replay;
     let mut buffer = words_of(if fields[0] == "q" { fields[1] } else { "" });
     let number = match fields[0] {
-        "s" => by.start(
-            noise,
-            record,
-            word_of(fields[1]),
-            &words_of(fields[2]),
-            &bytes_of(fields[3]),
-        ),
+        "s" => {
+            let (numbers, words, separator) = (words_of(fields[1]), words_of(fields[2]), bytes_of(fields[3]));
+            assert_eq!(numbers.len(), 2, "a field and a form");
+            by.start(noise, record, numbers[0], numbers[1], &words, &separator)
+        }
         "a" => by.absorb(noise, record, &words_of(fields[1])),
         "q" => by.squeeze(noise, record, &mut buffer),
         "f" => by.finish(noise, record),
@@ -117,7 +111,7 @@ fn replay_line(replay: &mut Replay, input: &str, output: &str) {
 }
 
 fn replay_all(by: &'static dyn Interface) {
-    let (record, noise) = (record_of(&[vec![0; 9], vec![0; 24], vec![0; 64]]), Random::new(1));
+    let (record, noise) = (record_of(&[vec![0; 10], vec![0; 24], vec![0; 64]]), Random::new(1));
     let mut replay = Replay { by, record, noise };
     let (inputs, outputs) = (stored::lines(PROGRAM, "stdin"), stored::lines(PROGRAM, "stdout"));
     let records = inputs.iter().filter(|line| line.starts_with("t ")).count();

@@ -11,13 +11,13 @@ mod inputs;
 mod interfaces;
 mod stored;
 
-use guarded::Random;
+use guarded::{Random, ReadTag};
 use interfaces::{Functions, Independent, Interface, Types};
-use stored::{bytes_of, words_of, Line};
+use stored::{bytes_of, word_of, words_of, Line};
 
 const PROGRAM: &str = "tag_vectors";
 /// The lines that write, read and cut.
-const LINES: [(&str, usize); 3] = [("w ", 442), ("r ", 190), ("c ", 147)];
+const LINES: [(&str, usize); 3] = [("w ", 797), ("r ", 604), ("c ", 147)];
 
 /// A number, how many words there are, those, and the sum of the unused ones.
 fn shown((number, words, count): (u32, [u32; 64], usize)) -> String {
@@ -27,23 +27,37 @@ fn shown((number, words, count): (u32, [u32; 64], usize)) -> String {
 }
 
 /// Of a buffer that holds a5 at every place.
-fn written(by: &dyn Interface, noise: &mut Random, words: &str, separator: &str, length: &str) -> String {
+fn written(by: &dyn Interface, noise: &mut Random, form: u32, words: &str, separator: &str, length: &str) -> String {
     let mut buffer = vec![0xa5; usize::from_str_radix(length, 16).unwrap()];
-    let (number, written) = by.write_tag(noise, &words_of(words), &bytes_of(separator), &mut buffer);
+    let (number, written) = by.write_tag(noise, form, &words_of(words), &bytes_of(separator), &mut buffer);
     let bytes: String = buffer.iter().map(|byte| format!("{byte:02x}")).collect();
     format!("{number} {written} {bytes}")
 }
 
+/// What was read, and where the separator lies, its length and its bytes.
+fn read(by: &dyn Interface, noise: &mut Random, form: u32, string: &[u8], length: &str) -> String {
+    let length = usize::from_str_radix(length, 16).unwrap();
+    let ReadTag {
+        number,
+        words,
+        count,
+        separator_start,
+        separator_count,
+    } = by.read_tag(noise, form, string, length);
+    let separator = &string[separator_start..][..separator_count];
+    let bytes: String = separator.iter().map(|byte| format!("{byte:02x}")).collect();
+    let words = shown((number, words, count));
+    format!("{words}, {separator_start} {separator_count} {bytes}")
+}
+
 /// What is found for a line of input, and what the line of output has for it.
 fn replay_line<'a>(by: &dyn Interface, noise: &mut Random, input: &str, output: &'a str) -> (String, &'a str) {
-    let (first, second) = output[2..].split_once(", ").unwrap_or((&output[2..], ""));
+    let all = &output[2..];
+    let second = all.split_once(", ").map_or("", |(_, second)| second);
     match input.split(' ').collect::<Vec<_>>()[..] {
-        ["w", words, separator, length] => (written(by, noise, words, separator, length), second),
-        ["r", string, length] => {
-            let length = usize::from_str_radix(length, 16).unwrap();
-            (shown(by.read_tag(noise, &bytes_of(string), length)), first)
-        }
-        ["c", words] => (shown(by.cut(noise, &words_of(words))), first),
+        ["w", form, words, separator, length] => (written(by, noise, word_of(form), words, separator, length), second),
+        ["r", form, string, length] => (read(by, noise, word_of(form), &bytes_of(string), length), all),
+        ["c", words] => (shown(by.cut(noise, &words_of(words))), all),
         _ => panic!("no such kind of line"),
     }
 }

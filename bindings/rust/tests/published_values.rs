@@ -1,6 +1,6 @@
 //! The independent implementation, held to what is published: the samples B1 to B10 and the table of refused calls in document
-//! 01, document 02's sentences about tables of owners, fields, declared calls, sessions that end by absorbing and sealed notes, and examples of
-//! SHA3-256 from NIST. What the library is compared with must itself be right.
+//! 01, document 02's sentences about tables of owners, fields, declared calls, sessions that end by absorbing, sealed notes and forms of tag
+//! strings, and examples of SHA3-256 from NIST. What the library is compared with must itself be right.
 
 mod guarded;
 mod independent;
@@ -10,9 +10,14 @@ use independent::*;
 /// "The buyers' house rule now limits one declared call to 16,777,216 elements."
 const LIMIT: u32 = 16777216;
 
+/// A session of form 1, unless a test is about forms.
 fn started(field: u32, words: &[u32], separator: &[u8]) -> Session {
-    let (number, record) = start(field, words, separator);
-    assert_eq!((number, record.field), (0, field));
+    started_in_form(1, field, words, separator)
+}
+
+fn started_in_form(form: u32, field: u32, words: &[u32], separator: &[u8]) -> Session {
+    let (number, record) = start(field, form, words, separator);
+    assert_eq!((number, record.field, record.form), (0, field, form));
     record
 }
 
@@ -42,19 +47,36 @@ fn alternating_ones(count: usize) -> Vec<u32> {
     [ABSORB + 1, 1].into_iter().cycle().take(count).collect()
 }
 
-/// The number that START and writing give.
+/// The number that START and writing give in either form.
 fn pattern_number(words: &[u32], separator: &[u8]) -> u32 {
-    let number = start(1, words, separator).0;
-    let written = write_tag(words, separator, &mut [0; 512]);
-    assert_eq!(written.err().unwrap_or(0), number);
+    let number = start(1, 1, words, separator).0;
+    assert_eq!(start(1, 2, words, separator).0, number);
+    for form in [1, 2] {
+        let written = write_tag(form, words, separator, &mut [0; 516]);
+        assert_eq!(written.err().unwrap_or(0), number);
+    }
     number
 }
 
+/// A tag string of form 1.
 fn written(words: &[u32], separator: &[u8]) -> Vec<u8> {
-    let mut out = vec![0; 512];
-    let size = write_tag(words, separator, &mut out).unwrap();
-    out.truncate(size);
-    out
+    written_in_form(1, words, separator)
+}
+
+/// A tag string, for which a buffer of just its length suffices, and none that is shorter: number 12 leaves that as it is.
+fn written_in_form(form: u32, words: &[u32], separator: &[u8]) -> Vec<u8> {
+    let mut out = [77; 600];
+    let size = write_tag(form, words, separator, &mut out).unwrap();
+    assert_eq!(out[size..], [77; 600][size..]);
+    let mut exact = vec![77; size];
+    assert_eq!(write_tag(form, words, separator, &mut exact), Ok(size));
+    assert_eq!(exact, out[..size]);
+    for length in [0, size.saturating_sub(4), size - 1] {
+        let mut short = vec![77; length];
+        assert_eq!(write_tag(form, words, separator, &mut short), Err(12));
+        assert_eq!(short, vec![77; length]);
+    }
+    exact
 }
 
 #[test]
@@ -90,17 +112,17 @@ fn tag_strings_b1_to_b3() {
         written(&[0x80000001, 0x00000001, 0x80000002, 0x00000002], &[])
     );
     let b3 = [0xfffffffe, 0x80000001, 0x00000001];
-    assert_eq!(start(1, &b3, &[]), (19, WIPED));
-    assert_eq!(write_tag(&b3, &[], &mut [0; 512]), Err(19));
+    assert_eq!(start(1, 1, &b3, &[]), (19, WIPED));
+    assert_eq!(write_tag(1, &b3, &[], &mut [0; 512]), Err(19));
 }
 
 #[test]
 fn tag_strings_read_back() {
     let b1 = [0x80, 0, 0, 6, 0, 0, 0, 3, 0x41, 0x42];
-    let (number, words, count) = read_tag(&b1, 2);
+    let (number, words, count) = read_tag(1, &b1, 2);
     assert_eq!((number, &words[..3], count), (0, &[0x80000006, 0x00000003, 0][..], 2));
-    assert_eq!(read_separator(&b1, 2), [0x41, 0x42]);
-    assert_eq!(read_separator(&b1, 3), []);
+    assert_eq!(read_separator(1, &b1, 2), [0x41, 0x42]);
+    assert_eq!(read_separator(1, &b1, 3), []);
 }
 
 #[test]
@@ -150,13 +172,13 @@ fn figures_of_both_fields() {
 #[test]
 fn patterns_turned_away_as_in_the_table() {
     for field in [1, 2] {
-        assert_eq!(start(field, &[], &[]), (1, WIPED));
-        assert_eq!(start(field, &[0x80000003, 0x00000000], &[]), (2, WIPED));
-        assert_eq!(start(field, &[0x00000001], &[]), (3, WIPED));
-        assert_eq!(start(field, &[0x80000001], &[]).0, 0);
-        assert_eq!(start(field, &[0xffffffff, 0x80000001, 0x00000001], &[]), (19, WIPED));
-        assert_eq!(start(field, &[0x80000001, 0x00000001], &[0; 257]), (6, WIPED));
-        assert_eq!(start(field, &[0x80000001, 0x00000001], &[0; 256]).0, 0);
+        assert_eq!(start(field, 1, &[], &[]), (1, WIPED));
+        assert_eq!(start(field, 1, &[0x80000003, 0x00000000], &[]), (2, WIPED));
+        assert_eq!(start(field, 1, &[0x00000001], &[]), (3, WIPED));
+        assert_eq!(start(field, 1, &[0x80000001], &[]).0, 0);
+        assert_eq!(start(field, 1, &[0xffffffff, 0x80000001, 0x00000001], &[]), (19, WIPED));
+        assert_eq!(start(field, 1, &[0x80000001, 0x00000001], &[0; 257]), (6, WIPED));
+        assert_eq!(start(field, 1, &[0x80000001, 0x00000001], &[0; 256]).0, 0);
     }
 }
 
@@ -213,7 +235,7 @@ fn patterns_that_end_by_absorbing() {
         written(&[0x80000001, 0x00000002, 0x80000003], &[]),
         [0x80, 0, 0, 1, 0, 0, 0, 2, 0x80, 0, 0, 3]
     );
-    assert_eq!(write_tag(&[0x80000003], b"AB", &mut [0; 5]), Err(12));
+    assert_eq!(write_tag(1, &[0x80000003], b"AB", &mut [0; 5]), Err(12));
 }
 
 /// The numbers that a last ABSORB leaves as they are. START "checks 1 to 6 in number order", with 19 "after 2 and before 3".
@@ -228,7 +250,7 @@ fn patterns_that_end_by_absorbing_and_are_turned_away() {
     assert_eq!(pattern_number(&[ABSORB + 1], &[0; 257]), 6);
     assert_eq!(pattern_number(&[ABSORB + 1, 1, ABSORB + 1], &[0; 257]), 6);
     assert_eq!(pattern_number(&[ABSORB + 1], &[0; 256]), 0);
-    assert_eq!(start(0, &[ABSORB + 1], &[]), (18, WIPED));
+    assert_eq!(start(0, 1, &[ABSORB + 1], &[]), (18, WIPED));
 }
 
 /// "A finished session's permutations follow the same per-phase formula": "absorb, 0 if d = 0, else ceil(d/8) − 1; squeeze, ceil(d/8)."
@@ -299,7 +321,7 @@ fn calls_after_a_last_absorb() {
 fn word_lists_that_are_read_and_sound() {
     let number = |words: &[u32]| {
         let string: Vec<u8> = words.iter().flat_map(|word| word.to_be_bytes()).collect();
-        let (number, read, count) = read_tag(&string, 0);
+        let (number, read, count) = read_tag(1, &string, 0);
         assert_eq!(&read[..count], if number == 0 { words } else { &[] });
         assert!(read[count..].iter().all(|word| *word == 0));
         if words.len() <= 64 {
@@ -329,7 +351,7 @@ fn word_lists_that_are_read_and_sound() {
     assert_eq!(number(&[ABSORB + LONGEST]), 0);
     assert_eq!(number(&[0x80000003]), 0);
     assert_eq!(number(&[0x00000001]), 13);
-    assert_eq!(read_separator(&[0x80, 0, 0, 3, 0x41, 0x42], 2), [0x41, 0x42]);
+    assert_eq!(read_separator(1, &[0x80, 0, 0, 3, 0x41, 0x42], 2), [0x41, 0x42]);
 }
 
 /// "Reading still takes any 31-bit length", and so does a sound record.
@@ -338,7 +360,7 @@ fn lengths_that_are_read_and_sound() {
     for (first, second) in [(LIMIT + 1, 1), (1, LIMIT + 1), (LONGEST, LONGEST)] {
         let words = [ABSORB + first, second];
         let string = words.map(u32::to_be_bytes).concat();
-        let (number, read, count) = read_tag(&string, 0);
+        let (number, read, count) = read_tag(1, &string, 0);
         assert_eq!((number, &read[..3], count), (0, &[words[0], words[1], 0][..], 2));
         let mut record = started(1, &[ABSORB + 1, 1], &[]);
         record.words[..2].copy_from_slice(&words);
@@ -396,9 +418,12 @@ fn what_is_read_is_written_again() {
     for words in lists {
         let mut string: Vec<u8> = words.iter().flat_map(|word| word.to_be_bytes()).collect();
         string.extend(b"AB");
-        let (number, read, count) = read_tag(&string, 2);
+        let (number, read, count) = read_tag(1, &string, 2);
         assert_eq!((number, &read[..count]), (0, words));
-        assert_eq!(written(&calls_of(&read[..count]), read_separator(&string, 2)), string);
+        assert_eq!(
+            written(&calls_of(&read[..count]), read_separator(1, &string, 2)),
+            string
+        );
     }
     assert_eq!(cut(&[ABSORB + 63 * LIMIT + 1, 1]), (1, [0; 64], 0));
     assert_eq!(cut(&[ABSORB + LONGEST, 1]), (1, [0; 64], 0));
@@ -410,8 +435,8 @@ fn what_is_read_is_written_again() {
 fn fields_turned_away_as_in_the_request() {
     let fresh = started(1, &[ABSORB + 1, 1], &[]);
     for field in [0, 3, 1 << 31, u32::MAX] {
-        assert_eq!(start(field, &[ABSORB + 1, 1], &[]), (18, WIPED));
-        assert_eq!(start(field, &[], &[0; 257]), (18, WIPED));
+        assert_eq!(start(field, 1, &[ABSORB + 1, 1], &[]), (18, WIPED));
+        assert_eq!(start(field, 1, &[], &[0; 257]), (18, WIPED));
         for mut state in [[5; 24], [u32::MAX; 24]] {
             let before = state;
             assert_eq!((permute(field, &mut state), state), (18, before));
@@ -474,13 +499,228 @@ fn numbers_9_and_11_wipe_the_record() {
 fn tags_turned_away_as_in_the_table() {
     let mut out = [77; 9];
     assert_eq!(
-        write_tag(&[0x80000003, 0x80000003, 0x00000003], &[0x41, 0x42], &mut out),
+        write_tag(1, &[0x80000003, 0x80000003, 0x00000003], &[0x41, 0x42], &mut out),
         Err(12)
     );
     assert_eq!(out, [77; 9]);
-    assert_eq!(read_tag(&[0, 0, 0, 1], 0), (13, [0; 64], 0));
-    let (number, words, count) = read_tag(&[0x80, 0, 0, 3], 0);
+    assert_eq!(read_tag(1, &[0, 0, 0, 1], 0), (13, [0; 64], 0));
+    let (number, words, count) = read_tag(1, &[0x80, 0, 0, 3], 0);
     assert_eq!((number, &words[..2], count), (0, &[0x80000003, 0][..], 1));
+}
+
+/// "The trade's rule here becomes form 2: words, separator, then the separator's length as four bytes, highest first."
+#[test]
+fn tag_strings_of_form_2() {
+    let b1 = written_in_form(2, &[0x80000003, 0x80000003, 0x00000003], &[0x41, 0x42]);
+    assert_eq!(b1, [0x80, 0, 0, 6, 0, 0, 0, 3, 0x41, 0x42, 0, 0, 0, 2]);
+    assert_eq!(written_in_form(2, &[0x80000001], &[]), [0x80, 0, 0, 1, 0, 0, 0, 0]);
+    let words = alternating_ones(64);
+    for length in [0, 1, 4, 255, 256] {
+        let separator: Vec<u8> = (0..length).map(|k| k as u8 ^ 0x5a).collect();
+        let longest = written_in_form(2, &words, &separator);
+        assert_eq!(longest.len(), 260 + length);
+        assert_eq!(longest[..256 + length], written(&words, &separator));
+        assert_eq!(longest[256 + length..], [0, 0, (length / 256) as u8, length as u8]);
+    }
+    assert_eq!(LONGEST_STRING, 516);
+}
+
+/// "Buyers now join suites whose separators differ in length, and case B2 shows two of those protocols sharing a tag."
+#[test]
+fn form_2_tells_b2_apart() {
+    let (short, separator) = ([0x80000001, 0x00000001], [0x80, 0, 0, 2, 0, 0, 0, 2]);
+    let long = [0x80000001, 0x00000001, 0x80000002, 0x00000002];
+    for field in [1, 2] {
+        let state = |form: u32, words: &[u32], separator: &[u8]| started_in_form(form, field, words, separator).state;
+        assert_eq!(state(1, &short, &separator), state(1, &long, &[]));
+        assert_ne!(state(2, &short, &separator), state(2, &long, &[]));
+    }
+    assert_ne!(written_in_form(2, &short, &separator), written_in_form(2, &long, &[]));
+}
+
+/// "SHA3-256 (FIPS 202) of that string is the digest", of the string of the form that START got. "Word k is added to element 8 + k of the zero
+/// state." "the record keeps it": nothing but the form and the state differs.
+#[test]
+fn sessions_begin_with_the_string_of_their_form() {
+    let openings: [(&[u32], &[u8]); 3] = [
+        (&[ABSORB + 3, 3], b"AB"),
+        (&[ABSORB + 9], b""),
+        (&alternating_ones(64), &[7; 256]),
+    ];
+    for (words, separator) in openings {
+        for field in [1, 2] {
+            for form in [1, 2] {
+                let record = started_in_form(form, field, words, separator);
+                let mut state = [0; 24];
+                state[8..16].copy_from_slice(&tag_elements(&sha3_256(&written_in_form(form, words, separator))));
+                let other = started_in_form(3 - form, field, words, separator);
+                assert_ne!(other.state, state);
+                assert_eq!(record, Session { form, state, ..other });
+            }
+        }
+    }
+}
+
+/// What is read of a string: the number, the words, and where the separator is in the string. Refused, its place is the end.
+fn read(form: u32, string: &[u8], given: usize) -> (u32, Vec<u32>, std::ops::Range<usize>) {
+    let (number, words, count) = read_tag(form, string, given);
+    assert!(words[count..].iter().all(|word| *word == 0));
+    let separator = read_separator(form, string, given);
+    let start = separator.as_ptr() as usize - string.as_ptr() as usize;
+    if number != 0 {
+        assert_eq!((count, start, separator.len()), (0, string.len(), 0));
+    }
+    (number, words[..count].to_vec(), start..start + separator.len())
+}
+
+/// Lengths given, which reading form 2 ignores.
+const GIVEN: [usize; 7] = [0, 1, 2, 8, 256, 257, usize::MAX];
+
+/// "Reading form 2 goes by the string's last four bytes and ignores any length given."
+#[test]
+fn form_2_is_read_by_its_tail() {
+    let patterns = [
+        vec![ABSORB + 1],
+        vec![ABSORB + 6, 3],
+        alternating_ones(63),
+        alternating_ones(64),
+    ];
+    let lengths = [0, 1, 2, 3, 4, 8, 255, 256];
+    for (words, length) in patterns.iter().flat_map(|words| lengths.map(|length| (words, length))) {
+        let separator: Vec<u8> = (0..length).map(|k| k as u8 ^ 0x80).collect();
+        let string = written_in_form(2, words, &separator);
+        for given in GIVEN {
+            let place = 4 * words.len()..4 * words.len() + length;
+            assert_eq!(read(2, &string, given), (0, words.clone(), place.clone()));
+            assert_eq!((place.end, &string[place]), (string.len() - 4, &separator[..]));
+        }
+    }
+}
+
+/// "In form 2 a string under four bytes, or one whose tail names more bytes than precede it, gets 13, and a tail above 256 gets 6 before that." "what
+/// precedes it isn't a sound record's word list in whole words": 13 too.
+#[test]
+fn form_2_strings_turned_away_as_in_the_request() {
+    let number = |string: &[u8]| {
+        let numbers = GIVEN.map(|given| read(2, string, given).0);
+        assert_eq!(numbers, [numbers[0]; 7]);
+        numbers[0]
+    };
+    for length in 0..4 {
+        assert_eq!(number(&[0; 4][..length]), 13);
+        assert_eq!(number(&[0xff; 4][..length]), 13);
+    }
+    assert_eq!(number(&[0xff; 4]), 6);
+    assert_eq!(number(&[0, 0, 0, 0]), 13);
+    assert_eq!(number(&[0, 0, 0, 1]), 13);
+    assert_eq!(number(&[0, 0, 1, 0]), 13);
+    assert_eq!(number(&[0, 0, 1, 1]), 6);
+    assert_eq!(number(&[1, 0, 0, 0]), 6);
+    let with_tail = |preceding: &[u8], tail: u32| [preceding, &tail.to_be_bytes()].concat();
+    let word = [0x80, 0, 0, 1];
+    assert_eq!(number(&with_tail(&word, 0)), 0);
+    for tail in [1, 2, 3, 4, 5, 256] {
+        assert_eq!(number(&with_tail(&word, tail)), 13);
+    }
+    let long = [&word[..], &[0xaa; 300]].concat();
+    assert_eq!(number(&with_tail(&long[..260], 256)), 0);
+    assert_eq!(number(&with_tail(&long[..259], 256)), 13);
+    assert_eq!(number(&with_tail(&long[..256], 256)), 13);
+    assert_eq!(number(&with_tail(&long[..255], 256)), 13);
+    for tail in [257, 300, 304, 305, 1 << 16, 1 << 24, 1 << 31, u32::MAX] {
+        assert_eq!(number(&with_tail(&long, tail)), 6);
+    }
+    // Its bytes are highest first: a tail that names two bytes, and one that names 33554432.
+    assert_eq!(number(&[0x80, 0, 0, 1, 5, 5, 0, 0, 0, 2]), 0);
+    assert_eq!(number(&[0x80, 0, 0, 1, 5, 5, 2, 0, 0, 0]), 6);
+    assert_eq!(number(&with_tail(&[0, 0, 0, 1], 0)), 13);
+    for (count, expected) in [(64, 0), (65, 13)] {
+        let words = alternating_ones(count);
+        let bytes: Vec<u8> = words.iter().flat_map(|word| word.to_be_bytes()).collect();
+        assert_eq!(number(&with_tail(&bytes, 0)), expected);
+    }
+    // An empty separator's string, read as form 1: two words of which the second has length 0, or one and a separator of four bytes.
+    let string = written_in_form(2, &[ABSORB + 1], &[]);
+    assert_eq!(read(1, &string, 0), (13, vec![], 8..8));
+    assert_eq!(read(1, &string, 4), (0, vec![ABSORB + 1], 4..8));
+    assert_eq!(read(2, &string, 4), (0, vec![ABSORB + 1], 4..4));
+}
+
+/// "22: form number neither 1 nor 2, straight after 18 where both are checked, elsewhere first."
+#[test]
+fn forms_turned_away_as_in_the_request() {
+    let openings: [(&[u32], &[u8]); 4] = [
+        (&[ABSORB + 1, 1], b"AB"),
+        (&[], &[0; 257]),
+        (&[0; 65], b""),
+        (&[1, LIMIT + 1], b""),
+    ];
+    let strings: [&[u8]; 5] = [
+        &[],
+        &[0xff; 4],
+        &[0x80, 0, 0, 1],
+        &[0x80, 0, 0, 1, 0, 0, 0, 0],
+        &[0; 600],
+    ];
+    for form in [0, 3, 257, 1 << 31, u32::MAX] {
+        for (words, separator) in openings {
+            for field in [1, 2] {
+                assert_eq!(start(field, form, words, separator), (22, WIPED));
+            }
+            for field in [0, 3, u32::MAX] {
+                assert_eq!(start(field, form, words, separator), (18, WIPED));
+            }
+            for length in [0, 9, 600] {
+                let mut out = vec![77; length];
+                assert_eq!(write_tag(form, words, separator, &mut out), Err(22));
+                assert_eq!(out, vec![77; length]);
+            }
+        }
+        for string in strings {
+            for given in GIVEN {
+                assert_eq!(read(form, string, given), (22, vec![], string.len()..string.len()));
+            }
+        }
+    }
+}
+
+/// "the record keeps it; a record with another isn't sound."
+#[test]
+fn records_keep_their_form() {
+    for (field, form) in [(1, 1), (1, 2), (2, 1), (2, 2)] {
+        let fresh = started_in_form(form, field, &[ABSORB + 9, 9], &[]);
+        for other in [0, 3, 257, 1 << 31, u32::MAX] {
+            let unsound = Session {
+                form: other,
+                ..fresh.clone()
+            };
+            let mut record = unsound.clone();
+            assert_eq!((absorb(&mut record, &[1]), absorb(&mut record, &[])), (8, 8));
+            assert_eq!((squeeze(&mut record, &mut [0]), squeeze(&mut record, &mut [])), (8, 8));
+            assert_eq!((finish(&mut record), &record), (8, &unsound));
+            record.status = 0;
+            assert_eq!((absorb(&mut record, &[1]), finish(&mut record)), (7, 7));
+        }
+        let mut record = fresh.clone();
+        let mut exchanged = Session {
+            form: 3 - form,
+            ..fresh
+        };
+        for _ in 0..18 {
+            step(&mut record);
+            step(&mut exchanged);
+            assert_eq!((record.form, exchanged.form), (form, 3 - form));
+            assert_eq!(
+                exchanged,
+                Session {
+                    form: 3 - form,
+                    ..record.clone()
+                }
+            );
+        }
+        assert_eq!((finish(&mut record), record), (0, WIPED));
+        assert_eq!((finish(&mut exchanged), exchanged.form), (0, 0));
+    }
 }
 
 /// "The 696 round constants"; "so 744 constants from the same generator".
@@ -601,14 +841,14 @@ impl SealCall {
 
 /// 001, Algorithm 7, with "one call of 16" and "8 elements" as the mark: "as many elements are squeezed as the block holds, added to it to give
 /// cipher elements, and the plain block is absorbed". Gives the sealed list.
-fn sealed_by_session_calls(note: &SealCall) -> Vec<u32> {
+fn sealed_by_session_calls(form: u32, note: &SealCall) -> Vec<u32> {
     let p = if note.field == 1 { P_1 } else { P_2 };
     let mut words = vec![ABSORB + 16];
     for length in &note.lengths {
         words.extend([*length, ABSORB + *length]);
     }
     words.push(8);
-    let mut record = started(note.field, &words, &note.separator);
+    let mut record = started_in_form(form, note.field, &words, &note.separator);
     assert_eq!(absorb(&mut record, &note.key), 0);
     assert_eq!(absorb(&mut record, &note.nonce), 0);
     let mut sealed = vec![];
@@ -626,14 +866,15 @@ fn sealed_by_session_calls(note: &SealCall) -> Vec<u32> {
     sealed
 }
 
-/// "What was sealed opens to the same blocks under the same field, key, nonce, separator and lengths."
+/// "What was sealed opens to the same blocks under the same field, key, nonce, separator and lengths." "Sealed notes keep form 1."
 #[test]
 fn sealed_notes_are_those_of_session_calls_and_open() {
     for field in [1, 2] {
         for lengths in [vec![1], vec![8], vec![9, 7], vec![16, 1, 8], vec![3; 31]] {
             let note = SealCall::sealing(field, &lengths);
             let mut opening = note.opening();
-            assert_eq!(opening.text, sealed_by_session_calls(&note));
+            assert_eq!(opening.text, sealed_by_session_calls(1, &note));
+            assert_ne!(opening.text, sealed_by_session_calls(2, &note));
             assert_eq!((opening.perform(), opening.out), (0, note.text));
         }
     }

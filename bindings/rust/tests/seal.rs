@@ -143,7 +143,8 @@ fn sealed_by_calls(library: &'static dyn Interface, noise: &mut Random, note: &N
     words.push(8);
     let mut record = Record::WIPED;
     assert_eq!(
-        library.start(noise, &mut record, note.field, &words, &note.separator),
+        // "Sealed notes keep form 1."
+        library.start(noise, &mut record, note.field, 1, &words, &note.separator),
         0
     );
     let mut calls = Calls { library, noise, record };

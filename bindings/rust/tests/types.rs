@@ -1,4 +1,4 @@
-//! The crate's types against the independent implementation, where `differential.rs` does not reach: fields by their numbers, patterns by their
+//! The crate's types against the independent implementation, where `differential.rs` does not reach: fields and forms by their numbers, patterns by their
 //! calls, protocols, each length of a separator and of a hashed string, sessions that live through all of their calls, forks, challenges, records
 //! of every status, tables of owners that are asked often, and what is seen of a seal.
 
@@ -13,18 +13,19 @@ mod run;
 use independent::{ABSORB, LONGEST, LONGEST_CALL};
 use inputs::*;
 use interfaces::{
-    check_protocol, field_of, number_and_place, number_of, perform, record_of, Independent, Interface, Types,
+    check_protocol, field_of, form_of, number_and_place, number_of, perform, protocol_of, record_of, Independent,
+    Interface, Types,
 };
 use run::Run;
 use std::fmt::Debug;
 use std::hash::{DefaultHasher, Hash, Hasher};
 use std::mem::ManuallyDrop;
-use std::ops::Range;
 use std::ptr;
 use tuilarder::ffi::Record;
 use tuilarder::Call::{Absorb, Squeeze};
 use tuilarder::{
-    Field, Owners, OwnersFault, Pattern, Protocol, Refusal, Seal, Session, CAPACITY, MAX_ROUND_CONSTANTS, RATE, WIDTH,
+    Field, Form, Owners, OwnersFault, Pattern, Protocol, Refusal, Seal, Session, CAPACITY, MAX_ROUND_CONSTANTS, RATE,
+    WIDTH,
 };
 
 /// A call that a pattern declares; `Call` here is one of a session.
@@ -32,14 +33,14 @@ type Declared = tuilarder::Call;
 
 // Figures
 
-/// The figures of documents 01 and 02; the longest tag string is 64 words of four bytes and 256 bytes.
+/// The figures of documents 01 and 02; the longest tag string is 64 words of four bytes, 256 bytes, and four for their length.
 #[test]
 fn figures_are_those_of_the_documents() {
     assert_eq!((RATE, CAPACITY, WIDTH, MAX_ROUND_CONSTANTS), (8, 16, 24, 744));
     assert_eq!(Pattern::MAX_CALL, LONGEST_CALL);
     assert_eq!(
         (Pattern::MAX_WORDS, Pattern::MAX_SEPARATOR, Pattern::MAX_TAG_STRING),
-        (64, 256, 512)
+        (64, 256, 516)
     );
     assert_eq!((Owners::ROW_BYTES, Owners::MAX_ROWS), (10, 128));
     assert_eq!(
@@ -70,7 +71,25 @@ fn fields_have_the_numbers_1_and_2() {
     }
 }
 
+#[test]
+fn forms_have_the_numbers_1_and_2() {
+    for (number, form) in [(1, Form::One), (2, Form::Two)] {
+        assert_eq!(form.number(), number);
+        assert_eq!(form_of(number), Some(form));
+    }
+    for number in (3..1 << 20)
+        .chain((2..32).flat_map(|k| [1 << k, (1 << k) + 1, (1 << k) + 2]))
+        .chain([0, u32::MAX])
+    {
+        assert_eq!(Form::from_number(number), None, "{number}");
+    }
+}
+
 // These are known at compile time too, and there is no third: if there were, this `match` would not compile.
+const _: () = assert!(Form::Two.number() == 2 && matches!(Form::from_number(1), Some(Form::One)));
+const _: fn(Form) = |form| match form {
+    Form::One | Form::Two => (),
+};
 const _: () = assert!(Field::KoalaBear.number() == 2 && Field::BabyBear.prime() == 2013265921);
 const _: () = assert!(matches!(Field::from_number(1), Some(Field::BabyBear)));
 const _: fn(Field) = |field| match field {
@@ -78,13 +97,13 @@ const _: fn(Field) = |field| match field {
 };
 
 #[test]
-fn refusals_have_the_numbers_1_to_13_and_15_to_21() {
-    for number in (1..=13).chain(15..=21) {
+fn refusals_have_the_numbers_1_to_13_and_15_to_22() {
+    for number in (1..=13).chain(15..=22) {
         let refusal = Refusal::from_number(number).expect("a refusal");
         assert_eq!(number_of::<()>(&Err(refusal)), number);
     }
-    let others = (22..1 << 20)
-        .chain((5..32).map(|k| (1 << k) + 21))
+    let others = (23..1 << 20)
+        .chain((5..32).map(|k| (1 << k) + 22))
         .chain([0, 14, u32::MAX]);
     for number in others {
         assert_eq!(Refusal::from_number(number), None, "{number}");
@@ -104,7 +123,7 @@ fn others_are_possible(refusal: Refusal) -> bool {
         WordCountOutOfRange | WordLengthZero | FirstWordSqueeze | LastWordAbsorb | MergedLengthTooLong => false,
         SeparatorTooLong | RecordNotOpen | RecordNotSound | CallNotInPattern | ElementNotReduced => false,
         PatternNotDone | BufferTooShort | NotTagString | OwnersRowInvalid | OwnersGap | SeparatorTooShort => false,
-        FieldUnknown | CallTooLong | SealLengthInvalid | MarkDiffers => false,
+        FieldUnknown | CallTooLong | SealLengthInvalid | MarkDiffers | FormUnknown => false,
         _ => true,
     }
 }
@@ -117,6 +136,7 @@ const fn copied<T: Copy>() {}
 const _: () = {
     plain::<Refusal>();
     plain::<Field>();
+    plain::<Form>();
     plain::<Declared>();
     plain::<Owners>();
     plain::<OwnersFault>();
@@ -158,8 +178,8 @@ fn call_of_kind(absorbing: bool, length: u32) -> Declared {
 /// The merged words, cut into calls, or the number.
 fn merged(words: &[u32]) -> Result<Vec<u32>, u32> {
     let mut string = [0; 256];
-    let size = independent::write_tag(words, &[], &mut string)?;
-    let (number, merged, count) = independent::read_tag(&string[..size], 0);
+    let size = independent::write_tag(1, words, &[], &mut string)?;
+    let (number, merged, count) = independent::read_tag(1, &string[..size], 0);
     assert_eq!(number, 0);
     let (number, calls, count) = independent::cut(&merged[..count]);
     assert_eq!(number, 0);
@@ -308,18 +328,28 @@ fn separators_of_every_length() {
             let separator: Vec<u8> = run.random.list(length);
             let mut record = Record::WIPED;
             let field = known_field(&mut run.random);
-            let number = run.call(&mut record, Call::Start(field, words.clone(), separator.clone()));
-            assert_eq!(number, if length <= 256 { 0 } else { 6 });
-            let needed = 4 * count + length;
-            for size in [needed, needed - 1, needed + 3, 0] {
-                run.write_tag(&words, &separator, size);
+            for form in [1, 2] {
+                let start = Call::Start(field, form, words.clone(), separator.clone());
+                let wanted = if length <= 256 { 0 } else { 6 };
+                assert_eq!(run.call(&mut record, start), wanted);
+                let string = string_of(form, &merged, &separator);
+                let needed = string.len();
+                for size in [needed, needed - 1, needed - 4, needed + 3, 0] {
+                    run.write_tag(form, &words, &separator, size);
+                }
+                // in form 2 "ignores any length given"
+                let (number, read, part) = run.read_tag(form, &string, length);
+                assert_eq!(number, wanted);
+                if number == 0 {
+                    assert_eq!((&read, &part), (&merged, &separator));
+                }
+                run.answered(["", "form 1", "form 2"][form as usize], number);
             }
-            let bytes = merged.iter().flat_map(|word| word.to_be_bytes());
-            let string: Vec<u8> = bytes.chain(separator).collect();
-            run.read_tag(&string, length);
         }
     });
     run.assert_reached("write_tag", &[0, 12]);
+    run.assert_numbers("form 1", &[0, 6]);
+    run.assert_numbers("form 2", &[0, 6]);
 }
 
 #[test]
@@ -337,48 +367,76 @@ fn hashes_of_every_length_up_to_2000() {
 
 // Protocols
 
-/// A protocol of any pattern that is accepted, its parts, and the independent implementation's record.
-fn any_protocol(run: &mut Run) -> (Protocol, Field, Vec<u32>, Vec<u8>) {
+/// What a protocol is made of.
+#[derive(Clone, Debug)]
+struct Parts {
+    field: Field,
+    form: Form,
+    words: Vec<u32>,
+    separator: Vec<u8>,
+}
+
+impl Parts {
+    fn protocol(&self) -> Protocol {
+        let pattern = Pattern::from_words(&self.words).expect("an accepted pattern");
+        protocol_of(self.field, self.form, &pattern, &self.separator).expect("accepted parts")
+    }
+}
+
+/// The parts of a protocol of any pattern that is accepted.
+fn any_parts(run: &mut Run) -> Parts {
     let words = good_pattern(&mut run.random);
-    let (number, separator) = (known_field(&mut run.random), good_separator(&mut run.random));
-    let field = field_of(number).expect("a field");
-    let pattern = Pattern::from_words(&words).expect("an accepted pattern");
-    let protocol = Protocol::new(field, &pattern, &separator).expect("an accepted separator");
-    (protocol, field, words, separator)
+    let (field, form) = (known_field(&mut run.random), known_form(&mut run.random));
+    Parts {
+        field: field_of(field).expect("a field"),
+        form: form_of(form).expect("a form"),
+        words,
+        separator: good_separator(&mut run.random),
+    }
 }
 
 /// That it is equal to one of the same parts, and to none that differs in one of them.
-fn assert_equal_by_parts(run: &mut Run, protocol: &Protocol, words: &[u32], separator: &[u8]) {
-    let of = |field, words: &[u32], separator: &[u8]| {
-        Protocol::new(field, &Pattern::from_words(words).expect("accepted words"), separator).expect("accepted parts")
-    };
-    let (field, other) = match protocol.field() {
-        Field::BabyBear => (Field::BabyBear, Field::KoalaBear),
-        Field::KoalaBear => (Field::KoalaBear, Field::BabyBear),
-    };
-    let same = of(field, words, separator);
+fn assert_equal_by_parts(run: &mut Run, protocol: &Protocol, parts: &Parts) {
+    let same = parts.protocol();
     assert_eq!((&same, hash_of(&same)), (protocol, hash_of(protocol)));
-    assert_ne!(of(other, words, separator), *protocol);
-    let mut longer = words.to_vec();
-    longer[0] = words[0].wrapping_add(1);
-    if Pattern::from_words(&longer).is_ok() {
-        assert_ne!(of(field, &longer, separator), *protocol);
+    let mut others = vec![parts.clone(), parts.clone(), parts.clone()];
+    others[0].field = match parts.field {
+        Field::BabyBear => Field::KoalaBear,
+        Field::KoalaBear => Field::BabyBear,
+    };
+    others[1].form = match parts.form {
+        Form::One => Form::Two,
+        Form::Two => Form::One,
+    };
+    others[2].words[0] = parts.words[0].wrapping_add(1);
+    if Pattern::from_words(&others[2].words).is_err() {
+        others.truncate(2);
     }
-    if !separator.is_empty() {
-        let mut changed = separator.to_vec();
-        changed[run.random.below(separator.len() as u64) as usize] ^= 1 << run.random.below(8);
-        assert_ne!(of(field, words, &changed), *protocol);
-        assert_ne!(of(field, words, &separator[1..]), *protocol);
+    if !parts.separator.is_empty() {
+        let (mut changed, mut shorter) = (parts.clone(), parts.clone());
+        changed.separator[run.random.below(parts.separator.len() as u64) as usize] ^= 1 << run.random.below(8);
+        shorter.separator.remove(0);
+        others.extend([changed, shorter]);
+    }
+    for other in others {
+        assert_ne!(other.protocol(), *protocol, "{other:?}");
     }
 }
 
 #[test]
 fn protocols_of_any_parts() {
     let run = Run::of("protocols_of_any_parts", &Types, 3_000, |run| {
-        let (protocol, field, words, separator) = any_protocol(run);
-        run.last = Box::new((field, words.clone(), separator.clone()));
-        check_protocol(&protocol, field, &words, &separator);
-        let (number, started) = independent::start(field.number(), &words, &separator);
+        let parts = any_parts(run);
+        run.last = Box::new(parts.clone());
+        let protocol = parts.protocol();
+        let Parts {
+            field,
+            form,
+            words,
+            separator,
+        } = &parts;
+        check_protocol(&protocol, *field, *form, words, separator);
+        let (number, started) = independent::start(field.number(), form.number(), words, separator);
         let expected = same_fields!(Record, started);
         // it opens as many sessions as are asked for
         for session in [protocol.start(), protocol.start(), protocol.clone().start()] {
@@ -388,12 +446,14 @@ fn protocols_of_any_parts() {
         let pattern = protocol.pattern();
         assert_eq!(
             format!("{protocol:?}"),
-            format!("Protocol {{ field: {field:?}, pattern: {pattern:?}, separator: \"{escaped}\" }}")
+            format!("Protocol {{ field: {field:?}, form: {form:?}, pattern: {pattern:?}, separator: \"{escaped}\" }}")
         );
-        assert_equal_by_parts(run, &protocol, &words, &separator);
+        assert_equal_by_parts(run, &protocol, &parts);
         run.answered("field", field.number());
+        run.answered("form", form.number());
     });
     run.assert_numbers("field", &[1, 2]);
+    run.assert_numbers("form", &[1, 2]);
 }
 
 // Sessions that live through all of their calls
@@ -418,15 +478,16 @@ fn challenge(session: &mut Session, length: usize) -> Option<Result<Vec<u32>, Re
 }
 
 impl Live {
+    /// A session of either form.
     fn start(run: &mut Run, field: u32, words: &[u32], separator: &[u8]) -> Live {
-        let mut expected = Record::WIPED;
+        let (form, mut expected) = (known_form(&mut run.random), Record::WIPED);
         assert_eq!(
-            Independent.start(&mut run.noise, &mut expected, field, words, separator),
+            Independent.start(&mut run.noise, &mut expected, field, form, words, separator),
             0
         );
         let pattern = Pattern::from_words(words).expect("an accepted pattern");
-        let field = field_of(field).expect("a field");
-        let protocol = Protocol::new(field, &pattern, separator).expect("an accepted separator");
+        let (field, form) = (field_of(field).expect("a field"), form_of(form).expect("a form"));
+        let protocol = protocol_of(field, form, &pattern, separator).expect("an accepted separator");
         let session = protocol.start();
         let live = Live { session, expected };
         live.compare();
@@ -597,15 +658,12 @@ fn lists_of_70000_elements() {
 
 // Records
 
-/// The bytes of a record that belong to none of its numbers.
-const PADDING: Range<usize> = 380..384;
-
 /// What the other tests compare with has to tell any two records apart.
 #[test]
 fn records_differ_by_each_byte() {
     let run = Run::of("records_differ_by_each_byte", &Types, 20, |run| {
         let record = sound_record(&mut run.random);
-        for k in (0..size_of::<Record>()).filter(|k| !PADDING.contains(k)) {
+        for k in 0..size_of::<Record>() {
             let mut other = record;
             let place: *mut Record = &mut other;
             // SAFETY: it is a byte of an integer of the record, and any byte is one.

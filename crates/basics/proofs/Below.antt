@@ -5,7 +5,7 @@ use mathlib.Core.List.{List, [], _∷_, _++_}
 use Prim.Native.Nat.{ℕ, zero, suc, _<_, _≤_}
 use native.Mathlib.Nat.{lt-of-lt-of-le}
 use borrow.Author.Tests.{ltb-true, lt-ltb}
-use lib.ListN.{getD, take}
+use lib.ListN.{getD, take, drop}
 use Rattle.basics.specs.Logic.{all}
 use Rattle.basics.specs.Lists.{tabulate, isBelow, Below}
 use Rattle.basics.proofs.Cases.{and-left, and-right, and-both, all-at}
@@ -40,6 +40,11 @@ module _ (m : ℕ) where
   below-take zero xs h = below-nil
   below-take (suc n) [] h = below-nil
   below-take (suc n) (x ∷ xs) h = below-cons x (take n xs) (below-head x xs h) (below-take n xs (below-tail x xs h))
+
+  pub below-drop : (n : ℕ) (xs : List ℕ) → Below m xs → Below m (drop n xs)
+  below-drop zero xs h = h
+  below-drop (suc n) [] h = below-nil
+  below-drop (suc n) (x ∷ xs) h = below-drop n xs (below-tail x xs h)
 
   -- place by place; past its end a list reads as 0
   pub below-at : 0 < m → (xs : List ℕ) → Below m xs → (k : ℕ) → getD xs k 0 < m

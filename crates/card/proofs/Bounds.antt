@@ -23,7 +23,7 @@ use Rattle.card_grammar.specs.Text.{hex, decimal}
 use Rattle.card_grammar.specs.Grammar.{Reading, card, none}
 use Rattle.card_grammar.specs.Card.{cardOf}
 use Rattle.card_grammar.proofs.Digits.{decimal-small, decimal-more}
-use Rattle.card.specs.Answer.{longestAnswer, okText, noText, cardAnswer, answer, withNewline}
+use Rattle.card.specs.Answer.{longestAnswer, cardForm, okText, noText, cardAnswer, answer, withNewline}
 use Rattle.card.proofs.Laws.{answer-card, answer-none}
 
 -- ---- numerals
@@ -92,12 +92,12 @@ length-with-newline text = length-append text (10 ∷ [])
 no-short : (number : ℕ) → number ≤ 99 → length (withNewline (noText number)) ≤ longestAnswer
 no-short number h = omega (arith, length-with-newline (noText number), length-no number, number-digits number h)
 
-ok-short : (o : Opening) → openingNumber o ≡ accepted → length (withNewline (okText (tagString o) (fullPermutations (o .words)))) ≤ longestAnswer
+ok-short : (o : Opening) → openingNumber o ≡ accepted → length (withNewline (okText (tagString cardForm o) (fullPermutations (o .words)))) ≤ longestAnswer
 ok-short o e =
-    let text = okText (tagString o) (fullPermutations (o .words)) in
-    let string = tag-string-short o e in
+    let text = okText (tagString cardForm o) (fullPermutations (o .words)) in
+    let string = tag-string-short cardForm o e in
     let digits = count-digits (fullPermutations (o .words)) (few-permutations o e) in
-    omega (arith, length-with-newline text, length-ok (tagString o) (fullPermutations (o .words)))
+    omega (arith, length-with-newline text, length-ok (tagString cardForm o) (fullPermutations (o .words)))
 
 card-answer-short : (o : Opening) → length (withNewline (cardAnswer o)) ≤ longestAnswer
 unfolding cardAnswer

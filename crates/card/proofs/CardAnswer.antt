@@ -13,10 +13,10 @@ use Rattle.pattern.specs.declared.WordList.{WordList}
 use Rattle.pattern.proofs.Checked.{number-checked, started, count-checked, words-checked}
 use Rattle.tag.specs.TagString.{tagString}
 use Rattle.counters.specs.Permutations.{permutationsAt, fullPermutations}
-use Rattle.card.specs.Answer.{okText, noText, cardAnswer}
+use Rattle.card.specs.Answer.{cardForm, okText, noText, cardAnswer}
 
 module _ (o : Opening) where
-  pub accepted-answer : openingNumber o ≡ accepted → cardAnswer o ≡ okText (tagString o) (fullPermutations (o .words))
+  pub accepted-answer : openingNumber o ≡ accepted → cardAnswer o ≡ okText (tagString cardForm o) (fullPermutations (o .words))
   unfolding cardAnswer
   accepted-answer e = if-true _ _ _ (eq-eqb (openingNumber o) accepted e)
 
@@ -38,6 +38,6 @@ module _ (o : Opening) (r : WordList) (e : r ≡ checked o) where
     counts = ap₂ (λ (l : List ℕ) (k : ℕ). permutationsAt l k 0) (words-checked o r e n) (count-checked o r e n)
 
     -- the tag string that was written, and the count
-    pub answers : (string : List ℕ) → string ≡ tagString o
+    pub answers : (string : List ℕ) → string ≡ tagString cardForm o
         → okText string (permutationsAt (take (r .count) (r .words)) (r .count) 0) ≡ cardAnswer o
     answers string e′ = ap₂ okText e′ counts ∙ sym (accepted-answer o (started o r e n))

@@ -20,9 +20,13 @@ okText string permutations = ascii "(ok " ++ (hex string ++ (ascii " " ++ (decim
 unfoldable pub noText : ℕ → List ℕ
 noText number = ascii "(no " ++ (decimal number ++ ascii ")")
 
+-- the form of a card's tag string: "The stored cards carry neither field nor form", and are "form 1"
+abbrev pub cardForm : ℕ
+cardForm = 1
+
 -- the answer to a card: START's numbers about an opening
 unfoldable pub cardAnswer : Opening → List ℕ
-cardAnswer o = if eqb (openingNumber o) accepted then okText (tagString o) (fullPermutations (o .words)) else noText (openingNumber o)
+cardAnswer o = if eqb (openingNumber o) accepted then okText (tagString cardForm o) (fullPermutations (o .words)) else noText (openingNumber o)
 
 -- "14 before 1 to 6"
 unfoldable pub readingAnswer : Reading → List ℕ
@@ -41,6 +45,6 @@ newline = code "\n"
 unfoldable pub withNewline : List ℕ → List ℕ
 withNewline text = text ++ (newline ∷ [])
 
--- how long an answer is at most with its newline: "(ok ", 1,024 digits, a space, 11 digits, a bracket, the newline
+-- how long an answer is at most with its newline: "(ok ", 1,032 digits, a space, 11 digits, a bracket, the newline
 abbrev pub longestAnswer : ℕ
-longestAnswer = 1042
+longestAnswer = 1050

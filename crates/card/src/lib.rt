@@ -10,10 +10,10 @@ ghost use Rattle.tag.specs.TagString.{maxString};
 ghost use Rattle.card.specs.Answer.{okText, noText, cardAnswer, answer, withNewline};
 
 // The bytes of the longest answer, with its newline.
-pub const LONGEST_ANSWER: usize = 1042;
+pub const LONGEST_ANSWER: usize = 1050;
 
 // Writes "(no N)" and a newline.
-fn put_no(buffer: &mut [u8; 1042], number: u32) -> usize
+fn put_no(buffer: &mut [u8; 1050], number: u32) -> usize
     requires { ⌜ number ≤ 99 ⌝ }
     ensures { λ r. ⌜ (r ≡ length (withNewline (noText number))) ×
         (now (buffer .exit) ≡ placed (now (buffer .entry)) 0 (withNewline (noText number))) ⌝ }
@@ -25,7 +25,7 @@ fn put_no(buffer: &mut [u8; 1042], number: u32) -> usize
 }
 
 // Writes "(ok TAG COUNT)" for a tag string, and a newline.
-fn put_ok(buffer: &mut [u8; 1042], string: &[u8], permutations: u64) -> usize
+fn put_ok(buffer: &mut [u8; 1050], string: &[u8], permutations: u64) -> usize
     requires { ⌜ (length (now string) ≤ maxString) × (permutations ≤ 99999999999) ⌝ }
     ensures { λ r. ⌜ (r ≡ length (withNewline (okText (now (string .entry)) permutations))) ×
         (now (buffer .exit) ≡ placed (now (buffer .entry)) 0 (withNewline (okText (now (string .entry)) permutations))) ⌝ }
@@ -38,8 +38,8 @@ fn put_ok(buffer: &mut [u8; 1042], string: &[u8], permutations: u64) -> usize
     count_end + 2
 }
 
-// Writes the answer to a card of these words and this separator, and a newline.
-fn answer_card(words: &[u32], separator: &[u8], buffer: &mut [u8; 1042]) -> usize
+// Writes the answer to a card of these words and this separator, and a newline. Its tag string is of form 1.
+fn answer_card(words: &[u32], separator: &[u8], buffer: &mut [u8; 1050]) -> usize
     ensures { λ r. ⌜ (r ≡ length (withNewline (cardAnswer (opening (now (words .entry)) (now (separator .entry)))))) ×
         (now (buffer .exit) ≡ placed (now (buffer .entry)) 0 (withNewline (cardAnswer (opening (now (words .entry)) (now (separator .entry)))))) ⌝ }
 {
@@ -50,14 +50,14 @@ fn answer_card(words: &[u32], separator: &[u8], buffer: &mut [u8; 1042]) -> usiz
     let list = merged.words;
     let count = merged.count;
     let mut string = [0u8; tag::MAX_STRING];
-    let written = tag::write_string(&list[..count], separator, &mut string);
+    let written = tag::write_string(tag::FORM_1, &list[..count], separator, &mut string);
     let length = written.length;
     let permutations = counters::permutations::permutations_at(&list[..count], count as u32, 0);
     put_ok(buffer, &string[..length], permutations)
 }
 
 // Writes the answer to a line, and a newline, from the buffer's start on, and gives the number of these bytes.
-pub fn answer(line: &[u8], buffer: &mut [u8; 1042]) -> usize
+pub fn answer(line: &[u8], buffer: &mut [u8; 1050]) -> usize
     ensures { λ r. ⌜ (r ≡ length (withNewline (answer (now (line .entry))))) ×
         (now (buffer .exit) ≡ placed (now (buffer .entry)) 0 (withNewline (answer (now (line .entry))))) ⌝ }
 {

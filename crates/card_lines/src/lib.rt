@@ -51,7 +51,7 @@ fn extend(line: &mut [u8; 2049], held: usize, bytes: &[u8]) -> usize
 }
 
 // Writes the answer to the line in progress, and a newline.
-fn answer_held(line: &[u8], held: usize, answer: &mut [u8; 1042]) -> usize
+fn answer_held(line: &[u8], held: usize, answer: &mut [u8; 1050]) -> usize
     requires { ⌜ length (now line) ≡ 2049 ⌝ }
     ensures { λ r. ⌜ (r ≡ length (heldAnswer (now (line .entry)) held)) ×
         (now (answer .exit) ≡ placed (now (answer .entry)) 0 (heldAnswer (now (line .entry)) held)) ⌝ }
@@ -62,7 +62,7 @@ fn answer_held(line: &[u8], held: usize, answer: &mut [u8; 1042]) -> usize
 
 // Takes the bytes of a piece up to its first newline, or all if it has none. At a newline the answer to the line is written from the
 // start of `answer` on, with a newline, and the next line begins.
-pub fn feed(line: &mut [u8; 2049], held: usize, piece: &[u8], answer: &mut [u8; 1042]) -> Fed
+pub fn feed(line: &mut [u8; 2049], held: usize, piece: &[u8], answer: &mut [u8; 1050]) -> Fed
     ensures { λ r. ⌜ (r ≡ fed (now (line .entry)) held (now (piece .entry))) ×
         (now (line .exit) ≡ lineAfter (now (line .entry)) held (now (piece .entry))) ×
         (now (answer .exit) ≡ placed (now (answer .entry)) 0 (writes (now (line .entry)) held (now (piece .entry)))) ⌝ }
@@ -113,7 +113,7 @@ pub fn answer_lines(line: &mut [u8; 2049], last: Fed, piece: &[u8], output: &mut
         (now (line .exit) ≡ answeredLine (now (line .entry)) last (now (piece .entry))) ×
         (now (output .exit) ≡ placed (now (output .entry)) 0 (answeredText (now (line .entry)) last (now (piece .entry)))) ⌝ }
 {
-    let mut answer = [0u8; 1042];
+    let mut answer = [0u8; 1050];
     let mut held = last.held;
     let mut used = last.used;
     let mut written: usize = 0;
@@ -134,7 +134,7 @@ pub fn answer_lines(line: &mut [u8; 2049], last: Fed, piece: &[u8], output: &mut
 
 // At the end of the input, from what the last call gave: writes the answer to the line in progress, if it has a byte, and gives the number of
 // bytes written: 0 exactly if no line is in progress.
-pub fn end(line: &[u8; 2049], last: Fed, answer: &mut [u8; 1042]) -> usize
+pub fn end(line: &[u8; 2049], last: Fed, answer: &mut [u8; 1050]) -> usize
     ensures { λ r. ⌜ (r ≡ length (lastAnswer (now (line .entry)) (last .held))) ×
         (now (answer .exit) ≡ placed (now (answer .entry)) 0 (lastAnswer (now (line .entry)) (last .held))) ⌝ }
 {

@@ -51,7 +51,7 @@ fn answer_piece(line: &mut [u8; 2049], last: Fed, piece: &[u8], output: &mut [u8
 }
 
 // Answers the line that the end of the input ends, if there is one.
-fn answer_last(line: &[u8; 2049], fed: Fed, answer: &mut [u8; 1042]) {
+fn answer_last(line: &[u8; 2049], fed: Fed, answer: &mut [u8; 1050]) {
     let written = card_lines::end(line, fed, answer);
     write(answer, written);
 }
@@ -85,6 +85,6 @@ fn main() {
         let next = state.fed;
         fed = next;
     }
-    let mut answer = [0u8; 1042];
+    let mut answer = [0u8; 1050];
     answer_last(&line, fed, &mut answer);
 }

@@ -15,7 +15,7 @@ use Rattle.basics.proofs.Placed.{placed-front}
 use Rattle.words.specs.Words.{isAbsorb, lengthOf, phaseOf, wordOf}
 use Rattle.pattern.specs.Pattern.{join, merge, phases, mergedWords}
 use Rattle.pattern.specs.Opening.{opening, wordRows, openingRows, openingNumber}
-use Rattle.tag.specs.TagString.{wordBytes, stringOf, tagString}
+use Rattle.tag.specs.TagString.{wordBytes, tailOf, stringOf, tagString}
 use Rattle.counters.specs.Permutations.{blockCount, phasePermutations, permutationsAt, fullPermutations}
 use Rattle.session.specs.Calls.{start}
 use Rattle.runs.specs.Runs.{Run, tagOf, permutationsOf}
@@ -37,6 +37,7 @@ use Rattle.card_lines.proofs.Callers.{answered-some, pieces-output}
 use Rattle.card_lines.proofs.Cutting.{written-output, start-holds}
 use Rattle.claims.specs.Sessions.{count-of-session}
 use Rattle.claims.specs.Fields.{fields-by-number, known-field-at-start}
+use Rattle.claims.specs.Forms.{forms-by-number}
 
 -- A line is read as a card exactly if it has at most 2,048 bytes and is the text of a separator and words, byte for byte; and as no card
 -- exactly if it is not.
@@ -69,25 +70,26 @@ cards-of-2048-bytes-are-read separator ws bytes words short =
 pub answer-to-long-line : (line : List ℕ) → 2048 < length line → answer line ≡ noText notCard
 answer-to-long-line = answer-long
 
--- "Old cards mean field 1." (document 02): the number is the one that START gives in field 1.
+-- "Old cards mean field 1." (document 02), and they are "form 1": the number is the one that START gives in field 1 and form 1, and the tag string is
+-- of form 1.
 pub cards-mean-field-1 : (line separator ws : List ℕ) → CardOf line separator ws
     → let o = opening ws separator in
-    let number = start 1 o .number in
-    answer line ≡ (if eqb number accepted then okText (tagString o) (fullPermutations ws) else noText number)
+    let number = start 1 1 o .number in
+    answer line ≡ (if eqb number accepted then okText (tagString 1 o) (fullPermutations ws) else noText number)
 unfolding cardAnswer
 cards-mean-field-1 line separator ws c =
     let o = opening ws separator in
     answer-to-card line separator ws c
-    ∙ ap (λ (n : ℕ). if eqb n accepted then okText (tagString o) (fullPermutations ws) else noText n) (sym (known-field-at-start 1 o (fields-by-number .0)))
+    ∙ ap (λ (n : ℕ). if eqb n accepted then okText (tagString 1 o) (fullPermutations ws) else noText n) (sym (known-field-at-start 1 1 o (fields-by-number .0) (forms-by-number .0)))
 
 -- "tag string .. permutations of a full session": what a card is answered with is the tag string and the count of every finished session of
--- its words and separator, in either field.
-pub answer-is-of-session : (a : Run) (line : List ℕ) → CardOf line (a .opening .separator) (a .opening .words) → answer line ≡ okText (tagOf a) (permutationsOf a)
+-- its words and separator, in either field, of form 1.
+pub answer-is-of-session : (a : Run) → a .form ≡ 1 → (line : List ℕ) → CardOf line (a .opening .separator) (a .opening .words) → answer line ≡ okText (tagOf a) (permutationsOf a)
 unfolding fullPermutations
-answer-is-of-session a line c =
+answer-is-of-session a f line c =
     answer-to-card line (a .opening .separator) (a .opening .words) c
-    ∙ accepted-answer (a .opening) (start-accepted (a .field) (a .opening) (a .opens))
-    ∙ ap (okText (tagOf a)) (sym (count-of-session a))
+    ∙ accepted-answer (a .opening) (start-accepted (a .field) (a .form) (a .opening) (a .opens))
+    ∙ ap₂ (λ (form count : ℕ). okText (tagString form (a .opening)) count) (sym f) (sym (count-of-session a))
 
 -- The bytes that a call wrote are the first ones of the array that it was lent, as many as the number in its answer says. Of `card::answer` they
 -- are the answer and a newline;
@@ -198,7 +200,7 @@ unfolding line3 all _and_ hexDigit hex separatorText decimalUpTo decimal callTex
 card3 = record { short = lit≤ tt; bytes = refl; words = refl; text = refl }
 
 answer1 : answer line1 ≡ ascii "(ok 80000006000000034142 1)"
-unfolding cardAnswer okText openingNumber openingRows wordRows firstNumber tagString stringOf wordBytes digits mergedWords phases merge join phaseOf wordOf isAbsorb lengthOf
+unfolding cardAnswer okText openingNumber openingRows wordRows firstNumber tagString stringOf tailOf wordBytes digits mergedWords phases merge join phaseOf wordOf isAbsorb lengthOf
     fullPermutations permutationsAt phasePermutations blockCount sum hexDigit hex decimalUpTo decimal if_then_else_ _or_ same any
 answer1 = answer-to-card _ _ _ card1 ∙ refl
 

@@ -31,14 +31,14 @@ use Rattle.runs.proofs.EnclosedCalls.{enclosed, calls-inside, refused-first}
 
 -- "a list of ABSORB, SQUEEZE and FINISH calls, refused ones included, that ends in an accepted FINISH": every list of calls that START and an
 -- accepted FINISH enclose is that of a run.
-pub every-list-is-a-run : (field : ℕ) (o : Opening) (cs : List Call)
-    → start field o .number ≡ accepted → finish (leftBy (start field o .session) cs) .number ≡ accepted
-    → (a : Run) × (a .field ≡ field) × (a .opening ≡ o) × (a .before ≡ cs)
+pub every-list-is-a-run : (field form : ℕ) (o : Opening) (cs : List Call)
+    → start field form o .number ≡ accepted → finish (leftBy (start field form o .session) cs) .number ≡ accepted
+    → (a : Run) × (a .field ≡ field) × (a .form ≡ form) × (a .opening ≡ o) × (a .before ≡ cs)
 every-list-is-a-run = enclosed
 
 -- "refused ones included": whatever run there is, there is one more that begins with an ABSORB which is refused.
 pub refused-calls-are-included : (a : Run) (x : ℕ) → isElement (fieldOf (a .field)) x ≡ false
-    → (b : Run) × (b .field ≡ a .field) × (b .opening ≡ a .opening) × (b .before ≡ ABSORB (x ∷ []) ∷ a .before)
+    → (b : Run) × (b .field ≡ a .field) × (b .form ≡ a .form) × (b .opening ≡ a .opening) × (b .before ≡ ABSORB (x ∷ []) ∷ a .before)
     × (answered (startedOf b) (ABSORB (x ∷ [])) .number ≡ elementNotReduced)
 refused-calls-are-included = refused-first
 
@@ -95,10 +95,10 @@ no-call-adds-none r c = (refl, refl, refl, refl)
 -- What is compared of a run: its tag string and pattern, by what START got; by the whole list of calls on the record that START gave, what is
 -- absorbed and squeezed, and the blocks; and the count in the record that the last call, FINISH, gets.
 pub compared : (a : Run)
-    → let r = start (a .field) (a .opening) .session in
+    → let r = start (a .field) (a .form) (a .opening) .session in
     let cs = a .before ++ (FINISH ∷ []) in
     let ps = phases (a .opening .words) in
-    (startedOf a ≡ r) × (tagOf a ≡ tagString (a .opening)) × (patternOf a ≡ ps) × (absorbedOf a ≡ absorbed r cs) × (squeezedOf a ≡ squeezed r cs)
+    (startedOf a ≡ r) × (tagOf a ≡ tagString (a .form) (a .opening)) × (patternOf a ≡ ps) × (absorbedOf a ≡ absorbed r cs) × (squeezedOf a ≡ squeezed r cs)
     × (blocksOf a ≡ blocks ps (absorbed r cs)) × (permutationsOf a ≡ leftBy r (a .before) .permutations)
 compared a = (refl, refl, refl, refl, refl, refl, refl)
 

@@ -27,6 +27,7 @@ use Rattle.poseidon.proofs.Bounds.{multiplied}
 use Rattle.poseidon.proofs.PlainSums.{sums-below, round-of-plain-sums}
 use Rattle.poseidon.proofs.Remainders.{round-congruent}
 use Rattle.pattern.specs.Opening.{Opening, openingNumber}
+use Rattle.tag.specs.TagString.{isForm}
 use Rattle.sponge.specs.Sponge.{readyToAbsorb, absorbElement, readyToSqueeze, squeezedElement, squeezeElement}
 use Rattle.sponge.specs.declared.Sponge.{Sponge}
 use Rattle.session.specs.Record.{wiped, opened, openRecord, spongeOf, moved, absorbOne, squeezeOne, squeezedOne}
@@ -36,7 +37,7 @@ use Rattle.session.specs.declared.Session.{Session}
 use Rattle.session.proofs.Opening.{start-unknown}
 use Rattle.session.proofs.SoundRecord.{parts}
 use Rattle.runs.specs.Calls.{Call, answered, leftBy}
-use Rattle.runs.proofs.Opened.{number-known-field, accepted-start, start-record}
+use Rattle.runs.proofs.Opened.{number-known-both, accepted-start, start-record}
 use Rattle.runs.proofs.Counted.{start-field}
 use Rattle.runs.proofs.SamePattern.{same-left-by}
 use Rattle.runs.proofs.EnclosedCalls.{not-sound-refused}
@@ -166,31 +167,32 @@ rounds-of-each-field f r s t h =
 
 -- ---- START, records and the bare permutation
 
--- "18: field number neither 1 nor 2, before 1 at START": whatever words and separator there are, and the record is wiped.
-pub unknown-field-at-start : (field : ℕ) (o : Opening) → isField field ≡ false → start field o ≡ giving fieldUnknown wiped
+-- "18: field number neither 1 nor 2, before 1 at START": whatever form number, words and separator there are, and the record is wiped.
+pub unknown-field-at-start : (field form : ℕ) (o : Opening) → isField field ≡ false → start field form o ≡ giving fieldUnknown wiped
 unknown-field-at-start = start-unknown
 
--- With the number of a field START's number is the one of the words and the separator, in either field.
-pub known-field-at-start : (field : ℕ) (o : Opening) → isField field ≡ true → start field o .number ≡ openingNumber o
-known-field-at-start = number-known-field
+-- With the numbers of a field and a form START's number is the one of the words and the separator, in either field and form.
+pub known-field-at-start : (field form : ℕ) (o : Opening) → isField field ≡ true → isForm form ≡ true → start field form o .number ≡ openingNumber o
+known-field-at-start = number-known-both
 
 -- "START takes a field number .. and the record keeps it": START's record has it, and whatever calls leave open has it still.
-pub start-keeps-the-field : (field : ℕ) (o : Opening) → start field o .number ≡ accepted → start field o .session .field ≡ field
+pub start-keeps-the-field : (field form : ℕ) (o : Opening) → start field form o .number ≡ accepted → start field form o .session .field ≡ field
 start-keeps-the-field = start-field
 
-pub calls-keep-the-field : (field : ℕ) (o : Opening) → start field o .number ≡ accepted → (cs : List Call)
-    → let r = leftBy (start field o .session) cs in
+pub calls-keep-the-field : (field form : ℕ) (o : Opening) → start field form o .number ≡ accepted → (cs : List Call)
+    → let r = leftBy (start field form o .session) cs in
     r .status ≡ opened → r .field ≡ field
-calls-keep-the-field field o e cs still = same-left-by (start field o .session) cs (eq-eqb _ _ still) .field ∙ start-field field o e
+calls-keep-the-field field form o e cs still = same-left-by (start field form o .session) cs (eq-eqb _ _ still) .field ∙ start-field field form o e
 
 -- "Rate, capacity and tags don't change.": the records that START gives in the two fields differ in the field number alone.
-pub same-tag-in-both-fields : (o : Opening) → openingNumber o ≡ accepted
-    → let r = start 1 o .session in
+pub same-tag-in-both-fields : (form : ℕ) (o : Opening) → isForm form ≡ true → openingNumber o ≡ accepted
+    → let r = start 1 form o .session in
     _≡_ {A = Session}
-    (start 2 o .session)
+    (start 2 form o .session)
     (record {
       status = r .status;
       field = 2;
+      form = r .form;
       state = r .state;
       words = r .words;
       count = r .count;
@@ -201,14 +203,14 @@ pub same-tag-in-both-fields : (o : Opening) → openingNumber o ≡ accepted
       permutations = r .permutations;
     })
 unfolding startRecord openRecord
-same-tag-in-both-fields o e =
-    rw (start-record 1 o (accepted-start 1 o (fields-by-number .0) e)) (start-record 2 o (accepted-start 2 o (fields-by-number .1) e))
+same-tag-in-both-fields form o f e =
+    rw (start-record 1 form o (accepted-start 1 form o (fields-by-number .0) f e)) (start-record 2 form o (accepted-start 2 form o (fields-by-number .1) f e))
 
--- "Wiped means every field 0.": the field number too.
-pub wiped-is-0 : (wiped .status ≡ 0) × (wiped .field ≡ 0) × (wiped .state ≡ replicate 24 0) × (wiped .words ≡ replicate 64 0) × (wiped .count ≡ 0)
+-- "Wiped means every field 0.": the field number and the form number too.
+pub wiped-is-0 : (wiped .status ≡ 0) × (wiped .field ≡ 0) × (wiped .form ≡ 0) × (wiped .state ≡ replicate 24 0) × (wiped .words ≡ replicate 64 0) × (wiped .count ≡ 0)
     × (wiped .phase ≡ 0) × (wiped .done ≡ 0) × (wiped .«absorb_position» ≡ 0) × (wiped .«squeeze_position» ≡ 0) × (wiped .permutations ≡ 0)
 unfolding wiped
-wiped-is-0 = (refl, refl, refl, refl, refl, refl, refl, refl, refl, refl)
+wiped-is-0 = (refl, refl, refl, refl, refl, refl, refl, refl, refl, refl, refl)
 
 -- "p and element, in soundness, number 10, arithmetic and the generator alike, mean those of the field that the record or the call names": an
 -- element is added modulo the p of the record's field, and the state permuted, where the position is 8, by the permutation of that field.

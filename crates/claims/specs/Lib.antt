@@ -1,5 +1,6 @@
 pub mod Primitives
 pub mod Fields
+pub mod Forms
 pub mod TagStrings
 pub mod Steps
 pub mod Sessions

@@ -1,7 +1,7 @@
 -- What patterns get whose last call is SQUEEZE. By document 01 there were no others: 4 is for "last word is ABSORB (003: pairs only)", and an open
 -- record is sound only if its words are "2 to 64, even in number". Document 02, P6: "Every pattern accepted before gets the same tag and, for the same
 -- list of calls, the same elements and count, and this is proved." Rules of pairs are those of document 01 with the requests before; rules are what
--- START, and what each call, answers.
+-- START, and what each call, answers. The tag strings of then are "today's", which P8 calls form 1.
 use mathlib.Core.Path.{_≡_, refl, sym, ap, ap₂, _∙_}
 use mathlib.Core.Bool.{Bool, true, false, not, true≢false}
 use mathlib.Core.List.{List, [], _∷_, _++_}
@@ -15,7 +15,7 @@ use Rattle.basics.specs.Logic.{if_then_else_, _and_, _or_, same, all, any}
 use Rattle.basics.specs.Digits.{number, numberAfter}
 use Rattle.basics.specs.Lists.{tabulate, sum}
 use Rattle.counters.specs.Permutations.{blockCount, phasePermutations, permutationsAt, fullPermutations}
-use Rattle.tag.specs.TagString.{wordAt, wordsOf, wordsPart, soundBytes, readRows, readNumber}
+use Rattle.tag.specs.TagString.{isForm, wordAt, wordsOf, bodyOf, lengthIn, wordsPart, soundBytes, bodyRows, tailMissing, readRows, readNumber}
 use Rattle.basics.specs.Numbers.{accepted, lastWordAbsorb, separatorTooLong, recordNotSound, fieldUnknown}
 use Rattle.basics.specs.Refusals.{Row, _gets_⨾_, firstNumber}
 use Rattle.basics.proofs.Cases.{by, cases, if-true, if-false, or-false, and-stop, and-false}
@@ -37,6 +37,7 @@ use Rattle.runs.proofs.EnclosedCalls.{not-sound-refused}
 use Rattle.runs.proofs.Opened.{start-known, start-accepted}
 use Rattle.runs.proofs.Counted.{start-count}
 use Rattle.runs.proofs.SamePattern.{same-left-by}
+use Rattle.claims.specs.Forms.{forms-by-number}
 
 -- the last of words
 abbrev lastOf : List ℕ → ℕ
@@ -55,7 +56,7 @@ pairRows field o =
 unfoldable pub pairStart : ℕ → Opening → Answer
 pairStart field o =
     let number = firstNumber (pairRows field o) in
-    if eqb number accepted then giving accepted (startRecord field o) else giving number wiped
+    if eqb number accepted then giving accepted (startRecord field 1 o) else giving number wiped
 
 -- a sound record by the rules of pairs: "its words are 2 to 64, even in number"
 unfoldable pub pairSound : Session → Bool
@@ -106,7 +107,7 @@ module _ (field : ℕ) (o : Opening) where
   unfolding pairStart giving
   pair-number = by (λ (a : Answer). a .number ≡ firstNumber (pairRows field o)) _ _ _ (λ e. sym (eqb-true _ _ e)) λ _. refl
 
-  pair-accepted : firstNumber (pairRows field o) ≡ accepted → pairStart field o ≡ giving accepted (startRecord field o)
+  pair-accepted : firstNumber (pairRows field o) ≡ accepted → pairStart field o ≡ giving accepted (startRecord field 1 o)
   unfolding pairStart
   pair-accepted e = if-true _ _ _ (eq-eqb _ _ e)
 
@@ -136,28 +137,28 @@ module _ (field : ℕ) (o : Opening) where
       none-applies (pairRows field o)
       (rw (ap not known, w .e1, w .e2, w .e19, w .e3, squeezes, le-ltb maxSeparator (length (o .separator)) (p .short)))
 
-  present-number : pairStart field o .number ≡ accepted → start field o .number ≡ accepted
+  present-number : pairStart field o .number ≡ accepted → start field 1 o .number ≡ accepted
   unfolding giving
   present-number e =
       let (known, passed, _) = pair-passed (sym pair-number ∙ e) in
-      ap (λ (a : Answer). a .number) (start-opens field o known (passes o passed))
+      ap (λ (a : Answer). a .number) (start-opens field 1 o known (forms-by-number .0) (passes o passed))
 
--- The patterns that the rules of pairs accept are those that are accepted and have SQUEEZE last.
+-- The patterns that the rules of pairs accept are those that are accepted, in form 1, and have SQUEEZE last.
 pub accepted-by-pairs : (field : ℕ) (o : Opening)
     → (pairStart field o .number ≡ accepted)
-    ↔ ((start field o .number ≡ accepted) × (isAbsorb (getD (o .words) (length (o .words) - 1) 0) ≡ false))
+    ↔ ((start field 1 o .number ≡ accepted) × (isAbsorb (getD (o .words) (length (o .words) - 1) 0) ≡ false))
 accepted-by-pairs field o = (
   λ e. (present-number field o e, pair-passed field o (sym (pair-number field o) ∙ e) .2),
   λ p.
       pair-number field o
-      ∙ pair-passes field o (start-known field o (p .0)) (passed-rows o (start-accepted field o (p .0))) (p .1),
+      ∙ pair-passes field o (start-known field 1 o (p .0)) (passed-rows o (start-accepted field 1 o (p .0))) (p .1),
 )
 
-same-start : (field : ℕ) (o : Opening) → pairStart field o .number ≡ accepted → pairStart field o ≡ start field o
+same-start : (field : ℕ) (o : Opening) → pairStart field o .number ≡ accepted → pairStart field o ≡ start field 1 o
 same-start field o e =
     let number = sym (pair-number field o) ∙ e in
     let (known, passed, _) = pair-passed field o number in
-    pair-accepted field o number ∙ sym (start-opens field o known (passes o passed))
+    pair-accepted field o number ∙ sym (start-opens field 1 o known (forms-by-number .0) (passes o passed))
 
 -- ---- the number of words
 
@@ -174,11 +175,11 @@ even-merged (w ∷ ws) p squeezes =
     let long = length-map (phases (w ∷ ws)) wordOf in
     (omega arith, omega arith)
 
-start-paired : (field : ℕ) (o : Opening) → pairStart field o .number ≡ accepted → Paired (start field o .session)
+start-paired : (field : ℕ) (o : Opening) → pairStart field o .number ≡ accepted → Paired (start field 1 o .session)
 start-paired field o e opens =
     let (_, passed, squeezes) = pair-passed field o (sym (pair-number field o) ∙ e) in
     let (two, even) = even-merged (o .words) (passed .of-words) squeezes in
-    let count = start-count field o (present-number field o e) in
+    let count = start-count field 1 o (present-number field o e) in
     (omega arith, rw count even)
 
 left-paired : (r : Session) (c : Call) → Paired r → Paired (left r c)
@@ -214,13 +215,13 @@ same-outcomes r (c ∷ cs) p =
     ap (λ (a : Answer). record { answer = a; writes = writesBy a r c } ∷ outcomes pairAnswered (a .session) cs) same
     ∙ ap (λ (os : List Outcome). record { answer = answered r c; writes = writesBy (answered r c) r c } ∷ os) (same-outcomes (answered r c .session) cs (left-paired r c p))
 
--- "Every pattern accepted before gets the same tag and, for the same list of calls, the same elements and count": START gives the same number and
+-- "Every pattern accepted before gets the same tag and, for the same list of calls, the same elements and count": START gives in form 1 the same number and
 -- record by both rules, and so does every call of every list, refused ones included, with the same elements written. (The record has the tag in its
 -- state, and counts its permutations.)
 pub nothing-changes : (field : ℕ) (o : Opening) → pairStart field o .number ≡ accepted
-    → (pairStart field o ≡ start field o)
-    × ((cs : List Call) → outcomes pairAnswered (start field o .session) cs ≡ outcomes answered (start field o .session) cs)
-nothing-changes field o e = (same-start field o e, λ cs. same-outcomes (start field o .session) cs (start-paired field o e))
+    → (pairStart field o ≡ start field 1 o)
+    × ((cs : List Call) → outcomes pairAnswered (start field 1 o .session) cs ≡ outcomes answered (start field 1 o .session) cs)
+nothing-changes field o e = (same-start field o e, λ cs. same-outcomes (start field 1 o .session) cs (start-paired field o e))
 
 -- What is compared of a list of calls, by any rules: each call gets the record that the one before left, and answers by the rules; what it writes goes by that answer, which by the
 -- present rules is what the third demand takes for squeezed.
@@ -271,11 +272,11 @@ rows-of-pairs field ws separator = pair-number field (opening ws separator)
 
 -- "So number 13's example in 01 now reads, and 00000001 with length 0 takes its place."
 pub examples-read :
-    (_≡_ {A = ℕ} (readNumber (0x80 ∷ 0 ∷ 0 ∷ 3 ∷ []) 0) 0)
-    × (_≡_ {A = ℕ} (readNumber (0 ∷ 0 ∷ 0 ∷ 1 ∷ []) 0) 13)
-    × (_≡_ {A = ℕ} (readNumber [] 0) 13)
-unfolding readNumber readRows soundBytes wordsPart wordsOf wordAt firstNumber soundWords alternate isAbsorb lengthOf number numberAfter tabulate
-    if_then_else_ _and_ same all
+    (_≡_ {A = ℕ} (readNumber 1 (0x80 ∷ 0 ∷ 0 ∷ 3 ∷ []) 0) 0)
+    × (_≡_ {A = ℕ} (readNumber 1 (0 ∷ 0 ∷ 0 ∷ 1 ∷ []) 0) 13)
+    × (_≡_ {A = ℕ} (readNumber 1 [] 0) 13)
+unfolding readNumber readRows bodyRows bodyOf lengthIn tailMissing isForm soundBytes wordsPart wordsOf wordAt firstNumber soundWords alternate isAbsorb lengthOf number numberAfter tabulate
+    if_then_else_ _and_ _or_ same all
 examples-read = (refl, refl, refl)
 
 -- The last block of a session that ends by absorbing is absorbed and not permuted: 8 elements take no permutation, and 9 take one.

@@ -80,12 +80,13 @@ pub calls-by-hand :
 unfolding noteCalls blockCalls blocksOf
 calls-by-hand = refl
 
--- Where sealing is accepted, START accepts the words of the note, and the calls of Algorithm 7 on its record end in an accepted FINISH: they are a session
+-- Where sealing is accepted, START accepts the words of the note in form 1 ("Sealed notes keep form 1."), and the calls of Algorithm 7 on its record end in an accepted FINISH: they are a session
 -- that the third demand speaks of. It absorbs key, nonce and plain elements, in this order, and squeezes eight more than these last; and what is left is what
 -- it squeezes, with the plain elements added to all but the last eight, the mark.
 pub sealing-is-algorithm-7 : (c : Context) (plain buffer : List ℕ) → sealNote c plain buffer .number ≡ accepted
     → (a : Run)
     × (a .field ≡ c .field)
+    × (a .form ≡ 1)
     × (a .opening ≡ opening (sealWords (c .lengths)) (c .separator))
     × (a .before ≡ noteCalls c plain)
     × (absorbedOf a ≡ c .key ++ c .nonce ++ plain)
@@ -96,6 +97,7 @@ sealing-is-algorithm-7 c plain buffer e =
     let number = sym (seal-number c plain buffer) ∙ e in
     let p = passed c plain 0 (length buffer) 8 number in (
       note-run c plain p,
+      refl,
       refl,
       refl,
       refl,

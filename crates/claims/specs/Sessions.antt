@@ -19,6 +19,7 @@ use Rattle.counters.specs.Permutations.{permutationsAt}
 use Rattle.pattern.specs.Opening.{Opening, opening, maxCall}
 use Rattle.cutting.specs.Cutting.{cutWords, cutNumber}
 use Rattle.cutting.proofs.Openings.{cut-merges, cut-accepted, accepted-suffices}
+use Rattle.tag.specs.TagString.{isForm}
 use Rattle.session.specs.Record.{opened, openRecord, squeezedAll}
 use Rattle.session.specs.Soundness.{sound}
 use Rattle.session.specs.Calls.{start, absorb, squeeze}
@@ -41,9 +42,9 @@ use Rattle.runs.proofs.SqueezedElements.{squeezed-reduced}
 use Rattle.runs.proofs.Cuts.{absorb-part, absorb-cut, squeeze-part, squeeze-cut, squeezed-cut}
 
 -- START's record is open and sound.
-pub start-gives-sound : (field : ℕ) (o : Opening) → start field o .number ≡ accepted
-    → (start field o .session .status ≡ opened) × (sound (start field o .session) ≡ true)
-start-gives-sound field o e = (start-open field o e, start-sound field o e)
+pub start-gives-sound : (field form : ℕ) (o : Opening) → start field form o .number ≡ accepted
+    → (start field form o .session .status ≡ opened) × (sound (start field form o .session) ≡ true)
+start-gives-sound field form o e = (start-open field form o e, start-sound field form o e)
 
 -- Every call, refused or not, leaves an open record sound. (A record that is open and not sound is left as it was.)
 pub calls-leave-sound : (r : Session) (c : Call) → (r .status ≡ opened → sound r ≡ true)
@@ -51,16 +52,16 @@ pub calls-leave-sound : (r : Session) (c : Call) → (r .status ≡ opened → s
 calls-leave-sound r c s o = sound-left r c (λ e. s (eqb-true _ _ e)) (eq-eqb _ _ o)
 
 -- Whatever calls are made on START's record, it is sound as long as it is open.
-pub sessions-stay-sound : (field : ℕ) (o : Opening) → start field o .number ≡ accepted → (cs : List Call)
-    → leftBy (start field o .session) cs .status ≡ opened → sound (leftBy (start field o .session) cs) ≡ true
-sessions-stay-sound field o e cs still = sound-run field o e cs (eq-eqb _ _ still)
+pub sessions-stay-sound : (field form : ℕ) (o : Opening) → start field form o .number ≡ accepted → (cs : List Call)
+    → leftBy (start field form o .session) cs .status ≡ opened → sound (leftBy (start field form o .session) cs) ≡ true
+sessions-stay-sound field form o e cs still = sound-run field form o e cs (eq-eqb _ _ still)
 
 -- "Permutations for d elements done in a phase .. Their sum over phases is the count.": that is the record's count at every place that calls
 -- lead to.
-pub count-at-every-place : (field : ℕ) (o : Opening) → start field o .number ≡ accepted → (cs : List Call)
-    → let r = leftBy (start field o .session) cs in
+pub count-at-every-place : (field form : ℕ) (o : Opening) → start field form o .number ≡ accepted → (cs : List Call)
+    → let r = leftBy (start field form o .session) cs in
     r .status ≡ opened → r .permutations ≡ permutationsAt (mergedWords (o .words)) (r .phase) (r .done)
-count-at-every-place field o e cs still = count-run field o e cs (eq-eqb _ _ still)
+count-at-every-place field form o e cs still = count-run field form o e cs (eq-eqb _ _ still)
 
 -- A finished session has counted the permutations of its whole merged pattern, whichever calls its list holds.
 pub count-of-session : (a : Run) → permutationsOf a ≡ permutationsAt (mergedWords (a .opening .words)) (length (mergedWords (a .opening .words))) 0
@@ -68,32 +69,33 @@ count-of-session = count-whole
 
 -- Every place of an accepted pattern is reached: some calls lead START's record to an open record in any phase, with any number of elements
 -- below that phase's length done,
-pub every-place-is-reached : (field : ℕ) (o : Opening) → start field o .number ≡ accepted → (phase done : ℕ)
+pub every-place-is-reached : (field form : ℕ) (o : Opening) → start field form o .number ≡ accepted → (phase done : ℕ)
     → phase < length (mergedWords (o .words)) → done < lengthOf (getD (mergedWords (o .words)) phase 0)
-    → (cs : List Call) × (let r = leftBy (start field o .session) cs in (r .status ≡ opened) × (r .phase ≡ phase) × (r .done ≡ done))
-every-place-is-reached field o e phase done h l =
-    let reached = place-reached field o e phase done h l in
+    → (cs : List Call) × (let r = leftBy (start field form o .session) cs in (r .status ≡ opened) × (r .phase ≡ phase) × (r .done ≡ done))
+every-place-is-reached field form o e phase done h l =
+    let reached = place-reached field form o e phase done h l in
     (reached .0, (reached .1 .opens, reached .1 .phase, reached .1 .done))
 
 -- and some to one after the last phase.
-pub every-end-is-reached : (field : ℕ) (o : Opening) → start field o .number ≡ accepted
+pub every-end-is-reached : (field form : ℕ) (o : Opening) → start field form o .number ≡ accepted
     → (cs : List Call)
-    × (let r = leftBy (start field o .session) cs in (r .status ≡ opened) × (r .phase ≡ length (mergedWords (o .words))) × (r .done ≡ 0))
-every-end-is-reached field o e =
-    let reached = end-reached field o e in
+    × (let r = leftBy (start field form o .session) cs in (r .status ≡ opened) × (r .phase ≡ length (mergedWords (o .words))) × (r .done ≡ 0))
+every-end-is-reached field form o e =
+    let reached = end-reached field form o e in
     (reached .0, (reached .1 .opens, reached .1 .phase, reached .1 .done))
 
 -- "count and positions are those the steps give at that place": from the begin of its pattern, with any state of elements, some calls lead to a record
--- that is this one in all but the state, for every open sound record. (`openRecord` is the record that START makes of a field number, a state and
--- merged words. There are 64 words in every record that a caller can hand over.)
+-- that is this one in all but the state, for every open sound record. (`openRecord` is the record that START makes of a field number, a form number, a
+-- state and merged words. There are 64 words in every record that a caller can hand over.)
 pub sound-records-are-reached : (r : Session) → length (r .words) ≡ 64 → r .status ≡ opened → sound r ≡ true
     → (state : List ℕ) → all (isElement (fieldOf (r .field))) state ≡ true
     → (cs : List Call)
-    × (let t = leftBy (openRecord (r .field) state (take (r .count) (r .words))) cs in
+    × (let t = leftBy (openRecord (r .field) (r .form) state (take (r .count) (r .words))) cs in
     (_≡_ {A = Session}
     (record {
       status = t .status;
       field = t .field;
+      form = t .form;
       state = r .state;
       words = t .words;
       count = t .count;
@@ -107,9 +109,10 @@ pub sound-records-are-reached : (r : Session) → length (r .words) ≡ 64 → r
 sound-records-are-reached r long opens e state elements = record-reached r (parts r e) state elements opens long
 
 -- Such a begin is sound, whatever 31-bit lengths its words have,
-pub begins-are-sound : (field : ℕ) (state ws : List ℕ) → isField field ≡ true → all (isElement (fieldOf field)) state ≡ true → soundWords ws ≡ true
-    → sound (openRecord field state ws) ≡ true
-begins-are-sound field state ws known elements pattern = whole (openRecord field state ws) (open-sound field state ws known elements pattern)
+pub begins-are-sound : (field form : ℕ) (state ws : List ℕ) → isField field ≡ true → isForm form ≡ true → all (isElement (fieldOf field)) state ≡ true
+    → soundWords ws ≡ true → sound (openRecord field form state ws) ≡ true
+begins-are-sound field form state ws known formed elements pattern =
+    whole (openRecord field form state ws) (open-sound field form state ws known formed elements pattern)
 
 -- and a sound record's words are a sound word list, wherever it is.
 pub sound-records-have-sound-words : (r : Session) → sound r ≡ true → soundWords (take (r .count) (r .words)) ≡ true
@@ -119,23 +122,23 @@ sound-records-have-sound-words r e = parts r e .pattern
 pub sound-records-are-opened : (r : Session) → Below 4294967296 (r .words) → sound r ≡ true
     → let ws = take (r .count) (r .words) in
     cutNumber ws ≡ accepted → (separator : List ℕ) → length separator ≤ 256
-    → let a = start (r .field) (opening (cutWords maxCall ws) separator) in
+    → let a = start (r .field) (r .form) (opening (cutWords maxCall ws) separator) in
     (a .number ≡ accepted)
-    × ((state : List ℕ) × (all (isElement (fieldOf (r .field))) state ≡ true) × (a .session ≡ openRecord (r .field) state ws))
+    × ((state : List ℕ) × (all (isElement (fieldOf (r .field))) state ≡ true) × (a .session ≡ openRecord (r .field) (r .form) state ws))
 sound-records-are-opened r fits e suffice separator short =
     let s = parts r e in
     let ws = take (r .count) (r .words) in
     let bits = below-take _ (r .count) (r .words) fits in
     let o = opening (cutWords maxCall ws) separator in
-    let opens = accepted-start (r .field) o (s .known) (cut-accepted ws (s .pattern) bits suffice separator short) in
-    let (state, elements, begun) = started-at (r .field) o opens in
-    (opens, (state, elements, begun ∙ ap (openRecord (r .field) state) (cut-merges ws (s .pattern) bits)))
+    let opens = accepted-start (r .field) (r .form) o (s .known) (s .formed) (cut-accepted ws (s .pattern) bits suffice separator short) in
+    let (state, elements, begun) = started-at (r .field) (r .form) o opens in
+    (opens, (state, elements, begun ∙ ap (openRecord (r .field) (r .form) state) (cut-merges ws (s .pattern) bits)))
 
 -- Where they do not, START opens no session with these merged words, in any field.
 pub other-records-are-not-opened : (r : Session) → sound r ≡ true
     → let ws = take (r .count) (r .words) in
-    cutNumber ws ≢ accepted → (field : ℕ) (o : Opening) → phases (o .words) ≡ phases ws → start field o .number ≢ accepted
-other-records-are-not-opened r e over field o same a = over (accepted-suffices _ (parts r e .pattern) o (start-accepted field o a) same)
+    cutNumber ws ≢ accepted → (field form : ℕ) (o : Opening) → phases (o .words) ≡ phases ws → start field form o .number ≢ accepted
+other-records-are-not-opened r e over field form o same a = over (accepted-suffices _ (parts r e .pattern) o (start-accepted field form o a) same)
 
 -- "an absorb and a squeeze position (0 to 8)": neither position of a sound record is above 8.
 pub positions-are-0-to-8 : (r : Session) → sound r ≡ true → (r .«absorb_position» ≤ 8) × (r .«squeeze_position» ≤ 8)
@@ -145,9 +148,9 @@ positions-are-0-to-8 r e =
     (omega (arith, s .absorbs-at, bound .absorbs), omega (arith, s .squeezes-at, bound .squeezes))
 
 -- Every opened session can be finished by some list of calls, whatever elements of its field it is to absorb.
-pub every-session-finishes : (field : ℕ) (o : Opening) (xs : List ℕ) → start field o .number ≡ accepted
+pub every-session-finishes : (field form : ℕ) (o : Opening) (xs : List ℕ) → start field form o .number ≡ accepted
     → length xs ≡ absorbLength (phases (o .words)) → all (isElement (fieldOf field)) xs ≡ true
-    → (a : Run) × (a .field ≡ field) × (a .opening ≡ o) × (absorbedOf a ≡ xs)
+    → (a : Run) × (a .field ≡ field) × (a .form ≡ form) × (a .opening ≡ o) × (absorbedOf a ≡ xs)
 every-session-finishes = finishable
 
 -- "A copied record is a fork. Each copy goes on by itself." "A fork's list is that of its original up to the copying, then its own calls.":

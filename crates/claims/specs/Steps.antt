@@ -3,19 +3,20 @@
 use mathlib.Core.Path.{_≡_, refl, ap, _∙_}
 use mathlib.Core.Bool.{true, false, not}
 use mathlib.Core.List.{List, [], _∷_}
-use Prim.Native.Nat.{ℕ, _+_, _%_, _<_}
+use Prim.Native.Nat.{ℕ, _+_, _-_, _%_, _<_}
 use native.Mathlib.Nat.{mod-eq-of-lt}
 use native.Mathlib.Omega.{arith}
 use borrow.Author.Tests.{eq-eqb, ne-eqb}
 use lib.Dec.{ltb, eqb}
-use lib.ListN.{length}
-use Rattle.basics.specs.Logic.{if_then_else_, _or_, all}
+use lib.ListN.{length, take, drop}
+use Rattle.basics.specs.Logic.{if_then_else_, _and_, _or_, all}
+use Rattle.basics.specs.Digits.{number}
 use Rattle.basics.specs.Numbers.{accepted}
 use Rattle.basics.specs.Refusals.{_gets_⨾_, firstNumber}
 use Rattle.basics.proofs.Cases.{if-true, if-false}
 use Rattle.field.specs.Field.{fieldOf, isElement}
 use Rattle.progress.specs.Place.{inPattern}
-use Rattle.tag.specs.TagString.{wordsPart, soundBytes, readRows, readNumber}
+use Rattle.tag.specs.TagString.{isForm, bodyOf, lengthIn, wordsPart, soundBytes, bodyRows, tailMissing, readRows, readNumber}
 use Rattle.counters.specs.Positions.{inLastBlock, positionsAfter, positionsAt}
 use Rattle.words.specs.Words.{isAbsorb, lengthOf}
 use Rattle.sponge.specs.Sponge.{absorbElement, squeezeElement, readyToAbsorb, readyToSqueeze}
@@ -59,11 +60,22 @@ pub finish-row-by-row : (r : Session)
 unfolding finish answerOf wipes finishRows recordRows
 finish-row-by-row r = refl
 
--- "Reading checks 6 (the length given), then 13".
+-- "Reading checks 6 (the length given), then 13", in form 1.
 pub reading-row-by-row : (s : List ℕ) (n : ℕ)
-    → readNumber s n ≡ firstNumber (ltb 256 n gets 6 ⨾ ltb (length s) n gets 13 ⨾ not (soundBytes (wordsPart s n)) gets 13 ⨾ [])
-unfolding readNumber readRows
+    → readNumber 1 s n ≡ firstNumber (ltb 256 n gets 6 ⨾ ltb (length s) n gets 13 ⨾ not (soundBytes (wordsPart s n)) gets 13 ⨾ [])
+unfolding readNumber readRows bodyRows bodyOf lengthIn tailMissing isForm firstNumber if_then_else_ _and_ _or_
 reading-row-by-row s n = refl
+
+-- "Reading form 2 goes by the string's last four bytes and ignores any length given."; "In form 2 a string under four bytes, or one whose tail names
+-- more bytes than precede it, gets 13, and a tail above 256 gets 6 before that."
+pub reading-form-2-row-by-row : (s : List ℕ) (n : ℕ)
+    → let before = take (length s - 4) s in
+    let named = number 256 (drop (length s - 4) s) in
+    readNumber 2 s n
+    ≡ firstNumber
+    (ltb (length s) 4 gets 13 ⨾ ltb 256 named gets 6 ⨾ ltb (length before) named gets 13 ⨾ not (soundBytes (wordsPart before named)) gets 13 ⨾ [])
+unfolding readNumber readRows bodyRows bodyOf lengthIn tailMissing isForm firstNumber if_then_else_ _and_ _or_
+reading-form-2-row-by-row s n = refl
 
 -- An accepted call of one element does what one element does. (Longer calls are cut freely: `claims/Sessions.absorb-cut-freely` and the one behind it.)
 pub absorb-of-one : (r : Session) (x : ℕ) → absorb r (x ∷ []) .number ≡ accepted → absorb r (x ∷ []) .session ≡ absorbOne r x

@@ -33,22 +33,22 @@ no-merged-length-too-long ws few e =
     (within-more (length ws * maxCall) 1073741824 (phases ws) (omega arith) (phases-within maxCall ws e), phases-fit ws few e)
 
 -- Neither 4 nor 5 is given by START,
-pub start-never-gives-5 : (field : ℕ) (o : Opening) → start field o .number ≢ 5
+pub start-never-gives-5 : (field form : ℕ) (o : Opening) → start field form o .number ≢ 5
 unfolding startNumber startRows openingRows wordRows all _and_
-start-never-gives-5 field o e = never-given 5 (startRows field o) refl (λ z. omega arith) (sym (number-of field o) ∙ e)
+start-never-gives-5 field form o e = never-given 5 (startRows field form o) refl (λ z. omega arith) (sym (number-of field form o) ∙ e)
 
-pub start-never-gives-4 : (field : ℕ) (o : Opening) → start field o .number ≢ 4
+pub start-never-gives-4 : (field form : ℕ) (o : Opening) → start field form o .number ≢ 4
 unfolding startNumber startRows openingRows wordRows all _and_
-start-never-gives-4 field o e = never-given 4 (startRows field o) refl (λ z. omega arith) (sym (number-of field o) ∙ e)
+start-never-gives-4 field form o e = never-given 4 (startRows field form o) refl (λ z. omega arith) (sym (number-of field form o) ∙ e)
 
 -- by writing,
-pub writing-never-gives-5 : (o : Opening) (buffer : List ℕ) → written o buffer .number ≢ 5
+pub writing-never-gives-5 : (form : ℕ) (o : Opening) (buffer : List ℕ) → written form o buffer .number ≢ 5
 unfolding written writtenWith writeNumber writeRows bufferRows openingRows wordRows all _and_
-writing-never-gives-5 o buffer = never-given 5 (writeRows o buffer) refl (λ z. omega arith)
+writing-never-gives-5 form o buffer = never-given 5 (writeRows form o buffer) refl (λ z. omega arith)
 
-pub writing-never-gives-4 : (o : Opening) (buffer : List ℕ) → written o buffer .number ≢ 4
+pub writing-never-gives-4 : (form : ℕ) (o : Opening) (buffer : List ℕ) → written form o buffer .number ≢ 4
 unfolding written writtenWith writeNumber writeRows bufferRows openingRows wordRows all _and_
-writing-never-gives-4 o buffer = never-given 4 (writeRows o buffer) refl (λ z. omega arith)
+writing-never-gives-4 form o buffer = never-given 4 (writeRows form o buffer) refl (λ z. omega arith)
 
 -- or in the answer to a line.
 pub cards-never-give-5 : (line : List ℕ) → answer line ≢ ascii "(no 5)"

@@ -24,7 +24,7 @@ use Rattle.session.specs.declared.Session.{Session}
 use Rattle.runs.specs.Calls.{Call, ABSORB, SQUEEZE, FINISH, answered, accepts, left, leftBy, absorbedIn, absorbed, squeezedIn, squeezed}
 use Rattle.runs.specs.Runs.{Run, absorbedOf, squeezedOf}
 use Rattle.runs.proofs.Forks.{absorbed-append, squeezed-append}
-use Rattle.seal.specs.Seal.{Context, leaving, sealWords, started, keyed, keystream, afterBlock, afterBlocks, plus, cipherBlocks, markOf, blocksOf, sealed, sealRows}
+use Rattle.seal.specs.Seal.{Context, noteForm, leaving, sealWords, started, keyed, keystream, afterBlock, afterBlocks, plus, cipherBlocks, markOf, blocksOf, sealed, sealRows}
 use Rattle.note_laws.specs.Calls.{blockCalls, noteCalls}
 use Rattle.seal.proofs.Lengths.{declarable}
 use Rattle.seal.proofs.Calls.{squeezed-length, squeezed-elements}
@@ -142,7 +142,7 @@ module _ (c : Context) (plain : List ℕ) {size : ℕ} (p : Passed c plain 0 siz
 
   unfoldable pub note-run : Run
   unfolding noteCalls leftBy left answered started keyed
-  note-run = record { field = c .field; opening = o; before = noteCalls c plain; opens = start-accepts c p; ends = finishes }
+  note-run = record { field = c .field; form = noteForm; opening = o; before = noteCalls c plain; opens = start-accepts c p; ends = finishes }
 
   key-test : accepts (started c) (ABSORB (c .key ++ c .nonce)) ≡ true
   unfolding accepts answered

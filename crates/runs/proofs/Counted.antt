@@ -33,25 +33,29 @@ permutations-same vs ws h phase done =
     (sum-same phase _ _ (λ k _. ap (λ (w : ℕ). phasePermutations w (lengthOf w)) (h k)))
     (ap (λ (w : ℕ). phasePermutations w done) (h phase))
 
-module _ (field : ℕ) (o : Opening) (e : start field o .number ≡ accepted) where
-  pub start-words : start field o .session .words ≡ zeroPadded 64 (mergedWords (o .words))
+module _ (field form : ℕ) (o : Opening) (e : start field form o .number ≡ accepted) where
+  pub start-words : start field form o .session .words ≡ zeroPadded 64 (mergedWords (o .words))
   unfolding startRecord openRecord
-  start-words = ap (λ (r : Session). r .words) (start-record field o e)
+  start-words = ap (λ (r : Session). r .words) (start-record field form o e)
 
-  pub start-field : start field o .session .field ≡ field
+  pub start-field : start field form o .session .field ≡ field
   unfolding startRecord openRecord
-  start-field = ap (λ (r : Session). r .field) (start-record field o e)
+  start-field = ap (λ (r : Session). r .field) (start-record field form o e)
 
-  pub start-count : start field o .session .count ≡ length (mergedWords (o .words))
+  pub start-form : start field form o .session .form ≡ form
   unfolding startRecord openRecord
-  start-count = ap (λ (r : Session). r .count) (start-record field o e)
+  start-form = ap (λ (r : Session). r .form) (start-record field form o e)
+
+  pub start-count : start field form o .session .count ≡ length (mergedWords (o .words))
+  unfolding startRecord openRecord
+  start-count = ap (λ (r : Session). r .count) (start-record field form o e)
 
   pub count-run : (cs : List Call)
-      → let r = leftBy (start field o .session) cs in
+      → let r = leftBy (start field form o .session) cs in
       eqb (r .status) opened ≡ true → r .permutations ≡ permutationsAt (mergedWords (o .words)) (r .phase) (r .done)
   count-run cs still =
-      let r = leftBy (start field o .session) cs in
-      parts r (sound-run field o e cs still) .counted
+      let r = leftBy (start field form o .session) cs in
+      parts r (sound-run field form o e cs still) .counted
       ∙ ap (λ (vs : List ℕ). permutationsAt vs (r .phase) (r .done)) (same-left-by _ cs still .words ∙ start-words)
       ∙ permutations-same _ _ (zeros-behind (mergedWords (o .words)) (64 - length (mergedWords (o .words)))) (r .phase) (r .done)
 
@@ -59,6 +63,6 @@ pub count-whole : (a : Run) → permutationsOf a ≡ permutationsAt (mergedWords
 count-whole a =
     let r = leftBy (startedOf a) (a .before) in
     let ends = finish-ended r (a .ends) in
-    let place = ends .ended ∙ same-left-by _ (a .before) (ends .opens) .count ∙ start-count (a .field) (a .opening) (a .opens) in
-    count-run (a .field) (a .opening) (a .opens) (a .before) (ends .opens)
+    let place = ends .ended ∙ same-left-by _ (a .before) (ends .opens) .count ∙ start-count (a .field) (a .form) (a .opening) (a .opens) in
+    count-run (a .field) (a .form) (a .opening) (a .opens) (a .before) (ends .opens)
     ∙ ap₂ (permutationsAt (mergedWords (a .opening .words))) place (none-done r (parts r (ends .sounds)) (ends .ended))

@@ -37,9 +37,9 @@ use Rattle.runs.proofs.Forks.{left-by-append}
 use Rattle.runs.proofs.Trace.{wiped-not-finished}
 
 -- a list of calls that START and an accepted FINISH enclose, whichever it is
-pub enclosed : (field : ℕ) (o : Opening) (cs : List Call) → start field o .number ≡ accepted → finish (leftBy (start field o .session) cs) .number ≡ accepted
-    → (a : Run) × (a .field ≡ field) × (a .opening ≡ o) × (a .before ≡ cs)
-enclosed field o cs e f = (record { field = field; opening = o; before = cs; opens = e; ends = f }, refl, refl, refl)
+pub enclosed : (field form : ℕ) (o : Opening) (cs : List Call) → start field form o .number ≡ accepted → finish (leftBy (start field form o .session) cs) .number ≡ accepted
+    → (a : Run) × (a .field ≡ field) × (a .form ≡ form) × (a .opening ≡ o) × (a .before ≡ cs)
+enclosed field form o cs e f = (record { field = field; form = form; opening = o; before = cs; opens = e; ends = f }, refl, refl, refl, refl)
 
 -- ---- a record that is not open, or open and not sound, is refused every call and left as it is
 
@@ -157,24 +157,24 @@ calls-inside a cs c ds e =
 
 -- ---- and 10 may be among them: before the first call of any
 
-module _ (field : ℕ) (o : Opening) (e : start field o .number ≡ accepted) where
+module _ (field form : ℕ) (o : Opening) (e : start field form o .number ≡ accepted) where
   abbrev opened-record : Session
-  opened-record = start field o .session
+  opened-record = start field form o .session
 
   begins : opened-record .phase ≡ 0
   unfolding startRecord openRecord
-  begins = ap (λ (r : Session). r .phase) (start-record field o e)
+  begins = ap (λ (r : Session). r .phase) (start-record field form o e)
 
   absorbs-first : Takes opened-record true 1
   absorbs-first =
       let r = opened-record in
-      let s = parts r (start-sound field o e) in
+      let s = parts r (start-sound field form o e) in
       let long = length-take-le (r .count) (r .words) (s .long) in
       let some = words.sound (take (r .count) (r .words)) (s .pattern) .few in
       let early : r .phase < r .count = omega (arith, begins) in
       record {
-        opens = eq-eqb _ _ (start-open field o e);
-        sounds = start-sound field o e;
+        opens = eq-eqb _ _ (start-open field form o e);
+        sounds = start-sound field form o e;
         fits = λ _. record {
           before-end = early;
           kind = rw begins (begins-absorbing (r .words) (r .count) (s .long) (s .pattern) (omega arith));
@@ -184,21 +184,23 @@ module _ (field : ℕ) (o : Opening) (e : start field o .number ≡ accepted) wh
 
   turned-away : (x : ℕ) → isElement (fieldOf field) x ≡ false → absorb opened-record (x ∷ []) ≡ giving elementNotReduced opened-record
   unfolding absorb answerOf wipes if_then_else_ _or_ all _and_
-  turned-away x h = rw (absorb-unreduced opened-record (x ∷ []) absorbs-first (rw (start-field field o e, h) refl)) refl
+  turned-away x h = rw (absorb-unreduced opened-record (x ∷ []) absorbs-first (rw (start-field field form o e, h) refl)) refl
 
 pub refused-first : (a : Run) (x : ℕ) → isElement (fieldOf (a .field)) x ≡ false
-    → (b : Run) × (b .field ≡ a .field) × (b .opening ≡ a .opening) × (b .before ≡ ABSORB (x ∷ []) ∷ a .before)
+    → (b : Run) × (b .field ≡ a .field) × (b .form ≡ a .form) × (b .opening ≡ a .opening) × (b .before ≡ ABSORB (x ∷ []) ∷ a .before)
     × (answered (startedOf b) (ABSORB (x ∷ [])) .number ≡ elementNotReduced)
 unfolding leftBy left answered giving
 refused-first a x h =
-    let e = turned-away (a .field) (a .opening) (a .opens) x h in (
+    let e = turned-away (a .field) (a .form) (a .opening) (a .opens) x h in (
       record {
         field = a .field;
+        form = a .form;
         opening = a .opening;
         before = ABSORB (x ∷ []) ∷ a .before;
         opens = a .opens;
         ends = ap (λ (v : Answer). finish (leftBy (v .session) (a .before)) .number) e ∙ a .ends;
       },
+      refl,
       refl,
       refl,
       refl,

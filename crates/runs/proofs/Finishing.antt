@@ -111,13 +111,13 @@ finishing (false ∷ ks) xs r o s e l b =
       ap (λ (v : Answer). absorbed (v .session) (callsFor ks xs ++ (FINISH ∷ []))) a ∙ later .1,
     )
 
-pub finishable : (field : ℕ) (o : Opening) (xs : List ℕ) → start field o .number ≡ accepted → length xs ≡ absorbLength (phases (o .words))
+pub finishable : (field form : ℕ) (o : Opening) (xs : List ℕ) → start field form o .number ≡ accepted → length xs ≡ absorbLength (phases (o .words))
     → all (isElement (fieldOf field)) xs ≡ true
-    → (a : Run) × (a .field ≡ field) × (a .opening ≡ o) × (absorbedOf a ≡ xs)
-finishable field o xs e l b =
+    → (a : Run) × (a .field ≡ field) × (a .form ≡ form) × (a .opening ≡ o) × (absorbedOf a ≡ xs)
+finishable field form o xs e l b =
     let ks = kinds (phases (o .words)) in
-    let r = start field o .session in
+    let r = start field form o .session in
     let f =
-    finishing ks xs r (eq-eqb _ _ (start-open field o e)) (parts r (start-sound field o e)) (whole-pattern field o e)
-    (l ∙ sym (absorb-length (phases (o .words)))) (rw (start-field field o e) b) in
-    (record { field = field; opening = o; before = callsFor ks xs; opens = e; ends = f .0 }, refl, refl, f .1)
+    finishing ks xs r (eq-eqb _ _ (start-open field form o e)) (parts r (start-sound field form o e)) (whole-pattern field form o e)
+    (l ∙ sym (absorb-length (phases (o .words)))) (rw (start-field field form o e) b) in
+    (record { field = field; form = form; opening = o; before = callsFor ks xs; opens = e; ends = f .0 }, refl, refl, refl, f .1)

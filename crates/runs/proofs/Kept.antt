@@ -74,6 +74,7 @@ module _ (r : Session) (s : Sound r) (h : r .phase < r .count) where
   moved-sound t b c a q =
       record {
         known = s .known;
+        formed = s .formed;
         long = s .long;
         pattern = s .pattern;
         unused = s .unused;

@@ -17,6 +17,7 @@ use Rattle.words.specs.Words.{isAbsorb, lengthOf}
 use Rattle.pattern.specs.Pattern.{mergedWords, soundWords}
 use Rattle.pattern.proofs.MergedWords.{merged-sound}
 use Rattle.field.specs.Field.{isField, fieldOf, isElement}
+use Rattle.tag.specs.TagString.{isForm}
 use Rattle.field.proofs.Moduli.{positive}
 use Rattle.sponge.specs.Sponge.{absorbElement, squeezeElement}
 use Rattle.sponge.specs.declared.Sponge.{Sponge}
@@ -32,7 +33,7 @@ use Rattle.runs.proofs.Places.{next-place}
 use Rattle.session.proofs.Numbers.{Takes}
 use Rattle.runs.proofs.Outcomes.{absorb-accepted, squeeze-accepted}
 use Rattle.runs.proofs.SoundCalls.{sound-left-by}
-use Rattle.runs.proofs.Opened.{tag-state-reduced, open-sound, start-known, start-accepted, start-record}
+use Rattle.runs.proofs.Opened.{tag-state-reduced, open-sound, start-known, start-formed, start-accepted, start-record}
 use Rattle.runs.proofs.SamePattern.{same-left-by}
 use Rattle.runs.proofs.Forks.{left-by-append}
 
@@ -69,14 +70,15 @@ module _ (r : Session) (o : eqb (r .status) opened ≡ true) (s : Sound r) (h : 
 
 -- a record that START gives, or one like it: of a field, a state of elements, and sound words
 module _
-    (field : ℕ)
+    (field form : ℕ)
     (state ws : List ℕ)
     (known : isField field ≡ true)
+    (formed : isForm form ≡ true)
     (reduced : all (isElement (fieldOf field)) state ≡ true)
     (pattern : soundWords ws ≡ true)
   where
     abbrev opened-record : Session
-    opened-record = openRecord field state ws
+    opened-record = openRecord field form state ws
 
     -- some calls lead to the place
     abbrev Reached : ℕ → ℕ → Type 0
@@ -91,7 +93,7 @@ module _
       there = leftBy opened-record cs
 
       sounds : Sound there
-      sounds = parts there (sound-left-by opened-record cs (λ _. whole opened-record (open-sound field state ws known reduced pattern)) (eq-eqb _ _ still))
+      sounds = parts there (sound-left-by opened-record cs (λ _. whole opened-record (open-sound field form state ws known formed reduced pattern)) (eq-eqb _ _ still))
 
       early : there .phase < there .count
       unfolding openRecord
@@ -155,26 +157,26 @@ module _
         forward i (long i - 1) (omega arith) (in-phase i (long i - 1) (omega arith) begun (omega arith)) .0 (omega arith)
 
     pub open-place-reached : (phase done : ℕ) → phase < length ws → done < lengthOf (getD ws phase 0)
-        → (cs : List Call) × OpenAt (leftBy (openRecord field state ws) cs) phase done
+        → (cs : List Call) × OpenAt (leftBy (openRecord field form state ws) cs) phase done
     open-place-reached phase done h l = in-phase phase done h (phase-begun phase (omega arith)) l
 
-    pub open-end-reached : (cs : List Call) × OpenAt (leftBy (openRecord field state ws) cs) (length ws) 0
+    pub open-end-reached : (cs : List Call) × OpenAt (leftBy (openRecord field form state ws) cs) (length ws) 0
     open-end-reached = phase-begun (length ws) (omega arith)
 
 -- the record that START gives
-module _ (field : ℕ) (o : Opening) (e : start field o .number ≡ accepted) where
+module _ (field form : ℕ) (o : Opening) (e : start field form o .number ≡ accepted) where
   abbrev Led : Session → ℕ → ℕ → Type 0
   Led r phase done = (cs : List Call) × OpenAt (leftBy r cs) phase done
 
   pub place-reached : (phase done : ℕ) → phase < length (mergedWords (o .words)) → done < lengthOf (getD (mergedWords (o .words)) phase 0)
-      → (cs : List Call) × OpenAt (leftBy (start field o .session) cs) phase done
+      → (cs : List Call) × OpenAt (leftBy (start field form o .session) cs) phase done
   unfolding startRecord
   place-reached phase done h l =
-      subst (λ (r : Session). Led r phase done) (sym (start-record field o e))
-      (open-place-reached field _ (mergedWords (o .words)) (start-known field o e) (tag-state-reduced (fieldOf field) _) (merged-sound o (start-accepted field o e)) phase done h l)
+      subst (λ (r : Session). Led r phase done) (sym (start-record field form o e))
+      (open-place-reached field form _ (mergedWords (o .words)) (start-known field form o e) (start-formed field form o e) (tag-state-reduced (fieldOf field) _) (merged-sound o (start-accepted field form o e)) phase done h l)
 
-  pub end-reached : (cs : List Call) × OpenAt (leftBy (start field o .session) cs) (length (mergedWords (o .words))) 0
+  pub end-reached : (cs : List Call) × OpenAt (leftBy (start field form o .session) cs) (length (mergedWords (o .words))) 0
   unfolding startRecord
   end-reached =
-      subst (λ (r : Session). Led r (length (mergedWords (o .words))) 0) (sym (start-record field o e))
-      (open-end-reached field _ (mergedWords (o .words)) (start-known field o e) (tag-state-reduced (fieldOf field) _) (merged-sound o (start-accepted field o e)))
+      subst (λ (r : Session). Led r (length (mergedWords (o .words))) 0) (sym (start-record field form o e))
+      (open-end-reached field form _ (mergedWords (o .words)) (start-known field form o e) (start-formed field form o e) (tag-state-reduced (fieldOf field) _) (merged-sound o (start-accepted field form o e)))

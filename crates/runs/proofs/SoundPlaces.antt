@@ -51,29 +51,30 @@ module _ (r : Session) (s : Sound r) where
 
   module _ (state : List ℕ) (reduced : all (isElement (fieldOf (r .field))) state ≡ true) where
     abbrev begun : Session
-    begun = openRecord (r .field) state pattern
+    begun = openRecord (r .field) (r .form) state pattern
 
     reached : (cs : List Call) × OpenAt (leftBy begun cs) (r .phase) (r .done)
     reached =
         cases (ltb (r .phase) (r .count))
         (λ l.
         let early = ltb-true _ _ l in
-        open-place-reached (r .field) state pattern (s .known) reduced (s .pattern) (r .phase) (r .done) (rw pattern-long early)
+        open-place-reached (r .field) (r .form) state pattern (s .known) (s .formed) reduced (s .pattern) (r .phase) (r .done) (rw pattern-long early)
         (rw (ap lengthOf (sym (word-used (r .phase)))) (element-left r s early)))
         λ l.
         let late = ltb-false (r .phase) (r .count) l in
         let within = s .within in
         let ended : r .phase ≡ r .count = omega arith in
-        rw (ended ∙ sym pattern-long, none-done r s ended) (open-end-reached (r .field) state pattern (s .known) reduced (s .pattern))
+        rw (ended ∙ sym pattern-long, none-done r s ended) (open-end-reached (r .field) (r .form) state pattern (s .known) (s .formed) reduced (s .pattern))
 
     module _ (opens : r .status ≡ opened) (places : length (r .words) ≡ 64) where
       -- the record that calls lead to, with the state of this one, is this one
       pub record-reached : (cs : List Call)
-          × (let t = leftBy (openRecord (r .field) state (take (r .count) (r .words))) cs in
+          × (let t = leftBy (openRecord (r .field) (r .form) state (take (r .count) (r .words))) cs in
           (_≡_ {A = Session}
           (record {
             status = t .status;
             field = t .field;
+            form = t .form;
             state = r .state;
             words = t .words;
             count = t .count;
@@ -90,7 +91,7 @@ module _ (r : Session) (s : Sound r) where
           let at = reached .1 in
           let t = leftBy begun cs in
           let o = eq-eqb _ _ (at .opens) in
-          let sounds = parts t (sound-left-by begun cs (λ _. whole begun (open-sound (r .field) state pattern (s .known) reduced (s .pattern))) o) in
+          let sounds = parts t (sound-left-by begun cs (λ _. whole begun (open-sound (r .field) (r .form) state pattern (s .known) (s .formed) reduced (s .pattern))) o) in
           let same = same-left-by begun cs o in
           let unused = 64 - length pattern in
           let word : (k : ℕ) → getD (t .words) k 0 ≡ getD (r .words) k 0 = λ k.
@@ -107,11 +108,13 @@ module _ (r : Session) (s : Sound r) where
           let counted = sounds .counted ∙ (λ i. permutationsAt (words i) (at .phase i) (at .done i)) ∙ sym (s .counted) in
           let count = same .count ∙ pattern-long in
           let status = at .opens ∙ sym opens in
-          let field = same .field in (
+          let field = same .field in
+          let form = same .form in (
             cs,
             λ i. record {
               status = status i;
               field = field i;
+              form = form i;
               state = r .state;
               words = words i;
               count = count i;
@@ -124,7 +127,7 @@ module _ (r : Session) (s : Sound r) where
           )
 
 -- START's record of an opening is the begin of its merged words
-pub started-at : (field : ℕ) (o : Opening) → start field o .number ≡ accepted
-    → (state : List ℕ) × (all (isElement (fieldOf field)) state ≡ true) × (start field o .session ≡ openRecord field state (mergedWords (o .words)))
+pub started-at : (field form : ℕ) (o : Opening) → start field form o .number ≡ accepted
+    → (state : List ℕ) × (all (isElement (fieldOf field)) state ≡ true) × (start field form o .session ≡ openRecord field form state (mergedWords (o .words)))
 unfolding startRecord
-started-at field o e = (_, tag-state-reduced (fieldOf field) _, start-record field o e)
+started-at field form o e = (_, tag-state-reduced (fieldOf field) _, start-record field form o e)

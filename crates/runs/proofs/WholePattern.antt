@@ -22,9 +22,9 @@ padded-kinds [] zero = refl
 padded-kinds [] (suc n) = padded-kinds [] n
 padded-kinds (w ∷ ws) n = ap (λ (ks : List Bool). replicate (lengthOf w) (isAbsorb w) ++ ks) (padded-kinds ws n)
 
-pub whole-pattern : (field : ℕ) (o : Opening) → start field o .number ≡ accepted → toDo (start field o .session) ≡ kinds (phases (o .words))
+pub whole-pattern : (field form : ℕ) (o : Opening) → start field form o .number ≡ accepted → toDo (start field form o .session) ≡ kinds (phases (o .words))
 unfolding toDo startRecord openRecord mergedWords
-whole-pattern field o e =
-    ap toDo (start-record field o e)
+whole-pattern field form o e =
+    ap toDo (start-record field form o e)
     ∙ padded-kinds (mergedWords (o .words)) (64 - length (mergedWords (o .words)))
-    ∙ ap kinds (phases-read o (start-accepted field o e))
+    ∙ ap kinds (phases-read o (start-accepted field form o e))

@@ -15,25 +15,26 @@ use Rattle.runs.specs.Blocks.{blocks}
 -- "Let START open two sessions .. and let each have a list of ABSORB, SQUEEZE and FINISH calls, refused ones included, that ends in an
 -- accepted FINISH. A list's first call gets the record that START gave"
 pub record Run : Type 0 where
-  -- what START got: a field number, and words and a separator
+  -- what START got: a field number, a form number, and words and a separator
   pub field : ℕ
+  pub form : ℕ
   pub opening : Opening
   -- the calls before the last, which is FINISH
   pub before : List Call
-  pub opens : start field opening .number ≡ accepted
-  pub ends : finish (leftBy (start field opening .session) before) .number ≡ accepted
+  pub opens : start field form opening .number ≡ accepted
+  pub ends : finish (leftBy (start field form opening .session) before) .number ≡ accepted
 
 -- the record that START gave
 abbrev pub startedOf : Run → Session
-startedOf a = start (a .field) (a .opening) .session
+startedOf a = start (a .field) (a .form) (a .opening) .session
 
 -- the whole list of calls
 abbrev callsOf : Run → List Call
 callsOf a = a .before ++ (FINISH ∷ [])
 
--- "The tag string is made by the rule under Tags from the words and separator that START got."
+-- "The tag string is made by the rule under Tags from the words and separator that START got.", in the form that it got
 abbrev pub tagOf : Run → List ℕ
-tagOf a = tagString (a .opening)
+tagOf a = tagString (a .form) (a .opening)
 
 -- the merged pattern, as kinds and lengths
 abbrev pub patternOf : Run → List Phase

@@ -1,7 +1,7 @@
--- Document 01's proved samples, and B8 and B9 in document 02's second field as well, as a single list that one test covers; the digests of B4 to B7
+-- Document 01's proved samples, B2 in document 02's second form and B8 and B9 in its second field as well, as a single list that one test covers; the digests of B4 to B7
 -- are computed beside it (`sample_records`).
 use mathlib.Core.Path.{_≡_, refl, _∙_}
-use mathlib.Core.Bool.{Bool, true, false}
+use mathlib.Core.Bool.{Bool, true, false, not}
 use mathlib.Core.List.{List, [], _∷_, _++_}
 use Prim.Native.Nat.{ℕ, _-_, _*_, _%_}
 use lib.Dec.{eqb}
@@ -17,7 +17,7 @@ use Rattle.basics.specs.Refusals.{firstNumber}
 use Rattle.words.specs.Words.{isAbsorb, lengthOf, phaseOf, wordOf}
 use Rattle.pattern.specs.Pattern.{join, merge, phases, mergedWords, alternate, soundWords, soundPlaces}
 use Rattle.pattern.specs.Opening.{opening, wordRows, openingRows}
-use Rattle.tag.specs.TagString.{wordBytes, stringOf, tagString, wordAt}
+use Rattle.tag.specs.TagString.{isForm, wordBytes, tailOf, stringOf, tagString, wordAt}
 use Rattle.tag.specs.Elements.{tagElements}
 use Rattle.counters.specs.Permutations.{blockCount, phasePermutations, permutationsAt, fullPermutations}
 use Rattle.poseidon_tables.specs.Tables.{constants, inverses, babyBearConstants, koalaBearConstants, babyBearInverses, koalaBearInverses}
@@ -43,25 +43,40 @@ sameList (x ∷ xs) (y ∷ ys) = eqb x y and sameList xs ys
 -- "B1 80000003 80000003 00000003, separator 4142: 80000006000000034142."
 b1 : List Bool
 b1 =
-    eqb (startNumber 1 (opening (0x80000003 ∷ 0x80000003 ∷ 3 ∷ []) (0x41 ∷ 0x42 ∷ []))) accepted
-    ∷ sameList (tagString (opening (0x80000003 ∷ 0x80000003 ∷ 3 ∷ []) (0x41 ∷ 0x42 ∷ []))) (0x80 ∷ 0 ∷ 0 ∷ 6 ∷ 0 ∷ 0 ∷ 0 ∷ 3 ∷ 0x41 ∷ 0x42 ∷ [])
+    eqb (startNumber 1 1 (opening (0x80000003 ∷ 0x80000003 ∷ 3 ∷ []) (0x41 ∷ 0x42 ∷ []))) accepted
+    ∷ sameList (tagString 1 (opening (0x80000003 ∷ 0x80000003 ∷ 3 ∷ []) (0x41 ∷ 0x42 ∷ []))) (0x80 ∷ 0 ∷ 0 ∷ 6 ∷ 0 ∷ 0 ∷ 0 ∷ 3 ∷ 0x41 ∷ 0x42 ∷ [])
     ∷ []
 
 -- "B2 80000001 00000001, separator 8000000200000002, gives the same string as 80000001 00000001 80000002 00000002 with none."
 b2 : List Bool
 b2 =
-    eqb (startNumber 1 (opening (0x80000001 ∷ 1 ∷ []) (0x80 ∷ 0 ∷ 0 ∷ 2 ∷ 0 ∷ 0 ∷ 0 ∷ 2 ∷ []))) accepted
-    ∷ eqb (startNumber 1 (opening (0x80000001 ∷ 1 ∷ 0x80000002 ∷ 2 ∷ []) [])) accepted
+    eqb (startNumber 1 1 (opening (0x80000001 ∷ 1 ∷ []) (0x80 ∷ 0 ∷ 0 ∷ 2 ∷ 0 ∷ 0 ∷ 0 ∷ 2 ∷ []))) accepted
+    ∷ eqb (startNumber 1 1 (opening (0x80000001 ∷ 1 ∷ 0x80000002 ∷ 2 ∷ []) [])) accepted
     ∷ sameList
-    (tagString (opening (0x80000001 ∷ 1 ∷ []) (0x80 ∷ 0 ∷ 0 ∷ 2 ∷ 0 ∷ 0 ∷ 0 ∷ 2 ∷ [])))
-    (tagString (opening (0x80000001 ∷ 1 ∷ 0x80000002 ∷ 2 ∷ []) []))
+    (tagString 1 (opening (0x80000001 ∷ 1 ∷ []) (0x80 ∷ 0 ∷ 0 ∷ 2 ∷ 0 ∷ 0 ∷ 0 ∷ 2 ∷ [])))
+    (tagString 1 (opening (0x80000001 ∷ 1 ∷ 0x80000002 ∷ 2 ∷ []) []))
+    ∷ []
+
+-- document 02: "case B2 shows two of those protocols sharing a tag. The trade's rule here becomes form 2": its two strings there, which differ
+b2InForm2 : List Bool
+b2InForm2 =
+    sameList
+    (tagString 2 (opening (0x80000001 ∷ 1 ∷ []) (0x80 ∷ 0 ∷ 0 ∷ 2 ∷ 0 ∷ 0 ∷ 0 ∷ 2 ∷ [])))
+    (0x80 ∷ 0 ∷ 0 ∷ 1 ∷ 0 ∷ 0 ∷ 0 ∷ 1 ∷ 0x80 ∷ 0 ∷ 0 ∷ 2 ∷ 0 ∷ 0 ∷ 0 ∷ 2 ∷ 0 ∷ 0 ∷ 0 ∷ 8 ∷ [])
+    ∷ sameList
+    (tagString 2 (opening (0x80000001 ∷ 1 ∷ 0x80000002 ∷ 2 ∷ []) []))
+    (0x80 ∷ 0 ∷ 0 ∷ 1 ∷ 0 ∷ 0 ∷ 0 ∷ 1 ∷ 0x80 ∷ 0 ∷ 0 ∷ 2 ∷ 0 ∷ 0 ∷ 0 ∷ 2 ∷ 0 ∷ 0 ∷ 0 ∷ 0 ∷ [])
+    ∷ not
+    (sameList
+    (tagString 2 (opening (0x80000001 ∷ 1 ∷ []) (0x80 ∷ 0 ∷ 0 ∷ 2 ∷ 0 ∷ 0 ∷ 0 ∷ 2 ∷ [])))
+    (tagString 2 (opening (0x80000001 ∷ 1 ∷ 0x80000002 ∷ 2 ∷ []) [])))
     ∷ []
 
 -- "B3 fffffffe 80000001 00000001: accepted, merged ffffffff 00000001."; document 02, of number 5: "its example and B3 now get the new number"
 b3 : List Bool
 b3 =
-    eqb (startNumber 1 (opening (0xfffffffe ∷ 0x80000001 ∷ 1 ∷ []) [])) callTooLong
-    ∷ eqb (startNumber 1 (opening (0xffffffff ∷ 0x80000001 ∷ 1 ∷ []) [])) callTooLong
+    eqb (startNumber 1 1 (opening (0xfffffffe ∷ 0x80000001 ∷ 1 ∷ []) [])) callTooLong
+    ∷ eqb (startNumber 1 1 (opening (0xffffffff ∷ 0x80000001 ∷ 1 ∷ []) [])) callTooLong
     ∷ sameList (mergedWords (0xfffffffe ∷ 0x80000001 ∷ 1 ∷ [])) (0xffffffff ∷ 1 ∷ [])
     ∷ []
 
@@ -137,11 +152,11 @@ b10 = sameList (tagElements (replicate 32 0xff)) (replicate 8 1073741823) ∷ []
 
 -- all tests, with a record for each of B4 to B7
 samplesWith : Session → Session → Session → Session → List Bool
-samplesWith r4 r5 r6 r7 = b1 ++ b2 ++ b3 ++ b4 r4 ++ b5 r5 ++ b6 r6 ++ b7 r7 ++ b8 ++ b8InField2 ++ b9 ++ b9InField2 ++ b10
+samplesWith r4 r5 r6 r7 = b1 ++ b2 ++ b2InForm2 ++ b3 ++ b4 r4 ++ b5 r5 ++ b6 r6 ++ b7 r7 ++ b8 ++ b8InField2 ++ b9 ++ b9InField2 ++ b10
 
--- the record that START gives to field 1, words and the empty separator
+-- the record that START gives to field 1, form 1, words and the empty separator
 started : List ℕ → Session
-started ws = start 1 (opening ws []) .session
+started ws = start 1 1 (opening ws []) .session
 
 -- all tests, where those of B4 to B7 run on the records that START gives to their words
 pub samples : List Bool
@@ -149,10 +164,10 @@ samples = samplesWith (started words4) (started words5) (started words6) (starte
 
 -- The tests pass on the records with computed digests.
 computed : all (λ sample. sample) (samplesWith record4 record5 record6 record7) ≡ true
-unfolding samplesWith b1 b2 b3 b4 b5 b6 b7 b8 b8InField2 b9 b9InField2 b10 sameList fullPermutations byCalls raised
+unfolding samplesWith b1 b2 b2InForm2 b3 b4 b5 b6 b7 b8 b8InField2 b9 b9InField2 b10 sameList fullPermutations byCalls raised
     record4 record5 record6 record7 words4 words5 words6 words7 alternate soundWords soundPlaces
     all any _and_ _or_ if_then_else_ same tabulate sum digits number numberAfter
-    isAbsorb lengthOf phaseOf wordOf join merge phases mergedWords wordRows openingRows startRows startNumber isField firstNumber wordBytes stringOf tagString wordAt tagElements
+    isAbsorb lengthOf phaseOf wordOf join merge phases mergedWords wordRows openingRows startRows startNumber isField isForm firstNumber wordBytes tailOf stringOf tagString wordAt tagElements
     fieldOf parameters constants inverses babyBearConstants babyBearInverses koalaBearInverses
     addConstants raiseAll raiseFirst raise matrix multiply rounds permutation
     tagState readyToAbsorb absorbElement readyToSqueeze squeezedElement squeezeElement
@@ -161,10 +176,10 @@ unfolding samplesWith b1 b2 b3 b4 b5 b6 b7 b8 b8InField2 b9 b9InField2 b10 sameL
     giving inPattern recordRows callRows absorbRows finishRows wipes answerOf absorb squeeze finish answered left leftBy
 computed = refl
 
--- Every test of every sample passes, and there are 30: two of B1, three of B2 and of B3, two each of B4 to B7, four of B8 and four in field 2, two of B9 and
+-- Every test of every sample passes, and there are 33: two of B1, three of B2, three of it in form 2, three of B3, two each of B4 to B7, four of B8 and four in field 2, two of B9 and
 -- three in field 2, and one of B10.
-pub samples-hold : (length samples ≡ 30) × (all (λ sample. sample) samples ≡ true)
-unfolding samples samplesWith b1 b2 b3 b4 b5 b6 b7 b8 b8InField2 b9 b9InField2 b10 started words4 words5 words6 words7
+pub samples-hold : (length samples ≡ 33) × (all (λ sample. sample) samples ≡ true)
+unfolding samples samplesWith b1 b2 b2InForm2 b3 b4 b5 b6 b7 b8 b8InField2 b9 b9InField2 b10 started words4 words5 words6 words7
 samples-hold = (refl, (λ i. all (λ sample. sample) (samplesWith (started4 i) (started5 i) (started6 i) (started7 i))) ∙ computed)
 
 -- What each permutation makes of the state 0, 1, .., 23, by the second implementation (tests/oracle).

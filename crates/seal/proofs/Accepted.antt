@@ -8,7 +8,7 @@ use native.Mathlib.Nat.{mod-lt}
 use native.Mathlib.Omega.{arith}
 use lib.ListN.{length, take, drop, length-append, length-drop, take-append-drop}
 use lib.Seq.{length-take-le}
-use Rattle.basics.specs.Logic.{all}
+use Rattle.basics.specs.Logic.{_or_, all}
 use Rattle.basics.specs.Lists.{joined, total}
 use Rattle.basics.specs.Numbers.{accepted}
 use Rattle.basics.proofs.Below.{below-nil, below-cons, below-take}
@@ -24,7 +24,8 @@ use Rattle.session.specs.Calls.{start, absorb, squeeze, finish}
 use Rattle.session.specs.declared.Session.{Session}
 use Rattle.runs.proofs.Opened.{accepted-start}
 use Rattle.runs.proofs.Counted.{start-field}
-use Rattle.seal.specs.Seal.{Context, absorbWord, squeezeWord, blockWords, sealWords, started, keyed, keystream, afterBlock, afterBlocks, plus, minus, cipherBlocks, plainBlocks, blocksOf}
+use Rattle.tag.specs.TagString.{isForm}
+use Rattle.seal.specs.Seal.{Context, noteForm, absorbWord, squeezeWord, blockWords, sealWords, started, keyed, keystream, afterBlock, afterBlocks, plus, minus, cipherBlocks, plainBlocks, blocksOf}
 use Rattle.seal.specs.Steps.{Squeezes}
 use Rattle.seal.proofs.Lengths.{declarable, length-bounds}
 use Rattle.seal.proofs.Blocks.{plus-length, minus-length}
@@ -131,16 +132,17 @@ module _ (c : Context) {text : List ℕ} {textMark buffer bufferMark : ℕ} (p :
   abbrev o : Opening
   o = opening (sealWords (c .lengths)) (c .separator)
 
-  pub start-accepts : start (c .field) (opening (sealWords (c .lengths)) (c .separator)) .number ≡ accepted
-  start-accepts = accepted-start (c .field) o (p .known) (words-accepted (c .lengths) (p .lengths) (c .separator) (p .short))
+  pub start-accepts : start (c .field) noteForm (opening (sealWords (c .lengths)) (c .separator)) .number ≡ accepted
+  unfolding isForm _or_
+  start-accepts = accepted-start (c .field) noteForm o (p .known) refl (words-accepted (c .lengths) (p .lengths) (c .separator) (p .short))
 
   started-at : At (started c) (absorbWord 16 ∷ blockWords (c .lengths))
   unfolding started sealWords
-  started-at = subst (At (started c)) (words-merged (c .lengths) (p .lengths)) (at-start (c .field) o start-accepts)
+  started-at = subst (At (started c)) (words-merged (c .lengths) (p .lengths)) (at-start (c .field) noteForm o start-accepts)
 
   started-field : fieldIn (started c) ≡ fieldOf (c .field)
   unfolding started
-  started-field = ap fieldOf (start-field (c .field) o start-accepts)
+  started-field = ap fieldOf (start-field (c .field) noteForm o start-accepts)
 
   key-absorbed : Absorbed (started c) (c .key ++ c .nonce) (blockWords (c .lengths))
   key-absorbed =

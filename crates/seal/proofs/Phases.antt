@@ -27,7 +27,7 @@ use Rattle.session.proofs.SoundRecord.{phaseWord, Sound, whole, element-left}
 use Rattle.session.proofs.Folds.{InPhase, absorb-all, squeeze-all}
 use Rattle.session.proofs.Numbers.{Takes}
 use Rattle.runs.proofs.Outcomes.{absorb-accepted, squeeze-accepted, finish-accepted}
-use Rattle.runs.proofs.Opened.{tag-state-reduced, open-sound, start-known, start-accepted, start-record}
+use Rattle.runs.proofs.Opened.{tag-state-reduced, open-sound, start-known, start-formed, start-accepted, start-record}
 use Rattle.runs.proofs.SamePattern.{SamePattern, absorb-all-same, squeeze-all-same}
 use Rattle.runs.proofs.SoundCalls.{absorb-all-kept, squeeze-all-kept}
 
@@ -39,14 +39,14 @@ pub record At (r : Session) (ws : List ℕ) : Type 0 where
   pub left : drop (r .phase) (take (r .count) (r .words)) ≡ ws
 
 -- START's record
-pub at-start : (field : ℕ) (o : Opening) → start field o .number ≡ accepted → At (start field o .session) (mergedWords (o .words))
+pub at-start : (field form : ℕ) (o : Opening) → start field form o .number ≡ accepted → At (start field form o .session) (mergedWords (o .words))
 unfolding startRecord openRecord
-at-start field o e =
+at-start field form o e =
     let ws = mergedWords (o .words) in
-    subst (λ (r : Session). At r ws) (sym (start-record field o e))
+    subst (λ (r : Session). At r ws) (sym (start-record field form o e))
     (record {
       opens = refl;
-      sounds = open-sound field _ ws (start-known field o e) (tag-state-reduced (fieldOf field) _) (merged-sound o (start-accepted field o e));
+      sounds = open-sound field form _ ws (start-known field form o e) (start-formed field form o e) (tag-state-reduced (fieldOf field) _) (merged-sound o (start-accepted field form o e));
       fresh = refl;
       left = take-append-seam ws _;
     })

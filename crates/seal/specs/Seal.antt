@@ -66,9 +66,13 @@ blockWords (n ∷ ns) = squeezeWord n ∷ absorbWord n ∷ blockWords ns
 unfoldable pub sealWords : List ℕ → List ℕ
 sealWords ns = absorbWord (keyLength + nonceLength) ∷ blockWords ns
 
+-- "Sealed notes keep form 1." (document 02, P8)
+abbrev pub noteForm : ℕ
+noteForm = 1
+
 -- Algorithm 7: "START(IO[2b+2], D)"
 unfoldable pub started : Context → Session
-started c = start (c .field) (opening (sealWords (c .lengths)) (c .separator)) .session
+started c = start (c .field) noteForm (opening (sealWords (c .lengths)) (c .separator)) .session
 
 -- Algorithm 7: "ABSORB(k, K); ABSORB(m, N)", here "as one call"
 unfoldable pub keyed : Context → Session

@@ -23,6 +23,9 @@ const NONCE_LENGTH: usize = 8;
 
 const MARK_LENGTH: usize = 8;
 
+// The form of a note's tag string.
+const NOTE_FORM: u32 = 1;
+
 // How many blocks a note may have.
 const MAX_BLOCKS: usize = 31;
 
@@ -160,7 +163,7 @@ fn open_session(
 {
     let words = declare(lengths);
     let count = 2 * lengths.len() + 2;
-    let started = Session::start(field, &words[..count], separator);
+    let started = Session::start(field, NOTE_FORM, &words[..count], separator);
     let both = key_and_nonce(key, nonce);
     let record = started.session;
     let absorbed = record.absorb_step(&both);

@@ -15,6 +15,7 @@ use Rattle.words.specs.Words.{lengthOf}
 use Rattle.words.proofs.WordKinds.{length-below}
 use Rattle.pattern.specs.Pattern.{maxWords, soundWords, soundPlaces}
 use Rattle.pattern.proofs.Soundness as words
+use Rattle.tag.specs.TagString.{isForm}
 use Rattle.counters.specs.Permutations.{permutationsAt}
 use Rattle.counters.specs.Positions.{positionsAt}
 use Rattle.progress.specs.Place.{soundPlace}
@@ -29,6 +30,7 @@ phaseWord r = getD (r .words) (r .phase) 0
 
 pub record Sound (r : Session) : Type 0 where
   pub known : isField (r .field) ≡ true
+  pub formed : isForm (r .form) ≡ true
   pub long : r .count ≤ length (r .words)
   pub pattern : soundWords (take (r .count) (r .words)) ≡ true
   pub unused : all (λ w. eqb w 0) (drop (r .count) (r .words)) ≡ true
@@ -43,7 +45,8 @@ module _ (r : Session) where
   pub parts : sound r ≡ true → Sound r
   unfolding sound soundPlaces soundPlace
   parts e =
-      let e1 = and-right _ _ e in
+      let e0 = and-right _ _ e in
+      let e1 = and-right _ _ e0 in
       let places = and-left _ _ e1 in
       let e2 = and-right _ _ e1 in
       let place = and-left _ _ e2 in
@@ -52,6 +55,7 @@ module _ (r : Session) where
       let e5 = and-right _ _ e4 in
       record {
         known = and-left _ _ e;
+        formed = and-left _ _ e0;
         long = leb-true _ _ (and-left _ _ places);
         pattern = and-left _ _ (and-right _ _ places);
         unused = and-right _ _ (and-right _ _ places);
@@ -67,10 +71,11 @@ module _ (r : Session) where
   unfolding sound soundPlaces soundPlace
   whole s =
       and-both _ _ (s .known)
+      (and-both _ _ (s .formed)
       (and-both _ _ (and-both _ _ (le-leb _ _ (s .long)) (and-both _ _ (s .pattern) (s .unused)))
       (and-both _ _ (and-both _ _ (le-leb _ _ (s .within)) (s .place))
       (and-both _ _ (s .reduced)
-      (and-both _ _ (eq-eqb _ _ (s .counted)) (and-both _ _ (eq-eqb _ _ (s .absorbs-at)) (eq-eqb _ _ (s .squeezes-at)))))))
+      (and-both _ _ (eq-eqb _ _ (s .counted)) (and-both _ _ (eq-eqb _ _ (s .absorbs-at)) (eq-eqb _ _ (s .squeezes-at))))))))
 
   -- before the last phase's end there is an element to do
   pub element-left : Sound r → r .phase < r .count → r .done < lengthOf (phaseWord r)

@@ -5,14 +5,14 @@ use Prim.Native.Nat.{ℕ}
 use lib.Dec.{eqb}
 use lib.ListN.{length}
 use Rattle.basics.specs.Logic.{if_then_else_, _or_, all}
-use Rattle.basics.specs.Numbers.{accepted, recordNotOpen, recordNotSound, callNotInPattern, elementNotReduced, patternNotDone, fieldUnknown}
+use Rattle.basics.specs.Numbers.{accepted, recordNotOpen, recordNotSound, callNotInPattern, elementNotReduced, patternNotDone, fieldUnknown, formUnknown}
 use Rattle.basics.specs.Refusals.{Row, _gets_⨾_, firstNumber}
 use Rattle.field.specs.Field.{isField, isElement}
 use Rattle.sha3.specs.Sponge.{sha3}
 use Rattle.pattern.specs.Pattern.{mergedWords}
 use Rattle.pattern.specs.Opening.{Opening, openingRows}
 use Rattle.progress.specs.Place.{inPattern}
-use Rattle.tag.specs.TagString.{tagString}
+use Rattle.tag.specs.TagString.{isForm, tagString}
 use Rattle.tag.specs.Elements.{tagElements}
 use Rattle.session.specs.Record.{tagState, opened, wiped, openRecord, fieldIn, absorbAll, squeezeAll, squeezedAll}
 use Rattle.session.specs.Soundness.{sound}
@@ -23,22 +23,23 @@ use Rattle.session.specs.declared.Answer.{Answer}
 unfoldable pub giving : ℕ → Session → Answer
 giving number r = record { number = number; session = r }
 
--- "18: field number neither 1 nor 2, before 1 at START"; "START checks 1 to 6 in number order, whichever word is at fault"
-unfoldable pub startRows : ℕ → Opening → List Row
-startRows field o = not (isField field) gets fieldUnknown ⨾ openingRows o
+-- "18: field number neither 1 nor 2, before 1 at START"; "22: form number neither 1 nor 2, straight after 18"; "START checks 1 to 6 in number order,
+-- whichever word is at fault"
+unfoldable pub startRows : ℕ → ℕ → Opening → List Row
+startRows field form o = not (isField field) gets fieldUnknown ⨾ not (isForm form) gets formUnknown ⨾ openingRows o
 
--- the number that START gives
-unfoldable pub startNumber : ℕ → Opening → ℕ
-startNumber field o = firstNumber (startRows field o)
+-- the number that START gives to a field number, a form number and an opening
+unfoldable pub startNumber : ℕ → ℕ → Opening → ℕ
+startNumber field form o = firstNumber (startRows field form o)
 
--- the record that START gives to a field number and an opening that are accepted: "SHA3-256 (FIPS 202) of that string is the digest."
-unfoldable pub startRecord : ℕ → Opening → Session
-startRecord field o = openRecord field (tagState (tagElements (sha3 (tagString o)))) (mergedWords (o .words))
+-- the record that START gives where these are accepted: "SHA3-256 (FIPS 202) of that string is the digest."
+unfoldable pub startRecord : ℕ → ℕ → Opening → Session
+startRecord field form o = openRecord field form (tagState (tagElements (sha3 (tagString form o)))) (mergedWords (o .words))
 
 -- START: "a refusal gives a wiped record."
-unfoldable pub start : ℕ → Opening → Answer
-start field o =
-    if eqb (startNumber field o) accepted then giving accepted (startRecord field o) else giving (startNumber field o) wiped
+unfoldable pub start : ℕ → ℕ → Opening → Answer
+start field form o =
+    if eqb (startNumber field form o) accepted then giving accepted (startRecord field form o) else giving (startNumber field form o) wiped
 
 -- the rows about the record, which ABSORB, SQUEEZE and FINISH check first: 7 and 8
 unfoldable pub recordRows : Session → List Row

@@ -24,6 +24,7 @@ wiped =
     record {
       status = 0;
       field = 0;
+      form = 0;
       state = replicate width 0;
       words = replicate maxWords 0;
       count = 0;
@@ -40,12 +41,14 @@ unfoldable pub tagState : List ℕ → List ℕ
 tagState elements = replicate rate 0 ++ elements ++ replicate (capacity - 8) 0
 
 -- "START makes it open, with the merged words and their number; phase number, elements done, positions, permutations and unused words are
--- 0."; "START takes a field number .. and the record keeps it": the record of a field number, a state and merged words
-unfoldable pub openRecord : ℕ → List ℕ → List ℕ → Session
-openRecord field state ws =
+-- 0."; "START takes a field number .. and the record keeps it"; "START, writing and reading take a form number .. and the record keeps it": the record of
+-- these numbers, a state and merged words
+unfoldable pub openRecord : ℕ → ℕ → List ℕ → List ℕ → Session
+openRecord field form state ws =
     record {
       status = opened;
       field = field;
+      form = form;
       state = state;
       words = zeroPadded maxWords ws;
       count = length ws;
@@ -66,6 +69,7 @@ moved r s place =
     record {
       status = r .status;
       field = r .field;
+      form = r .form;
       state = s .state;
       words = r .words;
       count = r .count;

@@ -16,6 +16,8 @@ pub struct Session {
     pub status: u32,
     // the field number
     pub field: u32,
+    // the form number of the tag string
+    pub form: u32,
     pub state: [u32; Session::WIDTH],
     // the merged words of the pattern, with unused ones 0
     pub words: [u32; 64],
@@ -59,6 +61,7 @@ fn wipe(number: u32) -> Answer
         session: Session {
             status: 0,
             field: 0,
+            form: 0,
             state: [0; Session::WIDTH],
             words: [0; 64],
             count: 0,
@@ -94,12 +97,15 @@ impl Session {
     // How many elements it has in all.
     pub const WIDTH: usize = Session::RATE + Session::CAPACITY;
 
-    // START: opens a session in the field that a number names, for a pattern and a separator.
-    pub fn start(field: u32, words: &[u32], separator: &[u8]) -> Answer
-        ensures { λ r. ⌜ r ≡ start field (opening (now (words .entry)) (now (separator .entry))) ⌝ }
+    // START: opens a session in the field and with the form of tag string that numbers name, for a pattern and a separator.
+    pub fn start(field: u32, form: u32, words: &[u32], separator: &[u8]) -> Answer
+        ensures { λ r. ⌜ r ≡ start field form (opening (now (words .entry)) (now (separator .entry))) ⌝ }
     {
         if !field::is_field(field) {
             return wipe(basics::FIELD_UNKNOWN);
+        }
+        if !tag::is_form(form) {
+            return wipe(basics::FORM_UNKNOWN);
         }
         let merged = pattern::check(words, separator);
         if merged.number != basics::ACCEPTED {
@@ -108,7 +114,7 @@ impl Session {
         let merged_words = merged.words;
         let count = merged.count;
         let mut string = [0u8; tag::MAX_STRING];
-        let written = tag::write_string(&merged_words[..count], separator, &mut string);
+        let written = tag::write_string(form, &merged_words[..count], separator, &mut string);
         let length = written.length;
         let digest = sha3::sha3_256(&string[..length]);
         let state = tag_state(tag_reader::elements(digest));
@@ -117,6 +123,7 @@ impl Session {
             session: Session {
                 status: OPEN,
                 field,
+                form,
                 state,
                 words: merged_words,
                 count: count as u32,
@@ -200,6 +207,9 @@ impl Session {
         if !field::is_field(self.field) {
             return false;
         }
+        if !tag::is_form(self.form) {
+            return false;
+        }
         let words = self.words;
         if !sound_words::places_sound(&words, self.count) {
             return false;
@@ -278,6 +288,7 @@ impl Session {
         Session {
             status: self.status,
             field: self.field,
+            form: self.form,
             state,
             words,
             count: self.count,

@@ -37,14 +37,15 @@ fn record_in(numbers: &[u32; 512], state: &[u32; 512], words: &[u32; 512]) -> se
     session::Session {
         status: numbers[0],
         field: numbers[1],
+        form: numbers[2],
         state: state_in(state),
         words: pattern_in(words),
-        count: numbers[2],
-        phase: numbers[3],
-        done: numbers[4],
-        absorb_position: numbers[5],
-        squeeze_position: numbers[6],
-        permutations: joined(numbers[7], numbers[8]),
+        count: numbers[3],
+        phase: numbers[4],
+        done: numbers[5],
+        absorb_position: numbers[6],
+        squeeze_position: numbers[7],
+        permutations: joined(numbers[8], numbers[9]),
     }
 }
 
@@ -53,13 +54,14 @@ fn numbers_of(record: session::Session) -> [u32; 512] {
     let mut list = [0u32; 512];
     list[0] = record.status;
     list[1] = record.field;
-    list[2] = record.count;
-    list[3] = record.phase;
-    list[4] = record.done;
-    list[5] = record.absorb_position;
-    list[6] = record.squeeze_position;
-    list[7] = (record.permutations / 0x1_0000_0000) as u32;
-    list[8] = (record.permutations % 0x1_0000_0000) as u32;
+    list[2] = record.form;
+    list[3] = record.count;
+    list[4] = record.phase;
+    list[5] = record.done;
+    list[6] = record.absorb_position;
+    list[7] = record.squeeze_position;
+    list[8] = (record.permutations / 0x1_0000_0000) as u32;
+    list[9] = (record.permutations % 0x1_0000_0000) as u32;
     list
 }
 
@@ -142,12 +144,17 @@ fn start_line(text: &[u8], at: usize, record: session::Session) -> Step
     let first = hex_fields::field_at(text, at);
     let second = hex_fields::field_at(text, first.next);
     let third = hex_fields::field_at(text, second.next);
-    let number = hex_fields::words_of(&first.bytes);
+    let numbers = hex_fields::words_of(&first.bytes);
     let words = hex_fields::words_of(&second.bytes);
     let count = second.count / 4;
     let separator = third.bytes;
     let length = third.count;
-    let answer = session::Session::start(number[0], &words[..count], &separator[..length]);
+    let answer = session::Session::start(
+        numbers[0],
+        numbers[1],
+        &words[..count],
+        &separator[..length],
+    );
     print_answer(record, answer);
     let left = answer.session;
     Step {

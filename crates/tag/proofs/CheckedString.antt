@@ -16,14 +16,15 @@ use Rattle.tag.proofs.Writing.{room-for-any, inside, front}
 
 -- the check's answer r, the writer's answer w, and what the writer left in the buffer
 module _
+    (form : ℕ)
     (o : Opening)
     (r : WordList)
     (e : r ≡ checked o)
     (n : r .number ≡ accepted)
     (w : Written)
     (after : List ℕ)
-    (ew : w ≡ stringWritten (stringOf (take (r .count) (r .words)) (o .separator)) (replicate maxString 0))
-    (ea : after ≡ stringBuffer (stringOf (take (r .count) (r .words)) (o .separator)) (replicate maxString 0))
+    (ew : w ≡ stringWritten (stringOf form (take (r .count) (r .words)) (o .separator)) (replicate maxString 0))
+    (ea : after ≡ stringBuffer (stringOf form (take (r .count) (r .words)) (o .separator)) (replicate maxString 0))
   where
     abbrev zeros : List ℕ
     zeros = replicate maxString 0
@@ -32,10 +33,10 @@ module _
     unfolding stringWritten stringBuffer
     string-inside = rw (ew, ea) (inside _ _ zeros)
 
-    pub string-written : take (w .length) after ≡ tagString o
+    pub string-written : take (w .length) after ≡ tagString form o
     unfolding stringWritten stringBuffer tagString
     string-written =
         ap₂ (λ (v : Written) (l : List ℕ). take (v .length) l) ew ea
-        ∙ ap (λ (ws : List ℕ). take (stringWritten (stringOf ws (o .separator)) zeros .length) (stringBuffer (stringOf ws (o .separator)) zeros))
+        ∙ ap (λ (ws : List ℕ). take (stringWritten (stringOf form ws (o .separator)) zeros .length) (stringBuffer (stringOf form ws (o .separator)) zeros))
         (words-checked o r e n)
-        ∙ front (bufferNumber (tagString o) zeros) (tagString o) zeros (room-for-any o zeros (started o r e n) (lit≤ tt))
+        ∙ front (bufferNumber (tagString form o) zeros) (tagString form o) zeros (room-for-any form o zeros (started o r e n) (lit≤ tt))

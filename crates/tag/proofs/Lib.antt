@@ -1,4 +1,5 @@
 pub mod WordBytes
+pub mod Forms
 pub mod Writing
 pub mod CheckedString
 pub mod Reading

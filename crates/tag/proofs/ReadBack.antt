@@ -1,18 +1,18 @@
 -- Tag strings read back: what was written is read, and what was read is written again.
 -- Assumes nothing.
 use mathlib.Core.Path.{_≡_, refl, sym, ap, ap₂, _∙_}
-use mathlib.Core.Bool.{true}
+use mathlib.Core.Bool.{true, false}
 use mathlib.Core.List.{List, [], _∷_, _++_, map}
 use mathlib.Core.Logic.{_≢_, _↔_}
 use Prim.Native.Nat.{ℕ, suc, _+_, _-_, _*_, _/_, _%_, _≤_, _<_}
 use native.Mathlib.Omega.{arith}
 use borrow.Author.Tests.{eqb-true, eq-eqb}
 use lib.Dec.{lit<}
-use lib.ListN.{length, take, drop, length-append, length-drop, take-append-drop}
+use lib.ListN.{length, take, drop, length-append, take-append-drop}
 use lib.Seq.{take-at, drop-at}
 use Rattle.basics.specs.Lists.{tabulate, Below}
 use Rattle.basics.specs.Digits.{digits, number}
-use Rattle.basics.specs.Numbers.{accepted, notTagString}
+use Rattle.basics.specs.Numbers.{accepted}
 use Rattle.basics.proofs.Below.{below-nil, below-cons, below-head, below-tail, below-take, below-at}
 use Rattle.basics.proofs.Cases.{and-left, and-right, and-both}
 use Rattle.basics.proofs.Fill.{tabulate-cons, tabulate-same}
@@ -21,12 +21,13 @@ use Rattle.basics.proofs.Positional.{number-digits, digits-number}
 use Rattle.words.specs.Words.{Phase, phaseOf, wordOf}
 use Rattle.pattern.specs.Pattern.{phases, mergedWords, soundWords}
 use Rattle.pattern.specs.Opening.{Opening, opening, maxSeparator, openingNumber, withWords}
-use Rattle.tag.specs.TagString.{wordBytes, stringOf, tagString, wordAt, wordsOf, wordsPart, separatorPart, soundBytes, readNumber, readWords, wordsRead, readSeparator}
+use Rattle.tag.specs.TagString.{isForm, wordBytes, tailOf, stringOf, tagString, wordAt, wordsOf, bodyOf, lengthIn, wordsPart, separatorPart, soundBytes, tailMissing, readNumber, readWords, wordsRead, readSeparator}
 use Rattle.pattern.specs.declared.WordList.{WordList}
 use Rattle.tag.proofs.WordBytes.{length-word-bytes}
 use Rattle.pattern.proofs.Answers.{words-used}
 use Rattle.pattern.proofs.StartCheck.{passed-rows, fit}
-use Rattle.tag.proofs.Reading.{number-0, read-accepted, separator-accepted, passed}
+use Rattle.tag.proofs.Reading.{bodyNumber, number-0, number-of-body, read-accepted, separator-accepted, accepted-string, separator-long}
+use Rattle.tag.proofs.Forms.{form-1, body-front, body-and-tail, whole-body, whole-length, whole-has-tail}
 use Rattle.pattern.proofs.MergedWords.{phases-of-words, merged-sound}
 
 -- ---- words and their bytes
@@ -81,126 +82,166 @@ words-below (a ∷ b ∷ c ∷ d ∷ s) e h =
     rw (words-of-four a b c d s)
     (below-cons _ _ (wordsOf s) (four-bytes-below a b c d (at 0) (at 1) (at 2) (at 3)) (words-below s (omega arith) (behind-four 256 a b c d s h)))
 
+-- what precedes a separator, and the separator
+cut-and-joined : (s : List ℕ) (n : ℕ) → wordsPart s n ++ separatorPart s n ≡ s
+unfolding wordsPart separatorPart
+cut-and-joined s n = take-append-drop (length s - n) s
+
 -- ---- reading what was written
 
--- the string of sound words and a separator
+-- the string of sound words and a separator, read with a length given that counts in form 1 alone
 module _
+    (form : ℕ)
+    (known : isForm form ≡ true)
     (ws separator : List ℕ)
     (e : soundWords ws ≡ true)
     (bits : Below 4294967296 ws)
     (fits : length separator ≤ maxSeparator)
+    (given : ℕ)
+    (right : form ≡ 1 → given ≡ length separator)
   where
     abbrev s : List ℕ
-    s = stringOf ws separator
+    s = stringOf form ws separator
 
     abbrev n : ℕ
     n = length separator
 
-    long : length s ≡ 4 * length ws + n
+    -- what precedes the tail
+    abbrev front : List ℕ
+    front = wordBytes ws ++ separator
+
+    body : bodyOf form s ≡ front
     unfolding stringOf
-    long = length-append (wordBytes ws) separator ∙ ap (λ (k : ℕ). k + n) (length-word-bytes ws)
+    body = whole-body form front n
 
-    size : length s - n ≡ length (wordBytes ws)
-    size = omega (arith, long, length-word-bytes ws)
+    sized : lengthIn form s given ≡ n
+    unfolding stringOf
+    sized = whole-length form front n given (omega arith) (λ z. right (form-1 form z known))
 
-    front : wordsPart s n ≡ wordBytes ws
-    unfolding wordsPart stringOf
-    front = take-at (wordBytes ws) separator (length s - n) (sym size)
+    there : tailMissing form s ≡ false
+    unfolding stringOf
+    there = whole-has-tail form front n
 
-    back : separatorPart s n ≡ separator
-    unfolding separatorPart stringOf
-    back = drop-at (wordBytes ws) separator (length s - n) (sym size)
+    long : length front - n ≡ length (wordBytes ws)
+    long = omega (arith, length-append (wordBytes ws) separator)
 
-    words : wordsOf (wordsPart s n) ≡ ws
-    words = ap wordsOf front ∙ words-of-bytes ws bits
+    words-part : wordsPart front n ≡ wordBytes ws
+    unfolding wordsPart
+    words-part = take-at (wordBytes ws) separator (length front - n) (sym long)
 
-    sound-string : soundBytes (wordsPart s n) ≡ true
+    separator-part : separatorPart front n ≡ separator
+    unfolding separatorPart
+    separator-part = drop-at (wordBytes ws) separator (length front - n) (sym long)
+
+    words : wordsOf (wordsPart front n) ≡ ws
+    words = ap wordsOf words-part ∙ words-of-bytes ws bits
+
+    sound-string : soundBytes (wordsPart front n) ≡ true
     unfolding soundBytes
     sound-string =
-        let whole : length (wordsPart s n) % 4 ≡ 0 = rw front (omega (arith, length-word-bytes ws)) in
-        and-both _ _ (eq-eqb (length (wordsPart s n) % 4) 0 whole) (ap soundWords words ∙ e)
+        let whole : length (wordsPart front n) % 4 ≡ 0 = rw words-part (omega (arith, length-word-bytes ws)) in
+        and-both _ _ (eq-eqb (length (wordsPart front n) % 4) 0 whole) (ap soundWords words ∙ e)
 
-    string-reads : readNumber s n ≡ accepted
-    string-reads = number-0 s n fits (omega (arith, long)) sound-string
+    pub string-reads : readNumber form (stringOf form ws separator) given ≡ accepted
+    string-reads =
+        number-of-body form s given known there
+        ∙ ap₂ bodyNumber body sized
+        ∙ number-0 front n fits (omega (arith, length-append (wordBytes ws) separator)) sound-string
 
-    pub string-words : readWords (stringOf ws separator) (length separator) ≡ withWords accepted ws
-    string-words = read-accepted s n string-reads ∙ ap (withWords accepted) words
+    pub string-words : readWords form (stringOf form ws separator) given ≡ withWords accepted ws
+    string-words =
+        read-accepted form s given string-reads
+        ∙ ap₂ (λ (b : List ℕ) (k : ℕ). withWords accepted (wordsOf (wordsPart b k))) body sized
+        ∙ ap (withWords accepted) words
 
-    pub string-separator : readSeparator (stringOf ws separator) (length separator) ≡ separator
-    string-separator = separator-accepted s n string-reads ∙ back
+    pub string-separator : readSeparator form (stringOf form ws separator) given ≡ separator
+    string-separator = separator-accepted form s given string-reads ∙ ap₂ separatorPart body sized ∙ separator-part
 
 -- of an accepted opening
-module _ (o : Opening) (e : openingNumber o ≡ accepted) where
-  merged-bits : Below 4294967296 (mergedWords (o .words))
-  unfolding mergedWords
-  merged-bits = phases-of-words (phases (o .words)) (fit o e) .1
+module _
+    (form : ℕ)
+    (known : isForm form ≡ true)
+    (o : Opening)
+    (e : openingNumber o ≡ accepted)
+    (given : ℕ)
+    (right : form ≡ 1 → given ≡ length (o .separator))
+  where
+    merged-bits : Below 4294967296 (mergedWords (o .words))
+    unfolding mergedWords
+    merged-bits = phases-of-words (phases (o .words)) (fit o e) .1
 
-  pub reads : readNumber (tagString o) (length (o .separator)) ≡ accepted
-  unfolding tagString
-  reads = string-reads (mergedWords (o .words)) (o .separator) (merged-sound o e) merged-bits (passed-rows o e .short)
+    pub reads : readNumber form (tagString form o) given ≡ accepted
+    unfolding tagString
+    reads = string-reads form known (mergedWords (o .words)) (o .separator) (merged-sound o e) merged-bits (passed-rows o e .short) given right
 
-  pub reads-words : readWords (tagString o) (length (o .separator)) ≡ withWords accepted (mergedWords (o .words))
-  unfolding tagString
-  reads-words = string-words (mergedWords (o .words)) (o .separator) (merged-sound o e) merged-bits (passed-rows o e .short)
+    pub reads-words : readWords form (tagString form o) given ≡ withWords accepted (mergedWords (o .words))
+    unfolding tagString
+    reads-words = string-words form known (mergedWords (o .words)) (o .separator) (merged-sound o e) merged-bits (passed-rows o e .short) given right
 
-  pub words-again : wordsRead (tagString o) (length (o .separator)) ≡ mergedWords (o .words)
-  words-again = ap (λ (m : WordList). take (m .count) (m .words)) reads-words ∙ words-used accepted (mergedWords (o .words))
+    pub words-again : wordsRead form (tagString form o) given ≡ mergedWords (o .words)
+    words-again = ap (λ (m : WordList). take (m .count) (m .words)) reads-words ∙ words-used accepted (mergedWords (o .words))
 
-  pub reads-separator : readSeparator (tagString o) (length (o .separator)) ≡ o .separator
-  unfolding tagString
-  reads-separator = string-separator (mergedWords (o .words)) (o .separator) (merged-sound o e) merged-bits (passed-rows o e .short)
+    pub reads-separator : readSeparator form (tagString form o) given ≡ o .separator
+    unfolding tagString
+    reads-separator = string-separator form known (mergedWords (o .words)) (o .separator) (merged-sound o e) merged-bits (passed-rows o e .short) given right
 
 -- ---- writing what was read
 
-module _ (s : List ℕ) (n : ℕ) (bytes : Below 256 s) (e : readNumber s n ≡ accepted) where
-  abbrev head : List ℕ
-  head = wordsPart s n
+module _ (form : ℕ) (s : List ℕ) (n : ℕ) (bytes : Below 256 s) (e : readNumber form s n ≡ accepted) where
+  abbrev inner : List ℕ
+  inner = bodyOf form s
 
-  words-read : wordsRead s n ≡ wordsOf head
-  words-read = ap (λ (m : WordList). take (m .count) (m .words)) (read-accepted s n e) ∙ words-used accepted (wordsOf head)
+  abbrev size : ℕ
+  size = lengthIn form s n
+
+  abbrev head : List ℕ
+  head = wordsPart inner size
+
+  words-read : wordsRead form s n ≡ wordsOf head
+  words-read = ap (λ (m : WordList). take (m .count) (m .words)) (read-accepted form s n e) ∙ words-used accepted (wordsOf head)
 
   whole : length head % 4 ≡ 0
   unfolding soundBytes
-  whole = eqb-true (length head % 4) 0 (and-left _ _ (passed s n e .sound))
+  whole = eqb-true (length head % 4) 0 (and-left _ _ (accepted-string form s n e .inside .sound))
 
   sound-words : soundWords (wordsOf head) ≡ true
   unfolding soundBytes
-  sound-words = and-right _ _ (passed s n e .sound)
+  sound-words = and-right _ _ (accepted-string form s n e .inside .sound)
+
+  inner-bytes : Below 256 inner
+  inner-bytes = rw (sym (body-front form s (accepted-string form s n e .there))) (below-take 256 (length inner) s bytes)
 
   head-bytes : Below 256 head
   unfolding wordsPart
-  head-bytes = below-take 256 (length s - n) s bytes
+  head-bytes = below-take 256 (length inner - size) inner inner-bytes
 
-  -- what is read: sound words of 32 bits, and a separator of the length given
-  pub read-sound : soundWords (wordsRead s n) ≡ true
+  -- what is read: sound words of 32 bits, and a separator that is not too long
+  pub read-sound : soundWords (wordsRead form s n) ≡ true
   read-sound = ap soundWords words-read ∙ sound-words
 
-  pub read-below : Below 4294967296 (wordsRead s n)
+  pub read-below : Below 4294967296 (wordsRead form s n)
   read-below = rw words-read (words-below head whole head-bytes)
 
-  pub read-length : length (readSeparator s n) ≡ n
-  unfolding separatorPart
-  read-length = ap length (separator-accepted s n e) ∙ (let long = passed s n e .long in omega (arith, length-drop (length s - n) s))
-
-  pub read-short : length (readSeparator s n) ≤ maxSeparator
-  read-short = rw read-length (passed s n e .short)
+  pub read-short : length (readSeparator form s n) ≤ maxSeparator
+  read-short = rw (separator-long form s n e) (accepted-string form s n e .inside .short)
 
   -- whatever merges to the words that are read has the string for its tag string
-  pub writes-string : (ws : List ℕ) → mergedWords ws ≡ wordsRead s n → tagString (opening ws (readSeparator s n)) ≡ s
-  unfolding tagString stringOf wordsPart separatorPart
+  pub writes-string : (ws : List ℕ) → mergedWords ws ≡ wordsRead form s n → tagString form (opening ws (readSeparator form s n)) ≡ s
+  unfolding tagString stringOf
   writes-string ws merges =
-      ap₂ (λ (vs t : List ℕ). wordBytes vs ++ t) (merges ∙ words-read) (separator-accepted s n e)
-      ∙ ap (λ (l : List ℕ). l ++ separatorPart s n) (bytes-of-words head whole head-bytes)
-      ∙ take-append-drop (length s - n) s
+      let front : wordBytes (mergedWords ws) ++ readSeparator form s n ≡ inner =
+      ap₂ (λ (vs t : List ℕ). wordBytes vs ++ t) (merges ∙ words-read) (separator-accepted form s n e)
+      ∙ ap (λ (l : List ℕ). l ++ separatorPart inner size) (bytes-of-words head whole head-bytes)
+      ∙ cut-and-joined inner size in
+      ap₂ (λ (l : List ℕ) (k : ℕ). l ++ tailOf form k) front (separator-long form s n e)
+      ∙ body-and-tail form s (accepted-string form s n e .there) n bytes
 
 -- ---- what tag strings tell
 
--- number 13: no accepted opening with a separator of that length has this string
-pub refused-string : (s : List ℕ) (n : ℕ) → readNumber s n ≡ notTagString
-    → (o : Opening) → openingNumber o ≡ accepted → length (o .separator) ≡ n → tagString o ≢ s
-refused-string s n r o e l q =
-    let z : accepted ≡ notTagString = sym (reads o e) ∙ ap₂ readNumber q l ∙ r in
-    absurd (omega arith)
+-- what reading refuses is the tag string of no accepted opening, if the length given is the right one in form 1
+pub refused-string : (form : ℕ) → isForm form ≡ true → (s : List ℕ) (n : ℕ) → readNumber form s n ≢ accepted
+    → (o : Opening) → openingNumber o ≡ accepted → (form ≡ 1 → n ≡ length (o .separator)) → tagString form o ≢ s
+refused-string form known s n r o e l q = r (sym (ap (λ (t : List ℕ). readNumber form t n) q) ∙ reads form known o e n l)
 
 -- an accepted pattern's kinds and lengths are those of its merged words
 pub phases-read : (o : Opening) → openingNumber o ≡ accepted → map phaseOf (mergedWords (o .words)) ≡ phases (o .words)
@@ -208,18 +249,26 @@ unfolding mergedWords
 phases-read o e = phases-of-words (phases (o .words)) (fit o e) .0
 
 module _
+    (form : ℕ)
+    (known : isForm form ≡ true)
     (a b : Opening)
     (e : openingNumber a ≡ accepted)
     (f : openingNumber b ≡ accepted)
-    (l : length (a .separator) ≡ length (b .separator))
+    (l : form ≡ 1 → length (a .separator) ≡ length (b .separator))
   where
-    tell : tagString a ≡ tagString b → (phases (a .words) ≡ phases (b .words)) × (a .separator ≡ b .separator)
+    -- both are read with one length given
+    abbrev given : ℕ
+    given = length (a .separator)
+
+    tell : tagString form a ≡ tagString form b → (phases (a .words) ≡ phases (b .words)) × (a .separator ≡ b .separator)
     tell q =
-        let merged = sym (words-again a e) ∙ ap₂ wordsRead q l ∙ words-again b f in (
+        let merged = sym (words-again form known a e given (λ _. refl)) ∙ ap (λ (s : List ℕ). wordsRead form s given) q ∙ words-again form known b f given l in (
           sym (phases-read a e) ∙ ap (map phaseOf) merged ∙ phases-read b f,
-          sym (reads-separator a e) ∙ ap₂ readSeparator q l ∙ reads-separator b f,
+          sym (reads-separator form known a e given (λ _. refl))
+              ∙ ap (λ (s : List ℕ). readSeparator form s given) q
+              ∙ reads-separator form known b f given l,
         )
 
-    pub strings-tell : (tagString a ≡ tagString b) ↔ ((phases (a .words) ≡ phases (b .words)) × (a .separator ≡ b .separator))
+    pub strings-tell : (tagString form a ≡ tagString form b) ↔ ((phases (a .words) ≡ phases (b .words)) × (a .separator ≡ b .separator))
     unfolding tagString mergedWords
-    strings-tell = (tell, λ p. ap₂ (λ (ps : List Phase) (t : List ℕ). stringOf (map wordOf ps) t) (p .0) (p .1))
+    strings-tell = (tell, λ p. ap₂ (λ (ps : List Phase) (t : List ℕ). stringOf form (map wordOf ps) t) (p .0) (p .1))

@@ -4,7 +4,7 @@ ghost use Prim.Native.Nat.{_+_, _*_, _≤_};
 ghost use lib.ListN.{length};
 ghost use Rattle.basics.specs.Lists.{placed};
 ghost use Rattle.basics.specs.Digits.{digits};
-ghost use Rattle.tag.specs.TagString.{wordBytes};
+ghost use Rattle.tag.specs.TagString.{wordBytes, tailOf};
 
 // Writes a word's four bytes from a place of the buffer on.
 fn put_word(buffer: &mut [u8], at: usize, word: u32)
@@ -34,5 +34,15 @@ pub(crate) fn put_bytes(buffer: &mut [u8], at: usize, bytes: &[u8])
 {
     for i in 0..bytes.len() {
         buffer[at + i] = bytes[i];
+    }
+}
+
+// Writes what stands behind a separator of so many bytes to a place of the buffer.
+pub(crate) fn put_tail(buffer: &mut [u8], at: usize, form: u32, separator_length: usize)
+    requires { ⌜ at + length (tailOf form «separator_length») ≤ length (now buffer) ⌝ }
+    ensures { λ _. ⌜ now (buffer .exit) ≡ placed (now (buffer .entry)) at (tailOf form «separator_length») ⌝ }
+{
+    if form == crate::FORM_2 {
+        put_word(buffer, at, (separator_length % 0x1_0000_0000) as u32);
     }
 }

@@ -88,22 +88,25 @@ fn print_list(list: pattern::WordList) {
     io::print_decimal(1, sum_from(&words, count));
 }
 
-fn print_write(words: &[u32], separator: &[u8], size: usize)
+fn print_write(form: u32, words: &[u32], separator: &[u8], size: usize)
     requires { ⌜ size ≤ 1024 ⌝ }
 {
     print_list(pattern::check(words, separator));
     io::write_all(1, b", ");
     let mut buffer = [0xa5u8; 1024];
-    let written = tag::write(words, separator, &mut buffer[..size]);
+    let written = tag::write(form, words, separator, &mut buffer[..size]);
     print_number(written.number as u64);
     print_number(written.length as u64);
     print_first(&buffer, size);
 }
 
-fn print_read(string: &[u8], length: usize) {
-    print_list(tag_reader::read(string, length));
+fn print_read(form: u32, string: &[u8], length: usize) {
+    print_list(tag_reader::read(form, string, length));
     io::write_all(1, b", ");
-    print_bytes(tag_reader::read_separator(string, length));
+    let parts = tag_reader::read_parts(form, string, length);
+    print_number(parts.start as u64);
+    print_number(parts.length as u64);
+    print_bytes(tag_reader::read_separator(form, string, length));
 }
 
 // The place behind the line.
@@ -113,14 +116,21 @@ fn write_line(text: &[u8], at: usize) -> usize
     let first = hex_fields::field_at(text, at);
     let second = hex_fields::field_at(text, first.next);
     let third = hex_fields::field_at(text, second.next);
-    let words = hex_fields::words_of(&first.bytes);
-    let count = first.count / 4;
-    let separator = second.bytes;
-    let length = second.count;
-    let digits = third.bytes;
-    let size = number(&digits, third.count) % 1025;
-    print_write(&words[..count], &separator[..length], size as usize);
-    third.next
+    let fourth = hex_fields::field_at(text, third.next);
+    let form = hex_fields::words_of(&first.bytes);
+    let words = hex_fields::words_of(&second.bytes);
+    let count = second.count / 4;
+    let separator = third.bytes;
+    let length = third.count;
+    let digits = fourth.bytes;
+    let size = number(&digits, fourth.count) % 1025;
+    print_write(
+        form[0],
+        &words[..count],
+        &separator[..length],
+        size as usize,
+    );
+    fourth.next
 }
 
 fn read_line(text: &[u8], at: usize) -> usize
@@ -128,12 +138,14 @@ fn read_line(text: &[u8], at: usize) -> usize
 {
     let first = hex_fields::field_at(text, at);
     let second = hex_fields::field_at(text, first.next);
-    let string = first.bytes;
-    let count = first.count;
-    let digits = second.bytes;
-    let length = number(&digits, second.count);
-    print_read(&string[..count], length as usize);
-    second.next
+    let third = hex_fields::field_at(text, second.next);
+    let form = hex_fields::words_of(&first.bytes);
+    let string = second.bytes;
+    let count = second.count;
+    let digits = third.bytes;
+    let length = number(&digits, third.count);
+    print_read(form[0], &string[..count], length as usize);
+    third.next
 }
 
 fn cut_line(text: &[u8], at: usize) -> usize

@@ -5,12 +5,12 @@ use Rattle.pattern.specs.Pattern.{maxWords}
 
 -- the version of the exported functions: it rises whenever one of them, or the record, changes for a caller
 abbrev pub version : ℕ
-version = 2
+version = 3
 
--- the bytes of a record: four for the status, for the field number, for each element and word, for the word count, the phase number, the elements
--- done and the two positions; eight for the permutations, which begin at a multiple of eight, so that four before them hold nothing
+-- the bytes of a record: four for the status, for the field number and the form number, for each element and word, for the word count, the phase
+-- number, the elements done and the two positions; eight for the permutations, which so begin at a multiple of eight
 abbrev pub recordBytes : ℕ
-recordBytes = 4 * (2 + width + maxWords + 5) + 4 + 8
+recordBytes = 4 * (3 + width + maxWords + 5) + 8
 
 -- the version from bit 32 on, and below it the bytes of a record
 abbrev pub layout : ℕ

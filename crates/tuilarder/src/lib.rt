@@ -6,7 +6,7 @@ ghost use lib.ListN.{length};
 ghost use Rattle.sha3.specs.Sponge.{sha3};
 ghost use Rattle.cutting.specs.Cutting.{cutAnswer};
 ghost use Rattle.pattern.specs.Opening.{opening};
-ghost use Rattle.tag.specs.TagString.{written as writing, bufferAfter, readWords};
+ghost use Rattle.tag.specs.TagString.{written as writing, bufferAfter, readWords, readSeparator, separatorStart};
 ghost use Rattle.poseidon.specs.Permutation.{permuted};
 ghost use Rattle.generator.specs.Generator.{generation};
 ghost use Rattle.owners.specs.Owners.{tableOf, checked, asked, valueOf};
@@ -19,12 +19,13 @@ ghost use Rattle.tuilarder.specs.Layout.{layout};
 pub extern "C" fn tuilarder_start(
     record: &mut Session,
     field: u32,
+    form: u32,
     words: &[u32],
     separator: &[u8],
 ) -> u32
-    ensures { λ r. ⌜ giving r (now («record» .exit)) ≡ start field (opening (now (words .entry)) (now (separator .entry))) ⌝ }
+    ensures { λ r. ⌜ giving r (now («record» .exit)) ≡ start field form (opening (now (words .entry)) (now (separator .entry))) ⌝ }
 {
-    let opened = Session::start(field, words, separator);
+    let opened = Session::start(field, form, words, separator);
     *record = opened.session;
     opened.number
 }
@@ -92,41 +93,50 @@ pub extern "C" fn tuilarder_generate(
     generated.number
 }
 
-// The tag string of a pattern and a separator, from the buffer's start on, with how many bytes it has. Refused, it writes no byte, and
+// The tag string of a pattern and a separator in a form, from the buffer's start on, with how many bytes it has. Refused, it writes no byte, and
 // gives length 0.
 #[no_mangle]
 pub extern "C" fn tuilarder_write_tag(
+    form: u32,
     words: &[u32],
     separator: &[u8],
     out: &mut [u8],
     written: &mut usize,
 ) -> u32
-    ensures { λ r. ⌜ (r ≡ writing (opening (now (words .entry)) (now (separator .entry))) (now (out .entry)) .number) ×
-        (now (written .exit) ≡ writing (opening (now (words .entry)) (now (separator .entry))) (now (out .entry)) .length) ×
-        (now (out .exit) ≡ bufferAfter (opening (now (words .entry)) (now (separator .entry))) (now (out .entry))) ⌝ }
+    ensures { λ r. ⌜ (r ≡ writing form (opening (now (words .entry)) (now (separator .entry))) (now (out .entry)) .number) ×
+        (now (written .exit) ≡ writing form (opening (now (words .entry)) (now (separator .entry))) (now (out .entry)) .length) ×
+        (now (out .exit) ≡ bufferAfter form (opening (now (words .entry)) (now (separator .entry))) (now (out .entry))) ⌝ }
 {
-    let string = tag::write(words, separator, out);
+    let string = tag::write(form, words, separator, out);
     *written = string.length;
     string.number
 }
 
-// The merged words of a tag string whose separator has the given length, and how many they are. Refused, it gives zeros.
+// The merged words of a tag string of a form, and how many they are; and of its separator where it begins in the string, and its length. In form 1
+// the separator has the given length; in form 2 that is ignored. Refused, it gives zeros, and the separator is the empty part at the string's end.
 #[no_mangle]
 pub extern "C" fn tuilarder_read_tag(
+    form: u32,
     string: &[u8],
     separator_length: usize,
     words: &mut [u32; 64],
     count: &mut usize,
+    separator_start: &mut usize,
+    separator_count: &mut usize,
 ) -> u32
-    ensures { λ r. ⌜ (r ≡ readWords (now (string .entry)) «separator_length» .number) ×
-        (now (words .exit) ≡ readWords (now (string .entry)) «separator_length» .words) ×
-        (now (count .exit) ≡ readWords (now (string .entry)) «separator_length» .count) ⌝ }
+    ensures { λ r. ⌜ (r ≡ readWords form (now (string .entry)) «separator_length» .number) ×
+        (now (words .exit) ≡ readWords form (now (string .entry)) «separator_length» .words) ×
+        (now (count .exit) ≡ readWords form (now (string .entry)) «separator_length» .count) ×
+        (now («separator_start» .exit) ≡ separatorStart form (now (string .entry)) «separator_length») ×
+        (now («separator_count» .exit) ≡ length (readSeparator form (now (string .entry)) «separator_length»)) ⌝ }
 {
-    let merged = tag_reader::read(string, separator_length);
-    let merged_words = merged.words;
+    let parts = tag_reader::read_parts(form, string, separator_length);
+    let merged_words = parts.words;
     *words = merged_words;
-    *count = merged.count;
-    merged.number
+    *count = parts.count;
+    *separator_start = parts.start;
+    *separator_count = parts.length;
+    parts.number
 }
 
 // Words cut into calls of at most 16,777,216 elements, and how many they are. Where 64 do not suffice, it gives zeros and number 1.
@@ -214,7 +224,7 @@ pub extern "C" fn tuilarder_open(
 }
 
 // The version of these functions. It rises whenever one of them, or the record, changes for a caller.
-const VERSION: u64 = 2;
+const VERSION: u64 = 3;
 
 // The bytes of a record.
 const RECORD_BYTES: u64 = 392;
@@ -222,7 +232,7 @@ const RECORD_BYTES: u64 = 392;
 // What the library was compiled for, to be compared with what its caller was. The version is in the name too, so that a caller of another one is
 // not linked.
 #[no_mangle]
-pub extern "C" fn tuilarder_layout_2() -> u64
+pub extern "C" fn tuilarder_layout_3() -> u64
     ensures { λ r. ⌜ r ≡ layout ⌝ }
 {
     VERSION * 4294967296 + RECORD_BYTES

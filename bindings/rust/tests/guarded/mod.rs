@@ -89,6 +89,7 @@ impl Any for Record {
         Record {
             status: Any::any(random),
             field: Any::any(random),
+            form: Any::any(random),
             state: Any::any(random),
             words: Any::any(random),
             count: Any::any(random),
@@ -160,7 +161,7 @@ impl<T: Any + Copy + PartialEq + Debug> Lent<T> {
     }
 }
 
-pub fn start(random: &mut Random, record: &mut Record, field: u32, words: &[u32], separator: &[u8]) -> u32 {
+pub fn start(random: &mut Random, record: &mut Record, field: u32, form: u32, words: &[u32], separator: &[u8]) -> u32 {
     let mut lent = Lent::new(&[*record], random);
     let (mut words, mut separator) = (Lent::new(words, random), Lent::new(separator, random));
     // SAFETY: the pointers are to that many cells, and the lists are apart.
@@ -168,6 +169,7 @@ pub fn start(random: &mut Random, record: &mut Record, field: u32, words: &[u32]
         ffi::tuilarder_start(
             lent.pointer(),
             field,
+            form,
             words.pointer(),
             words.len,
             separator.pointer(),
@@ -226,12 +228,13 @@ pub fn generate(random: &mut Random, field: u32) -> (u32, [u32; 744], usize) {
 }
 
 /// The number, and what the library says was written.
-pub fn write_tag(random: &mut Random, words: &[u32], separator: &[u8], out: &mut [u8]) -> (u32, usize) {
+pub fn write_tag(random: &mut Random, form: u32, words: &[u32], separator: &[u8], out: &mut [u8]) -> (u32, usize) {
     let (mut words, mut separator) = (Lent::new(words, random), Lent::new(separator, random));
     let (mut lent, mut written) = (Lent::new(out, random), Lent::new(&[usize::any(random)], random));
     // SAFETY: the pointers are to that many cells, and the lists are apart.
     let number = unsafe {
         ffi::tuilarder_write_tag(
+            form,
             words.pointer(),
             words.len,
             separator.pointer(),
@@ -247,25 +250,42 @@ pub fn write_tag(random: &mut Random, words: &[u32], separator: &[u8], out: &mut
     (number, written.returned()[0])
 }
 
-/// The number, the words and their count.
-pub fn read_tag(random: &mut Random, string: &[u8], separator_length: usize) -> (u32, [u32; 64], usize) {
+/// What reading gives: the number, the words and their count, and of the separator where in the string it begins, and its length.
+#[derive(Clone, Debug, PartialEq, Eq)]
+pub struct ReadTag {
+    pub number: u32,
+    pub words: [u32; 64],
+    pub count: usize,
+    pub separator_start: usize,
+    pub separator_count: usize,
+}
+
+pub fn read_tag(random: &mut Random, form: u32, string: &[u8], separator_length: usize) -> ReadTag {
     let mut string = Lent::new(string, random);
-    let (mut words, mut count) = (
-        Lent::new(&[<[u32; 64]>::any(random)], random),
-        Lent::new(&[usize::any(random)], random),
-    );
+    let mut words = Lent::new(&[<[u32; 64]>::any(random)], random);
+    let [mut count, mut separator_start, mut separator_count] =
+        [(); 3].map(|()| Lent::new(&[usize::any(random)], random));
     // SAFETY: the pointers are to that many cells, and the lists are apart.
     let number = unsafe {
         ffi::tuilarder_read_tag(
+            form,
             string.pointer(),
             string.len,
             separator_length,
             words.pointer(),
             count.pointer(),
+            separator_start.pointer(),
+            separator_count.pointer(),
         )
     };
     string.only_read();
-    (number, words.returned()[0], count.returned()[0])
+    ReadTag {
+        number,
+        words: words.returned()[0],
+        count: count.returned()[0],
+        separator_start: separator_start.returned()[0],
+        separator_count: separator_count.returned()[0],
+    }
 }
 
 /// The number, the calls and their count.

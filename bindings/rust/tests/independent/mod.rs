@@ -1,4 +1,4 @@
-//! An independent implementation of the challenge sponge, written from document 01 and P3, P4 and P6 of document 02 alone,
+//! An independent implementation of the challenge sponge, written from document 01 and P3, P4, P6 and P8 of document 02 alone,
 //! of the owners of separators, written from P1 of document 02 alone (`owners.rs`), and of sealed notes, written from document
 //! 02 and Algorithm 7 of source document 001 alone (`seal.rs`). It shares no code with the library, which the tests compare
 //! with it, and is plain rather than fast. Quotations here are from document 01 unless another source is named.
@@ -39,6 +39,9 @@ pub const LONGEST_CALL: u32 = 16_777_216;
 /// "pattern of 0 or over 64 words" and "separator over 256 bytes".
 pub const MOST_WORDS: usize = 64;
 pub const LONGEST_SEPARATOR: usize = 256;
+
+/// P8: "the separator's length as four bytes", behind the longest words and separator.
+pub const LONGEST_STRING: usize = 4 * MOST_WORDS + LONGEST_SEPARATOR + 4;
 
 /// "The state has eight outer elements and sixteen inner elements, numbered 0 to 23 with the outer ones first."
 pub type State = [u32; WIDTH];
@@ -406,17 +409,37 @@ fn check_pattern(words: &[u32], separator: &[u8]) -> Result<Vec<u32>, u32> {
     Ok(merge(words))
 }
 
-/// "The tag string is the merged words, four bytes each, highest byte first, then the separator."
-fn tag_string(merged: &[u32], separator: &[u8]) -> Vec<u8> {
+/// P8: "a form number, 1 for today's string"; "form 2: words, separator, then the separator's length as four bytes, highest
+/// first."
+#[derive(Clone, Copy, Debug, PartialEq, Eq)]
+pub enum Form {
+    One = 1,
+    Two = 2,
+}
+
+/// The form with this number. None for a "form number neither 1 nor 2".
+pub fn form_named(form: u32) -> Option<Form> {
+    [Form::One, Form::Two].into_iter().find(|known| *known as u32 == form)
+}
+
+/// "The tag string is the merged words, four bytes each, highest byte first, then the separator." P8: in form 2 "then the
+/// separator's length as four bytes, highest first." The separator is one of at most 256 bytes.
+fn tag_string(form: Form, merged: &[u32], separator: &[u8]) -> Vec<u8> {
     let mut string: Vec<u8> = merged.iter().flat_map(|word| word.to_be_bytes()).collect();
     string.extend(separator);
+    if form == Form::Two {
+        let length = u32::try_from(separator.len()).expect("a checked separator");
+        string.extend(length.to_be_bytes());
+    }
     string
 }
 
 /// "Writing checks 1 to 6, then 12; it writes from the buffer's start and only the string's bytes, and none when
-/// refused." Gives how many bytes were written, or the number.
-pub fn write_tag(words: &[u32], separator: &[u8], out: &mut [u8]) -> Result<usize, u32> {
-    let string = tag_string(&check_pattern(words, separator)?, separator);
+/// refused." P8: "22: form number neither 1 nor 2", "first" where 18 is not checked. Gives how many bytes were written, or the
+/// number.
+pub fn write_tag(form: u32, words: &[u32], separator: &[u8], out: &mut [u8]) -> Result<usize, u32> {
+    let form = form_named(form).ok_or(22_u32)?;
+    let string = tag_string(form, &check_pattern(words, separator)?, separator);
     if out.len() < string.len() {
         return Err(12);
     }
@@ -424,9 +447,9 @@ pub fn write_tag(words: &[u32], separator: &[u8], out: &mut [u8]) -> Result<usiz
     Ok(string.len())
 }
 
-/// "Reading checks 6 (the length given), then 13: the string is shorter than that length, or what precedes it isn't a
-/// sound record's word list in whole words."
-fn split_tag(string: &[u8], separator_length: usize) -> Result<(Vec<u32>, &[u8]), u32> {
+/// Words and a separator of a length, which are all of a string of form 1. "Reading checks 6 (the length given), then 13: the
+/// string is shorter than that length, or what precedes it isn't a sound record's word list in whole words."
+fn split_separator(string: &[u8], separator_length: usize) -> Result<(Vec<u32>, &[u8]), u32> {
     if separator_length > LONGEST_SEPARATOR {
         return Err(6);
     }
@@ -444,19 +467,31 @@ fn split_tag(string: &[u8], separator_length: usize) -> Result<(Vec<u32>, &[u8])
     Ok((words, separator))
 }
 
+/// P8: "Reading form 2 goes by the string's last four bytes and ignores any length given." "In form 2 a string under four bytes,
+/// or one whose tail names more bytes than precede it, gets 13, and a tail above 256 gets 6 before that." 22 comes "first".
+fn split_tag(form: u32, string: &[u8], given: usize) -> Result<(Vec<u32>, &[u8]), u32> {
+    match form_named(form).ok_or(22_u32)? {
+        Form::One => split_separator(string, given),
+        Form::Two => {
+            let (before, tail) = string.split_last_chunk().ok_or(13_u32)?;
+            split_separator(before, u32::from_be_bytes(*tail) as usize)
+        }
+    }
+}
+
 /// "The merged words come back by value"; "the number comes with the words." "Refused, it gives 64 zero words and
 /// count 0."
-pub fn read_tag(string: &[u8], separator_length: usize) -> (u32, [u32; MOST_WORDS], usize) {
-    match split_tag(string, separator_length) {
+pub fn read_tag(form: u32, string: &[u8], given: usize) -> (u32, [u32; MOST_WORDS], usize) {
+    match split_tag(form, string, given) {
         Ok((words, _)) => (0, with_unused_words(&words), words.len()),
         Err(number) => (number, [0; MOST_WORDS], 0),
     }
 }
 
 /// "the separator comes back as that part of the string itself (empty on a refusal), from a call of its own that checks
-/// the same".
-pub fn read_separator(string: &[u8], separator_length: usize) -> &[u8] {
-    split_tag(string, separator_length).map_or(&[], |(_, separator)| separator)
+/// the same". In form 2 that part ends four bytes before the string's end. The empty part of a refusal is at the end.
+pub fn read_separator(form: u32, string: &[u8], given: usize) -> &[u8] {
+    split_tag(form, string, given).map_or(&string[string.len()..], |(_, separator)| separator)
 }
 
 /// P4: "cutting longer words into calls of 16,777,216 and any rest", of the word's kind. Other words are one call as they are,
@@ -506,11 +541,13 @@ pub fn tag_elements(digest: &[u8; 32]) -> [u32; 8] {
 
 /// "The record holds a status (1 open, otherwise closed), 24 state elements and 64 pattern words, the word count, the
 /// phase number, the elements done in that phase, an absorb and a squeeze position (0 to 8); and the record counts its
-/// permutations." "A copied record is a fork." P3: "START takes a field number", "and the record keeps it."
+/// permutations." "A copied record is a fork." P3: "START takes a field number", "and the record keeps it." P8: "START,
+/// writing and reading take a form number", "and the record keeps it".
 #[derive(Clone, Debug, PartialEq, Eq)]
 pub struct Session {
     pub status: u32,
     pub field: u32,
+    pub form: u32,
     pub state: State,
     pub words: [u32; MOST_WORDS],
     pub count: u32,
@@ -525,6 +562,7 @@ pub struct Session {
 pub const WIPED: Session = Session {
     status: 0,
     field: 0,
+    form: 0,
     state: [0; WIDTH],
     words: [0; MOST_WORDS],
     count: 0,
@@ -615,12 +653,14 @@ fn is_sound(field: &Field, record: &Session) -> bool {
 }
 
 /// "record not open", "open record not sound": 7, 8, or else the record's field. P3: "A record with another field number
-/// isn't sound."
+/// isn't sound." P8, of the form number: "a record with another isn't sound."
 fn check_record(record: &Session) -> Result<&'static Field, u32> {
     if record.status != 1 {
         return Err(7);
     }
-    named(record.field).filter(|field| is_sound(field, record)).ok_or(8)
+    named(record.field)
+        .filter(|field| form_named(record.form).is_some() && is_sound(field, record))
+        .ok_or(8)
 }
 
 /// Not "wrong kind, past the phase's end, or after the last phase", in a sound record. "The length of a call is that of
@@ -651,19 +691,23 @@ fn permute_session(field: &Field, record: &mut Session) {
 
 /// "START makes it open, with the merged words and their number; phase number, elements done, positions, permutations
 /// and unused words are 0." "Word k is added to element 8 + k of the zero state." "a refusal gives a wiped record." P3: 18
-/// "before 1 at START".
-pub fn start(field: u32, words: &[u32], separator: &[u8]) -> (u32, Session) {
+/// "before 1 at START". P8: 22 "straight after 18 where both are checked".
+pub fn start(field: u32, form: u32, words: &[u32], separator: &[u8]) -> (u32, Session) {
     let Some(field) = named(field) else {
         return (18, WIPED);
+    };
+    let Some(form) = form_named(form) else {
+        return (22, WIPED);
     };
     let merged = match check_pattern(words, separator) {
         Ok(merged) => merged,
         Err(number) => return (number, WIPED),
     };
-    let tag = tag_elements(&sha3_256(&tag_string(&merged, separator)));
+    let tag = tag_elements(&sha3_256(&tag_string(form, &merged, separator)));
     let mut record = Session {
         status: 1,
         field: field.number,
+        form: form as u32,
         words: with_unused_words(&merged),
         count: merged.len() as u32,
         ..WIPED

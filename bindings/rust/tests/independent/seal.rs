@@ -13,6 +13,9 @@ pub const MARK_LENGTH: usize = 8;
 /// "for each of 1 to 31 blocks".
 pub const MOST_BLOCKS: usize = 31;
 
+/// "Sealed notes keep form 1."
+const FORM: u32 = 1;
+
 /// What is lent to both calls alike: "What was sealed opens to the same blocks under the same field, key, nonce, separator
 /// and lengths." The field is a number and the lists are of any length, since the calls check them.
 #[derive(Clone, Copy, Debug)]
@@ -86,7 +89,7 @@ fn squeeze_all(session: &mut Session, count: usize) -> Vec<u32> {
 
 /// The session once key and nonce are absorbed. Nothing in it is refused where the inputs were checked.
 fn session_with_key(inputs: &SealInputs) -> Session {
-    let (number, mut session) = start(inputs.field, &declared_words(inputs.lengths), inputs.separator);
+    let (number, mut session) = start(inputs.field, FORM, &declared_words(inputs.lengths), inputs.separator);
     assert_eq!(number, 0, "START");
     absorb_all(&mut session, &[inputs.key, inputs.nonce].concat());
     session

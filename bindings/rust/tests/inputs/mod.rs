@@ -1,4 +1,5 @@
-//! Random inputs, most of them good and others damaged: patterns, separators, fields, elements, calls, records, strings, tables of owners and notes.
+//! Random inputs, most of them good and others damaged: patterns, separators, fields, forms, elements, calls, records, strings, tables of owners and
+//! notes.
 
 // Each program that takes this file in uses only a part of it.
 #![allow(dead_code)]
@@ -181,6 +182,23 @@ pub fn any_field(random: &mut Random) -> u32 {
     }
 }
 
+// Forms
+
+/// Numbers that no form has: the forms have the numbers that the fields have.
+pub const UNKNOWN_FORMS: [u32; 10] = UNKNOWN_FIELDS;
+
+pub fn known_form(random: &mut Random) -> u32 {
+    random.pick(&[1, 2])
+}
+
+/// The number of a form, at times of none.
+pub fn any_form(random: &mut Random) -> u32 {
+    match random.below(8) {
+        0 => random.pick(&UNKNOWN_FORMS),
+        _ => known_form(random),
+    }
+}
+
 /// The prime of a field; of a number that no field has, any of them.
 fn prime(random: &mut Random, field: u32) -> u32 {
     independent::named(field).map_or_else(|| random.pick(&[P_1, P_2]), |field| field.p)
@@ -196,7 +214,8 @@ pub fn between_the_primes(random: &mut Random) -> u32 {
 
 #[derive(Clone, Debug)]
 pub enum Call {
-    Start(u32, Vec<u32>, Vec<u8>),
+    /// Field, form, words and separator.
+    Start(u32, u32, Vec<u32>, Vec<u8>),
     Absorb(Vec<u32>),
     Squeeze(Vec<u32>),
     Finish,
@@ -287,11 +306,12 @@ pub fn next_call(random: &mut Random, record: &Record, any_once_in: u64) -> Call
 // Records
 
 /// A record with any state of a field at a place of a word list, with the positions and the count that the steps give there.
-pub fn record_at(random: &mut Random, field: u32, words: &[u32], phase: usize, done: u32) -> Record {
+pub fn record_at(random: &mut Random, field: u32, form: u32, words: &[u32], phase: usize, done: u32) -> Record {
     let place = independent::place(words, phase, done);
     Record {
         status: 1,
         field,
+        form,
         state: std::array::from_fn(|_| good_element(random, field)),
         words: std::array::from_fn(|k| words.get(k).copied().unwrap_or(0)),
         count: words.len() as u32,
@@ -327,8 +347,8 @@ pub fn sound_record(random: &mut Random) -> Record {
     let count = phases(random);
     let words = merged_words(random, count, any_length);
     let (phase, done) = any_place(random, &words);
-    let field = known_field(random);
-    record_at(random, field, &words, phase, done)
+    let (field, form) = (known_field(random), known_form(random));
+    record_at(random, field, form, &words, phase, done)
 }
 
 /// A number near another one, or far off.
@@ -349,13 +369,17 @@ fn changed(random: &mut Random, number: u32) -> u32 {
 pub type Damage = (&'static str, fn(&mut Random, &mut Record));
 
 /// Ways to change one part of a record.
-pub const PART_DAMAGES: [Damage; 11] = [
+pub const PART_DAMAGES: [Damage; 12] = [
     ("status", |random, record| {
         record.status = random.pick(&[0, 2, 3, ABSORB + 1, u32::MAX])
     }),
     ("field", |random, record| {
         let near = changed(random, record.field);
         record.field = random.pick(&[near, 3 ^ record.field, 0, 3, ABSORB]);
+    }),
+    ("form", |random, record| {
+        let near = changed(random, record.form);
+        record.form = random.pick(&[near, 3 ^ record.form, 0, 3, ABSORB]);
     }),
     ("state", |random, record| {
         record.state[random.below(24) as usize] = bad_element(random, record.field)
@@ -392,7 +416,7 @@ pub const PART_DAMAGES: [Damage; 11] = [
 /// Moves a record to a place of other words, so that all but the words or the place itself is as it should be.
 fn put_at(random: &mut Random, record: &mut Record, words: &[u32]) {
     let (phase, done) = any_place(random, words);
-    *record = record_at(random, record.field, words, phase, done);
+    *record = record_at(random, record.field, record.form, words, phase, done);
 }
 
 fn used_words(record: &Record) -> Vec<u32> {
@@ -401,9 +425,12 @@ fn used_words(record: &Record) -> Vec<u32> {
 
 /// Ways to break a condition of soundness and to keep the positions and the count that the steps give at the place.
 /// None of them leaves a sound record.
-pub const CONDITION_DAMAGES: [Damage; 11] = [
+pub const CONDITION_DAMAGES: [Damage; 12] = [
     ("unknown field", |random, record| {
         record.field = random.pick(&UNKNOWN_FIELDS);
+    }),
+    ("unknown form", |random, record| {
+        record.form = random.pick(&UNKNOWN_FORMS);
     }),
     ("element of field 2 alone", |random, record| {
         let words = used_words(record);
@@ -437,17 +464,17 @@ pub const CONDITION_DAMAGES: [Damage; 11] = [
     }),
     ("phase past the count", |random, record| {
         let words = used_words(record);
-        *record = record_at(random, record.field, &words, words.len(), 0);
+        *record = record_at(random, record.field, record.form, &words, words.len(), 0);
         record.phase += random.pick(&[1, 2, 64]);
     }),
     ("done at the phase's end", |random, record| {
         let words = used_words(record);
         let phase = random.below(words.len() as u64) as usize;
-        *record = record_at(random, record.field, &words, phase, length(words[phase]));
+        *record = record_at(random, record.field, record.form, &words, phase, length(words[phase]));
     }),
     ("done after the last phase", |random, record| {
         let words = used_words(record);
-        *record = record_at(random, record.field, &words, words.len(), 0);
+        *record = record_at(random, record.field, record.form, &words, words.len(), 0);
         record.done = random.pick(&[1, 8, LONGEST, u32::MAX]);
     }),
 ];
@@ -464,6 +491,7 @@ pub fn any_record(random: &mut Random) -> Record {
     record.status = random.pick(&[1, 1, 1, 1, record.status]);
     if random.once_in(2) {
         record.field = any_field(random);
+        record.form = any_form(random);
         record.state = std::array::from_fn(|_| good_element(random, record.field));
         record.count = 1 + random.below(65) as u32;
         record.phase = random.below(u64::from(record.count)) as u32;
@@ -474,6 +502,58 @@ pub fn any_record(random: &mut Random) -> Record {
 }
 
 // Strings
+
+/// The string of a form of these words and a separator: "words, separator, then the separator's length as four bytes, highest first" in form 2.
+pub fn string_of(form: u32, words: &[u32], separator: &[u8]) -> Vec<u8> {
+    let mut string: Vec<u8> = words.iter().flat_map(|word| word.to_be_bytes()).collect();
+    string.extend(separator);
+    if form == 2 {
+        string.extend((separator.len() as u32).to_be_bytes());
+    }
+    string
+}
+
+/// A number for the last four bytes of a string of form 2, where so many bytes precede them: about that many, about the longest separator's length, or any;
+/// at times with its bytes in the other order.
+pub fn any_tail(random: &mut Random, preceding: usize) -> u32 {
+    let (all, any) = (preceding as u32, u32::any(random));
+    let near = all.wrapping_sub(4 * random.below(66) as u32);
+    let tail = random.pick(&[
+        0,
+        1,
+        255,
+        256,
+        257,
+        all,
+        all.wrapping_add(1),
+        all.wrapping_sub(1),
+        near,
+        near,
+        any,
+        u32::MAX,
+    ]);
+    if random.once_in(8) {
+        tail.swap_bytes()
+    } else {
+        tail
+    }
+}
+
+/// A length to be given to reading, whatever the string is.
+pub fn any_given(random: &mut Random, string: &[u8], right: usize) -> usize {
+    let near = right.wrapping_add(random.below(9) as usize).wrapping_sub(4);
+    let far = random.pick(&[
+        0,
+        255,
+        256,
+        257,
+        string.len(),
+        string.len() + 1,
+        usize::MAX,
+        right | 1 << 32,
+    ]);
+    random.pick(&[right, right, right, near, far])
+}
 
 pub fn damage_string(random: &mut Random, string: &mut Vec<u8>) {
     let k = random.below(string.len() as u64 + 1) as usize;

@@ -3,16 +3,24 @@
 // Each program that takes this file in uses only a part of it.
 #![allow(dead_code, unused_macros)]
 
-use crate::guarded::{self, Any, Lent, Random};
+use crate::guarded::{self, Any, Lent, Random, ReadTag};
 use crate::independent::{self, SealInputs, Session as Other};
 use crate::inputs::Call;
 use std::ptr;
 use tuilarder::ffi::Record;
-use tuilarder::{Field, Owners, OwnersFault, Pattern, Protocol, Refusal, Seal, Session};
+use tuilarder::{Field, Form, Owners, OwnersFault, Pattern, Protocol, Refusal, Seal, Session};
 
 /// What takes calls, and answers each with a number. The random numbers are for what surrounds the lent lists.
 pub trait Interface {
-    fn start(&self, noise: &mut Random, record: &mut Record, field: u32, words: &[u32], separator: &[u8]) -> u32;
+    fn start(
+        &self,
+        noise: &mut Random,
+        record: &mut Record,
+        field: u32,
+        form: u32,
+        words: &[u32],
+        separator: &[u8],
+    ) -> u32;
     fn absorb(&self, noise: &mut Random, record: &mut Record, elements: &[u32]) -> u32;
     fn squeeze(&self, noise: &mut Random, record: &mut Record, buffer: &mut [u32]) -> u32;
     fn finish(&self, noise: &mut Random, record: &mut Record) -> u32;
@@ -20,9 +28,9 @@ pub trait Interface {
     /// The number, the places and how many constants were found.
     fn generate(&self, noise: &mut Random, field: u32) -> (u32, [u32; 744], usize);
     /// The number, and how many bytes were written.
-    fn write_tag(&self, noise: &mut Random, words: &[u32], separator: &[u8], out: &mut [u8]) -> (u32, usize);
-    /// The number, the words and their count.
-    fn read_tag(&self, noise: &mut Random, string: &[u8], separator_length: usize) -> (u32, [u32; 64], usize);
+    fn write_tag(&self, noise: &mut Random, form: u32, words: &[u32], separator: &[u8], out: &mut [u8])
+        -> (u32, usize);
+    fn read_tag(&self, noise: &mut Random, form: u32, string: &[u8], separator_length: usize) -> ReadTag;
     /// The number, the calls and their count.
     fn cut(&self, noise: &mut Random, words: &[u32]) -> (u32, [u32; 64], usize);
     fn sha3_256(&self, noise: &mut Random, data: &[u8]) -> [u8; 32];
@@ -64,8 +72,8 @@ pub fn perform(
     call: &Call,
 ) -> (&'static str, u32, Vec<u32>) {
     match call {
-        Call::Start(field, words, separator) => {
-            let number = interface.start(noise, record, *field, words, separator);
+        Call::Start(field, form, words, separator) => {
+            let number = interface.start(noise, record, *field, *form, words, separator);
             ("START", number, vec![])
         }
         Call::Absorb(elements) => ("ABSORB", interface.absorb(noise, record, elements), vec![]),
@@ -82,8 +90,16 @@ pub fn perform(
 pub struct Functions;
 
 impl Interface for Functions {
-    fn start(&self, noise: &mut Random, record: &mut Record, field: u32, words: &[u32], separator: &[u8]) -> u32 {
-        guarded::start(noise, record, field, words, separator)
+    fn start(
+        &self,
+        noise: &mut Random,
+        record: &mut Record,
+        field: u32,
+        form: u32,
+        words: &[u32],
+        separator: &[u8],
+    ) -> u32 {
+        guarded::start(noise, record, field, form, words, separator)
     }
     fn absorb(&self, noise: &mut Random, record: &mut Record, elements: &[u32]) -> u32 {
         guarded::absorb(noise, record, elements)
@@ -100,11 +116,18 @@ impl Interface for Functions {
     fn generate(&self, noise: &mut Random, field: u32) -> (u32, [u32; 744], usize) {
         guarded::generate(noise, field)
     }
-    fn write_tag(&self, noise: &mut Random, words: &[u32], separator: &[u8], out: &mut [u8]) -> (u32, usize) {
-        guarded::write_tag(noise, words, separator, out)
+    fn write_tag(
+        &self,
+        noise: &mut Random,
+        form: u32,
+        words: &[u32],
+        separator: &[u8],
+        out: &mut [u8],
+    ) -> (u32, usize) {
+        guarded::write_tag(noise, form, words, separator, out)
     }
-    fn read_tag(&self, noise: &mut Random, string: &[u8], separator_length: usize) -> (u32, [u32; 64], usize) {
-        guarded::read_tag(noise, string, separator_length)
+    fn read_tag(&self, noise: &mut Random, form: u32, string: &[u8], separator_length: usize) -> ReadTag {
+        guarded::read_tag(noise, form, string, separator_length)
     }
     fn cut(&self, noise: &mut Random, words: &[u32]) -> (u32, [u32; 64], usize) {
         guarded::cut(noise, words)
@@ -129,7 +152,7 @@ impl Interface for Functions {
 // The types
 
 /// The refusals, each with the number that documents 01 and 02 have for it; 14 belongs to cards.
-const REFUSALS: [(u32, Refusal); 20] = [
+const REFUSALS: [(u32, Refusal); 21] = [
     (1, Refusal::WordCountOutOfRange),
     (2, Refusal::WordLengthZero),
     (3, Refusal::FirstWordSqueeze),
@@ -150,6 +173,7 @@ const REFUSALS: [(u32, Refusal); 20] = [
     (19, Refusal::CallTooLong),
     (20, Refusal::SealLengthInvalid),
     (21, Refusal::MarkDiffers),
+    (22, Refusal::FormUnknown),
 ];
 
 /// The number of an answer by its variant, which has to be the one that the crate gives it.
@@ -185,10 +209,22 @@ pub fn field_of(number: u32) -> Option<Field> {
     field
 }
 
+/// The form with this number, if there is one: "a form number, 1 for today's string", and 2.
+pub fn form_of(number: u32) -> Option<Form> {
+    let form = match number {
+        1 => Some(Form::One),
+        2 => Some(Form::Two),
+        _ => None,
+    };
+    assert_eq!(Form::from_number(number), form);
+    form
+}
+
 /// The record of a session, which has to be what is seen of it otherwise, and in its fork.
 pub fn record_of(session: &Session) -> Record {
     let record = *session.record();
     assert_eq!(session.field(), field_of(record.field), "the field");
+    assert_eq!(session.form(), form_of(record.form), "the form");
     assert_eq!(session.permutations(), record.permutations, "the permutations");
     let (open, phase, done, permutations) = (record.status == 1, record.phase, record.done, record.permutations);
     assert_eq!(
@@ -207,13 +243,23 @@ fn session_of(record: &Record) -> Session {
 }
 
 /// That a protocol holds what it was made of, and the tag string that belongs to it.
-pub fn check_protocol(protocol: &Protocol, field: Field, words: &[u32], separator: &[u8]) {
-    let mut string = [0; 512];
-    let size = independent::write_tag(words, separator, &mut string).expect("an accepted opening");
+pub fn check_protocol(protocol: &Protocol, field: Field, form: Form, words: &[u32], separator: &[u8]) {
+    let mut string = [0; 516];
+    let size = independent::write_tag(form.number(), words, separator, &mut string).expect("an accepted opening");
     assert_eq!(protocol.field(), field, "the protocol's field");
+    assert_eq!(protocol.form(), form, "the protocol's form");
     assert_eq!(protocol.pattern().words(), words, "the protocol's words");
     assert_eq!(protocol.separator(), separator, "the protocol's separator");
     assert_eq!(protocol.tag_string(), &string[..size], "the protocol's tag string");
+}
+
+/// A protocol; form 1 has a constructor of its own, which has to make the same.
+pub fn protocol_of(field: Field, form: Form, pattern: &Pattern, separator: &[u8]) -> Result<Protocol, Refusal> {
+    let answer = Protocol::with_form(field, form, pattern, separator);
+    if form == Form::One {
+        assert_eq!(Protocol::new(field, pattern, separator), answer, "form 1 by both");
+    }
+    answer
 }
 
 /// Sealing or opening, of a text and a buffer.
@@ -258,18 +304,29 @@ fn merged_words(pattern: &Pattern) -> Vec<u32> {
 pub struct Types;
 
 impl Interface for Types {
-    /// No type holds an unknown field, so that 18 is not asked for. Numbers 1, 2, 19 and 3 are those of the pattern, 6 is the protocol's.
-    /// Refused, it gives no record.
-    fn start(&self, noise: &mut Random, record: &mut Record, field: u32, words: &[u32], separator: &[u8]) -> u32 {
+    /// No type holds an unknown field or form, so that 18 and 22 are not asked for. Numbers 1, 2, 19 and 3 are those of the pattern, 6 is the
+    /// protocol's. Refused, it gives no record.
+    fn start(
+        &self,
+        noise: &mut Random,
+        record: &mut Record,
+        field: u32,
+        form: u32,
+        words: &[u32],
+        separator: &[u8],
+    ) -> u32 {
         *record = Record::WIPED;
         let Some(field) = field_of(field) else {
             return 18;
         };
+        let Some(form) = form_of(form) else {
+            return 22;
+        };
         let (words, separator) = (Lent::new(words, noise), Lent::new(separator, noise));
         let pattern = Pattern::from_words(words.part());
-        let answer = pattern.and_then(|pattern| Protocol::new(field, &pattern, separator.part()));
+        let answer = pattern.and_then(|pattern| protocol_of(field, form, &pattern, separator.part()));
         if let Ok(protocol) = &answer {
-            check_protocol(protocol, field, words.part(), separator.part());
+            check_protocol(protocol, field, form, words.part(), separator.part());
             *record = record_of(&protocol.start());
         }
         number_of(&answer)
@@ -322,12 +379,25 @@ impl Interface for Types {
         (0, lent.returned()[0], count)
     }
 
-    /// Numbers 1, 2, 19 and 3 are those of the pattern.
-    fn write_tag(&self, noise: &mut Random, words: &[u32], separator: &[u8], out: &mut [u8]) -> (u32, usize) {
+    /// No type holds an unknown form, so that 22 is not asked for. Numbers 1, 2, 19 and 3 are those of the pattern.
+    fn write_tag(
+        &self,
+        noise: &mut Random,
+        form: u32,
+        words: &[u32],
+        separator: &[u8],
+        out: &mut [u8],
+    ) -> (u32, usize) {
+        let Some(form) = form_of(form) else {
+            return (22, 0);
+        };
         let mut lent = Lent::new(out, noise);
         let start = lent.part().as_ptr();
         let answer = Pattern::from_words(words).and_then(|pattern| {
-            let string = pattern.tag_string(separator, lent.part_mut())?;
+            let string = match form {
+                Form::One => pattern.tag_string(separator, lent.part_mut())?,
+                Form::Two => pattern.tag_string_with_form(form, separator, lent.part_mut())?,
+            };
             assert!(ptr::eq(string.as_ptr(), start), "not the buffer's start");
             Ok(string.len())
         });
@@ -336,27 +406,41 @@ impl Interface for Types {
     }
 
     /// What was read are the merged words, which the pattern's own tag string has; what it declares is compared with them cut. Refused, it gives
-    /// no words. With 1 they are read, and no type shows them: 64 calls must not suffice for those that the independent implementation reads.
-    fn read_tag(&self, noise: &mut Random, string: &[u8], separator_length: usize) -> (u32, [u32; 64], usize) {
-        let string = Lent::new(string, noise);
-        let answer = Pattern::read(string.part(), separator_length);
+    /// no words and no separator. With 1 they are read, and no type shows them: 64 calls must not suffice for those that the independent
+    /// implementation reads. No type takes a length for form 2.
+    fn read_tag(&self, noise: &mut Random, form: u32, string: &[u8], separator_length: usize) -> ReadTag {
+        let refused = |number| ReadTag {
+            number,
+            words: [0; 64],
+            count: 0,
+            separator_start: string.len(),
+            separator_count: 0,
+        };
+        let Some(known) = form_of(form) else {
+            return refused(22);
+        };
+        let lent = Lent::new(string, noise);
+        let answer = match known {
+            Form::One => Pattern::read(lent.part(), separator_length),
+            Form::Two => Pattern::read_form_2(lent.part()),
+        };
         let number = number_of(&answer);
-        string.only_read();
+        lent.only_read();
         let (pattern, separator) = match answer {
             Ok(read) => read,
             Err(Refusal::WordCountOutOfRange) => {
-                let (number, words, count) = independent::read_tag(string.part(), separator_length);
-                assert_eq!(
-                    (number, independent::cut(&words[..count]).0),
-                    (0, 1),
-                    "read, and not cut"
-                );
-                return (number, words, count);
+                let read = Independent.read_tag(noise, form, string, separator_length);
+                let cut = independent::cut(&read.words[..read.count]).0;
+                assert_eq!((read.number, cut), (0, 1), "read, and not cut");
+                return read;
             }
-            Err(_) => return (number, [0; 64], 0),
+            Err(_) => return refused(number),
         };
-        let expected = independent::read_separator(string.part(), separator_length);
-        assert!(ptr::eq(separator, expected), "not that part of the string");
+        let separator_start = (separator.as_ptr() as usize).wrapping_sub(lent.part().as_ptr() as usize);
+        assert!(
+            separator_start <= string.len() && separator.len() <= string.len() - separator_start,
+            "not a part of the string"
+        );
         let calls = pattern.words();
         assert_eq!(pattern, Pattern::from_words(calls).expect("calls of a tag string"));
         let merged = merged_words(&pattern);
@@ -365,7 +449,13 @@ impl Interface for Types {
             independent::cut(&merged),
             "the calls"
         );
-        (number, in_64_places(&merged), merged.len())
+        ReadTag {
+            number,
+            words: in_64_places(&merged),
+            count: merged.len(),
+            separator_start,
+            separator_count: separator.len(),
+        }
     }
 
     /// Only a tag string's words are cut, as it is read; others are not asked for.
@@ -428,8 +518,16 @@ fn on_other<T>(record: &mut Record, call: impl FnOnce(&mut Other) -> T) -> T {
 }
 
 impl Interface for Independent {
-    fn start(&self, _: &mut Random, record: &mut Record, field: u32, words: &[u32], separator: &[u8]) -> u32 {
-        let (number, started) = independent::start(field, words, separator);
+    fn start(
+        &self,
+        _: &mut Random,
+        record: &mut Record,
+        field: u32,
+        form: u32,
+        words: &[u32],
+        separator: &[u8],
+    ) -> u32 {
+        let (number, started) = independent::start(field, form, words, separator);
         *record = same_fields!(Record, started);
         number
     }
@@ -448,14 +546,27 @@ impl Interface for Independent {
     fn generate(&self, _: &mut Random, field: u32) -> (u32, [u32; 744], usize) {
         independent::generate(field)
     }
-    fn write_tag(&self, _: &mut Random, words: &[u32], separator: &[u8], out: &mut [u8]) -> (u32, usize) {
-        match independent::write_tag(words, separator, out) {
+    fn write_tag(&self, _: &mut Random, form: u32, words: &[u32], separator: &[u8], out: &mut [u8]) -> (u32, usize) {
+        match independent::write_tag(form, words, separator, out) {
             Ok(written) => (0, written),
             Err(number) => (number, 0),
         }
     }
-    fn read_tag(&self, _: &mut Random, string: &[u8], separator_length: usize) -> (u32, [u32; 64], usize) {
-        independent::read_tag(string, separator_length)
+    /// "the separator comes back as that part of the string itself (empty on a refusal)": the last part, which in form 2 has four bytes behind it.
+    /// A refused one is at the string's end.
+    fn read_tag(&self, _: &mut Random, form: u32, string: &[u8], separator_length: usize) -> ReadTag {
+        let (number, words, count) = independent::read_tag(form, string, separator_length);
+        let separator = independent::read_separator(form, string, separator_length);
+        let behind = if number == 0 && form == 2 { 4 } else { 0 };
+        let separator_start = string.len() - behind - separator.len();
+        assert_eq!(&string[separator_start..][..separator.len()], separator);
+        ReadTag {
+            number,
+            words,
+            count,
+            separator_start,
+            separator_count: separator.len(),
+        }
     }
     fn cut(&self, _: &mut Random, words: &[u32]) -> (u32, [u32; 64], usize) {
         independent::cut(words)

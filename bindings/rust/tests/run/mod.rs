@@ -138,12 +138,14 @@ impl Run {
     }
 
     /// Writing by both into a buffer of a size. Gives the number and the bytes written.
-    pub fn write_tag(&mut self, words: &[u32], separator: &[u8], size: usize) -> (u32, Vec<u8>) {
+    pub fn write_tag(&mut self, form: u32, words: &[u32], separator: &[u8], size: usize) -> (u32, Vec<u8>) {
         let mut out: Vec<u8> = self.random.list(size);
         let mut expected = out.clone();
-        self.last = Box::new(("write_tag", words.to_vec(), separator.to_vec(), out.clone()));
-        let answer = self.library.write_tag(&mut self.noise, words, separator, &mut out);
-        let (number, written) = Independent.write_tag(&mut self.noise, words, separator, &mut expected);
+        self.last = Box::new(("write_tag", form, words.to_vec(), separator.to_vec(), out.clone()));
+        let answer = self
+            .library
+            .write_tag(&mut self.noise, form, words, separator, &mut out);
+        let (number, written) = Independent.write_tag(&mut self.noise, form, words, separator, &mut expected);
         assert_eq!(answer, (number, written), "the number and what was written");
         assert_eq!(out, expected, "the buffer");
         self.answered("write_tag", number);
@@ -151,14 +153,15 @@ impl Run {
         (number, out)
     }
 
-    /// Reading by both. Gives the number and the words.
-    pub fn read_tag(&mut self, string: &[u8], separator_length: usize) -> (u32, Vec<u32>) {
-        self.last = Box::new(("read_tag", string.to_vec(), separator_length));
-        let expected = Independent.read_tag(&mut self.noise, string, separator_length);
-        let answer = self.library.read_tag(&mut self.noise, string, separator_length);
-        assert_eq!(answer, expected, "the number, the words and their count");
-        self.answered("read_tag", answer.0);
-        (answer.0, answer.1[..answer.2].to_vec())
+    /// Reading by both. Gives the number, the words and the separator.
+    pub fn read_tag(&mut self, form: u32, string: &[u8], separator_length: usize) -> (u32, Vec<u32>, Vec<u8>) {
+        self.last = Box::new(("read_tag", form, string.to_vec(), separator_length));
+        let expected = Independent.read_tag(&mut self.noise, form, string, separator_length);
+        let answer = self.library.read_tag(&mut self.noise, form, string, separator_length);
+        assert_eq!(answer, expected, "the number, the words and where the separator lies");
+        self.answered("read_tag", answer.number);
+        let separator = &string[answer.separator_start..][..answer.separator_count];
+        (answer.number, answer.words[..answer.count].to_vec(), separator.to_vec())
     }
 
     /// Words cut by both. Gives the number and the calls.

@@ -6,6 +6,7 @@ macro_rules! same_fields {
         $record {
             status: $from.status,
             field: $from.field,
+            form: $from.form,
             state: $from.state,
             words: $from.words,
             count: $from.count,

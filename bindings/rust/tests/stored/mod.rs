@@ -27,6 +27,12 @@ pub fn words_of(digits: &str) -> Vec<u32> {
     fours.map(u32::from_be_bytes).collect()
 }
 
+pub fn word_of(digits: &str) -> u32 {
+    let words = words_of(digits);
+    assert_eq!(words.len(), 1);
+    words[0]
+}
+
 /// Says which line it was if any check fails while its call is replayed.
 pub struct Line<'a>(pub usize, pub &'a str);
 

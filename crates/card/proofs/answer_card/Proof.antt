@@ -12,7 +12,7 @@ use Rattle.pattern.proofs.Checked.{number-checked, started, count-fits, count-i
 use Rattle.tag.specs.TagString.{tagString}
 use Rattle.tag.proofs.Writing.{tag-string-short}
 use Rattle.tag.proofs.CheckedString.{string-inside, string-written}
-use Rattle.card.specs.Answer.{okText, withNewline}
+use Rattle.card.specs.Answer.{cardForm, okText, withNewline}
 use Rattle.card.proofs.Bounds.{few-permutations, small-number}
 use Rattle.card.proofs.CardAnswer.{refuses, counts, answers}
 use borrow.Author.Needs.{needs}
@@ -31,18 +31,18 @@ count-in : (c : tie.Else1) → c .before .before .check .result .count ≤ lengt
 count-in c = count-inside (opened (c .before .before)) _ (c .before .before .check .ensures) (c .if1 .left)
 
 -- where the string was written it lies in the bytes lent for it, and is the tag string
-string-fits : (c : tie.After-write-string) → c .write-string .result .length ≤ length (c .write-string .last .1 .1 .0)
+string-fits : (c : tie.After-write-string) → c .write-string .result .length ≤ length (c .write-string .last .1 .1 .1 .0)
 string-fits c =
     let at-accepted = c .before .before .before .before in
     let at-check = at-accepted .before .before in
-    string-inside (opened at-check) _ (at-check .check .ensures) (at-accepted .if1 .left) _ _ (c .write-string .ensures .0) (c .write-string .ensures .1)
+    string-inside cardForm (opened at-check) _ (at-check .check .ensures) (at-accepted .if1 .left) _ _ (c .write-string .ensures .0) (c .write-string .ensures .1)
 
 string-read : (c : tie.After-write-string)
-    → take (c .write-string .result .length) (c .write-string .last .1 .1 .0) ≡ tagString (opened (c .before .before .before .before .before .before))
+    → take (c .write-string .result .length) (c .write-string .last .1 .1 .1 .0) ≡ tagString cardForm (opened (c .before .before .before .before .before .before))
 string-read c =
     let at-accepted = c .before .before .before .before in
     let at-check = at-accepted .before .before in
-    string-written (opened at-check) _ (at-check .check .ensures) (at-accepted .if1 .left) _ _ (c .write-string .ensures .0) (c .write-string .ensures .1)
+    string-written cardForm (opened at-check) _ (at-check .check .ensures) (at-accepted .if1 .left) _ _ (c .write-string .ensures .0) (c .write-string .ensures .1)
 
 put-no-requires : tie.Need-put-no-requires
 put-no-requires c κs =
@@ -89,7 +89,7 @@ put-ok-requires c κs =
     let at-accepted = at-string .before .before .before .before in
     let at-check = at-accepted .before .before in
     let o = opened at-check in
-    let short = tag-string-short o (starts at-accepted) in
+    let short = tag-string-short cardForm o (starts at-accepted) in
     let few = few-permutations o (starts at-accepted) in
     let counted = at-count .permutations-at .ensures ∙ counts o _ (at-check .check .ensures) (at-accepted .if1 .left) in
     (omega (arith, ap length (string-read at-string)), omega arith)

@@ -7,7 +7,7 @@ use lib.Seq.{length-take-le}
 use Rattle.pattern.specs.Opening.{opening}
 use Rattle.session.specs.Calls.{start, absorb}
 use Rattle.session.specs.declared.Answer.{Answer}
-use Rattle.seal.specs.Seal.{started, keyed}
+use Rattle.seal.specs.Seal.{noteForm, started, keyed}
 use Rattle.seal.proofs.Lengths.{lengths-sound}
 use borrow.Author.Needs.{needs}
 use Rattle.seal.proofs.open_session.Statement.{statement}
@@ -31,7 +31,7 @@ returns c =
     let args = at-words .before .before .before .before .before .args in
     ap (λ (a : Answer). a .session) (c .before .absorb-step .ensures)
     ∙ ap₂ (λ (a : Answer) (l : List ℕ). absorb (a .session) l .session)
-    (at-start .start .ensures ∙ ap (λ (ws : List ℕ). start (args .field) (opening ws (args .separator .now))) (at-words .declare .ensures))
+    (at-start .start .ensures ∙ ap (λ (ws : List ℕ). start (args .field) noteForm (opening ws (args .separator .now))) (at-words .declare .ensures))
     (at-both .key-and-nonce .ensures)
 
 pub open-session-spec : {M : Type 1} → statement M

@@ -30,6 +30,7 @@ start-line-spec =
     (λ c κs. search needs)
     (λ c. search needs)
     (λ c. search needs)
+    (λ c. search needs)
     slice-aggregate-start
     (λ c. search needs)
     slice-aggregate-start-2

@@ -1,123 +1,85 @@
 -- `tag_reader::read` meets its contract.
 -- Assumes nothing.
-use mathlib.Core.Path.{_≡_, refl, sym, _∙_}
+use mathlib.Core.Path.{_≡_, refl, sym, ap, ap₂, _∙_}
+use mathlib.Core.Bool.{true, false}
 use mathlib.Core.List.{List}
-use Prim.Native.Nat.{ℕ, _≤_}
-use lib.ListN.{length}
+use Prim.Native.Nat.{ℕ}
+use native.Mathlib.Omega.{arith}
+use borrow.Author.Tests.{not-true, not-false}
+use lib.ListN.{length, take}
 use lib.Seq.{length-take-le}
-use Rattle.pattern.specs.Opening.{maxSeparator}
-use Rattle.tag.specs.TagString.{wordsPart, soundBytes}
-use Rattle.tag.proofs.Reading.{read-refused, read-accepted, number-6, number-13-short, number-13, number-0, length-part, cut-word, too-long, sound-test, answer}
+use Rattle.pattern.specs.Opening.{answerWith}
+use Rattle.tag.specs.TagString.{isForm, bodyOf, lengthIn, wordsPart, wordsOf, tailMissing}
+use Rattle.tag.proofs.Forms.{body-front, body-long}
+use Rattle.tag.proofs.Reading.{bodyNumber, read-refused, number-22, number-13-tail, words-of-body}
 use borrow.Author.Needs.{needs}
 use Rattle.tag_reader.proofs.read.Statement.{statement}
 use Rattle.tag_reader.proofs.read.Tie as tie
 
--- the string and the length given, where both bounds on that hold
-abbrev string : tie.Else2 → List ℕ
-string c = c .before .before .before .args .string .now
+-- the form is one, and its tail is there
+known : (c : tie.Else1) → isForm (c .before .before .before .args .form) ≡ true
+known c = sym (c .before .is-form .ensures) ∙ not-false _ (c .if1 .left)
 
-abbrev n : tie.Else2 → ℕ
-n c = c .before .before .before .args .separator-length
-
-short : (c : tie.Else2) → n c ≤ maxSeparator
-short c = search needs
-
-long : (c : tie.Else2) → n c ≤ length (string c)
-long c = search needs
-
--- the size of what precedes the separator
-abbrev size : tie.After-words-length → ℕ
-size c = c .words-length .result
-
--- the test of the words, where they were read
-tested : (c : tie.After-is-sound)
-    → let at = c .before .before .before .before .before .before in
-    soundBytes (wordsPart (string (at .before)) (n (at .before))) ≡ c .is-sound .result
-tested c =
-    let at = c .before .before .before .before .before .before in
-    let read = c .before .before .words-of in
-    sound-test (string (at .before)) (n (at .before)) (long (at .before)) (size at) (at .words-length .ensures) (search needs) (read .result) _
-    (read .ensures) (c .is-sound .ensures)
+there : (c : tie.Else2) → let args = c .before .before .before .before .before .args in tailMissing (args .form) (args .string .now) ≡ false
+there c = sym (c .before .tail-missing .ensures) ∙ c .if2 .left
 
 returns : tie.Need-returns
 returns c =
-    let args = c .before .before .before .args in
+    let at-form = c .before in
+    let args = at-form .before .before .before .args in
+    let unknown = sym (at-form .before .is-form .ensures) ∙ not-true _ (at-form .if1 .taken) in
     c .refused .ensures
-    ∙ sym (read-refused (args .string .now) (args .separator-length) _ refl (number-6 (args .string .now) (args .separator-length) (search needs)))
+    ∙ sym (read-refused (args .form) (args .string .now) (args .separator-length) _ refl (number-22 (args .form) (args .string .now) (args .separator-length) unknown))
 
 returns-2 : tie.Need-returns-2
 returns-2 c =
-    let args = c .before .before .before .before .args in
+    let at-tail = c .before in
+    let at-form = at-tail .before .before in
+    let args = at-form .before .before .before .args in
+    let missing = sym (at-tail .before .tail-missing .ensures) ∙ at-tail .if2 .taken in
     c .refused2 .ensures
     ∙ sym
-    (read-refused (args .string .now) (args .separator-length) _ refl
-    (number-13-short (args .string .now) (args .separator-length) (search needs) (search needs)))
+    (read-refused (args .form) (args .string .now) (args .separator-length) _ refl
+    (number-13-tail (args .form) (args .string .now) (args .separator-length) (known at-form) missing))
+
+length-in-requires : tie.Need-length-in-requires
+length-in-requires c κs = there c
+
+body-length-requires : tie.Need-body-length-requires
+body-length-requires c κs = there (c .before)
+
+slice-aggregate-read-body : tie.Need-slice-aggregate-read-body
+slice-aggregate-read-body c =
+    let at-tail = c .before .before .before in
+    let args = at-tail .before .before .before .before .before .args in
+    sym
+    (length-take-le (c .before .body-length .result) (args .string .now)
+    (omega (arith, c .before .body-length .ensures, body-long (args .form) (args .string .now) (there at-tail))))
 
 returns-3 : tie.Need-returns-3
 returns-3 c =
-    let at = c .before .before in
-    let e = at .before in
-    c .refused3 .ensures
-    ∙ sym
-    (read-refused (string e) (n e) _ refl
-    (number-13 (string e) (n e) (short e) (long e) (cut-word (string e) (n e) (long e) (size at) (at .words-length .ensures) (search needs))))
-
-returns-4 : tie.Need-returns-4
-returns-4 c =
-    let at = c .before .before .before in
-    let e = at .before in
-    c .refused4 .ensures
-    ∙ sym
-    (read-refused (string e) (n e) _ refl
-    (number-13 (string e) (n e) (short e) (long e) (too-long (string e) (n e) (long e) (size at) (at .words-length .ensures) (search needs))))
-
-slice-aggregate-words-of : tie.Need-slice-aggregate-words-of
-slice-aggregate-words-of c =
-    let at = c .before .before .before in
-    sym (length-part (string (at .before)) (n (at .before)) (long (at .before)) (size at) (at .words-length .ensures))
-
-words-of-requires : tie.Need-words-of-requires
-words-of-requires c κs =
-    let at = c .before .before .before in
-    rw (length-part (string (at .before)) (n (at .before)) (long (at .before)) (size at) (at .words-length .ensures)) (search needs)
-
-slice-aggregate-is-sound : tie.Need-slice-aggregate-is-sound
-slice-aggregate-is-sound c = sym (length-take-le _ _ (search needs))
-
-returns-5 : tie.Need-returns-5
-returns-5 c =
-    let at-test = c .before in
-    let at = at-test .before .before .before .before .before .before in
-    let e = at .before in
-    let read = at-test .before .before .words-of in
-    answer (string e) (n e) (long e) (size at) (at .words-length .ensures) (read .result) (read .ensures)
-    ∙ sym (read-accepted (string e) (n e) (number-0 (string e) (n e) (short e) (long e) (tested at-test ∙ c .if5 .taken)))
-
-returns-6 : tie.Need-returns-6
-returns-6 c =
-    let at-test = c .before .before in
-    let e = at-test .before .before .before .before .before .before .before in
-    c .refused5 .ensures
-    ∙ sym (read-refused (string e) (n e) _ refl (number-13 (string e) (n e) (short e) (long e) (tested at-test ∙ c .before .if5 .left)))
+    let at-body = c .before .before in
+    let at-length = at-body .before in
+    let at-tail = at-length .before in
+    let args = at-tail .before .before .before .before .before .args in
+    let s = args .string .now in
+    let body = ap (λ (k : ℕ). take k s) (at-body .body-length .ensures) ∙ body-front (args .form) s (there at-tail) in
+    c .read-body .ensures
+    ∙ ap₂ (λ (b : List ℕ) (n : ℕ). answerWith (bodyNumber b n) (wordsOf (wordsPart b n))) body (at-length .length-in .ensures)
+    ∙ sym (words-of-body (args .form) s (args .separator-length) (known (at-tail .before .before)) (there at-tail))
 
 pub read-spec : {M : Type 1} → statement M
 read-spec =
     tie.close
     (tie.spec
     (λ c κs. search needs)
+    (λ c κs. search needs)
     returns
     (λ c κs. search needs)
+    (λ c κs. search needs)
     returns-2
+    length-in-requires
+    body-length-requires
+    slice-aggregate-read-body
     (λ c κs. search needs)
-    (λ c κs. search needs)
-    returns-3
-    (λ c κs. search needs)
-    returns-4
-    slice-aggregate-words-of
-    words-of-requires
-    (λ c. search needs)
-    slice-aggregate-is-sound
-    (λ c κs. search needs)
-    returns-5
-    (λ c κs. search needs)
-    returns-6)
+    returns-3)

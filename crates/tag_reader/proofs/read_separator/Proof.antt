@@ -1,44 +1,49 @@
 -- `tag_reader::read_separator` meets its contract.
 -- Assumes nothing.
-use mathlib.Core.Path.{sym, ap, _∙_}
-use Prim.Native.Nat.{ℕ, _+_}
+use mathlib.Core.Path.{_≡_, ap, ap₂, _∙_}
+use Prim.Native.Nat.{ℕ, _+_, _-_, _≤_}
 use native.Mathlib.Omega.{arith}
-use lib.Seq.{take-all}
-use Rattle.tag.proofs.Reading.{number-read, passed, separator-refused, separator-accepted, last-part, last-start, empty-length}
+use lib.ListN.{length, take, drop}
+use Rattle.tag.specs.TagString.{readSeparator, separatorStart}
+use Rattle.tag_reader.specs.Parts.{partsRead}
+use Rattle.tag_reader.specs.declared.Parts.{Parts}
+use Rattle.tag_reader.proofs.Place.{separator-inside, separator-there}
 use borrow.Author.Needs.{needs}
 use Rattle.tag_reader.proofs.read_separator.Statement.{statement}
 use Rattle.tag_reader.proofs.read_separator.Tie as tie
 
--- the bytes by their number alone, so that the place is what the second part proves
+-- the parts by their definitions
+starts : (c : tie.After-read-parts) → let args = c .before .before .args in
+    c .read-parts .result .start ≡ separatorStart (args .form) (args .string .now) (args .separator-length)
+unfolding partsRead
+starts c = ap (λ (p : Parts). p .start) (c .read-parts .ensures)
+
+measures : (c : tie.After-read-parts) → let args = c .before .before .args in
+    c .read-parts .result .length ≡ length (readSeparator (args .form) (args .string .now) (args .separator-length))
+unfolding partsRead
+measures c = ap (λ (p : Parts). p .length) (c .read-parts .ensures)
+
+inside : (c : tie.After-read-parts) → c .read-parts .result .start + c .read-parts .result .length ≤ length (c .before .before .args .string .now)
+inside c =
+    let args = c .before .before .args in
+    omega (arith, starts c, measures c, separator-inside (args .form) (args .string .now) (args .separator-length))
+
+add-end : tie.Need-add-end
+add-end c = omega (arith, inside (c .before))
+
+part-result-end : tie.Need-part-result-end
+part-result-end c = omega (arith, inside (c .before))
+
 returns : tie.Need-returns
 returns c =
-    let string = c .before .before .before .before .before .args .string .now in
-    let n = c .before .before .before .before .before .args .separator-length in
-    let number = number-read string n _ (c .before .before .before .read .ensures) in
-    let at = c .before .before .before .before .before .args .string .ptr in
-    let none = empty-length string n in (
-      sym (take-all 0 _ (omega (arith, none))) ∙ sym (separator-refused string n (λ z. c .before .if1 .taken (sym number ∙ z))),
-      ap (λ (start : ℕ). (at .0, start)) (omega (arith, none)),
-    )
-
-words-length-requires : tie.Need-words-length-requires
-words-length-requires c κs =
-    let string = c .before .before .before .before .args .string .now in
-    let n = c .before .before .before .before .args .separator-length in
-    let number = number-read string n _ (c .before .before .read .ensures) in
-    passed string n (number ∙ c .if1 .left) .long
-
-returns-2 : tie.Need-returns-2
-returns-2 c =
-    let string = c .before .before .before .before .before .before .args .string .now in
-    let n = c .before .before .before .before .before .before .args .separator-length in
-    let number = number-read string n _ (c .before .before .before .before .read .ensures) in
-    let at = c .before .before .before .before .before .before .args .string .ptr in
-    let accepted = number ∙ c .before .before .if1 .left in
-    let long = passed string n accepted .long in
-    let size = c .before .words-length in (
-      last-part string n long (size .result) (size .ensures) ∙ sym (separator-accepted string n accepted),
-      ap (λ (start : ℕ). (at .0, start + at .1)) (last-start string n long (size .result) (size .ensures)),
+    let at-parts = c .before .before in
+    let args = at-parts .before .before .args in
+    let s = args .string .now in
+    let at = args .string .ptr in
+    let size : at-parts .read-parts .result .start + at-parts .read-parts .result .length - at-parts .read-parts .result .start
+    ≡ length (readSeparator (args .form) s (args .separator-length)) = omega (arith, measures at-parts) in (
+      ap₂ (λ (m k : ℕ). take m (drop k s)) size (starts at-parts) ∙ separator-there (args .form) s (args .separator-length),
+      ap (λ (start : ℕ). (at .0, start + at .1)) (starts at-parts),
     )
 
 pub read-separator-spec : {M : Type 1} → statement M
@@ -46,12 +51,8 @@ read-separator-spec =
     tie.close
     (tie.spec
     (λ c κs. search needs)
+    add-end
     (λ c. search needs)
     (λ c. search needs)
-    (λ c. search needs)
-    returns
-    words-length-requires
-    (λ c. search needs)
-    (λ c. search needs)
-    (λ c. search needs)
-    returns-2)
+    part-result-end
+    returns)

@@ -16,6 +16,9 @@ read-line-spec =
     (λ c κs. search needs)
     (λ c κs. search needs)
     (λ c κs. search needs)
+    (λ c κs. search needs)
+    (λ c κs. search needs)
+    (λ c. search needs)
     (λ c. search needs)
     slice-aggregate-print-read
     (λ c κs. search needs)

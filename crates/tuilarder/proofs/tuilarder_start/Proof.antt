@@ -1,4 +1,4 @@
--- `tuilarder_start` meets its contract: a walk of its MIR, by hand. The field number and a copy of each slice are passed to `Session::start`; the
+-- `tuilarder_start` meets its contract: a walk of its MIR, by hand. The field number, the form number and a copy of each slice are passed to `Session::start`; the
 -- borrow is opened, what the call returned is stored behind it, and it is closed at that record.
 -- All that the proof knows of `Session::start` is that it meets its contract.
 -- Assumes nothing.
@@ -63,14 +63,17 @@ use Rattle.tuilarder.proofs.tuilarder_start.Statement as stated
 use Rattle.tuilarder.proofs.tuilarder_start.Code as code
 
 abbrev Arg : Type 0
-Arg = RefT Session × (ℕ × (RefT (List ℕ) × (RefT (List ℕ) × Unit {0})))
+Arg = RefT Session × (ℕ × (ℕ × (RefT (List ℕ) × (RefT (List ℕ) × Unit {0}))))
 
 abbrev stayed : Stays (f.ended .signature .params) (f.ended .kept)
 stayed = (
   stay-ref (0 ∷ []) tt (plain (λ _. session.the-row)),
   (
     stay-none (λ _. u32) yes,
-    (stay-none-slice (1 ∷ []) tt (plain (λ _. u32)) yes, (stay-none-slice (2 ∷ []) tt (plain (λ _. u8)) yes, tt)),
+    (
+      stay-none (λ _. u32) yes,
+      (stay-none-slice (1 ∷ []) tt (plain (λ _. u32)) yes, (stay-none-slice (2 ∷ []) tt (plain (λ _. u8)) yes, tt)),
+    ),
   ),
 )
 
@@ -80,20 +83,20 @@ module _ {M : Type 1} (𝓤 : URA M) (H : Heap 𝓤) (A : Atoms 𝓤) (at-mem : 
   Step = tripleOf 𝓤 H A step.signature (step.spec 𝓤 H A at-mem run)
 
   -- of the callee's `ensured`, the clause alone: it has no `&mut`, so what is said of last values is dropped
-  step-of : (κ₁ κ₂ : Lft) (field : ℕ) (y z : RefT (List ℕ)) (r : Answer)
-      → ent 𝓤 (ensured 𝓤 H A step.ended (step.clauses 𝓤 H A at-mem run) (κ₁, (κ₂, tt)) (field, (y, (z, tt))) tt r)
-      (fact 𝓤 (r ≡ start field (opening (now y) (now z))))
-  step-of κ₁ κ₂ field y z r =
-      exE 𝓤 _ (λ ws. snd∗ 𝓤 (sem 𝓤 H A (lasts step.ended (κ₁, (κ₂, tt)) (field, (y, (z, tt))) ws))
-      (fact 𝓤 (r ≡ start field (opening (now y) (now z)))))
+  step-of : (κ₁ κ₂ : Lft) (field form : ℕ) (y z : RefT (List ℕ)) (r : Answer)
+      → ent 𝓤 (ensured 𝓤 H A step.ended (step.clauses 𝓤 H A at-mem run) (κ₁, (κ₂, tt)) (field, (form, (y, (z, tt)))) tt r)
+      (fact 𝓤 (r ≡ start field form (opening (now y) (now z))))
+  step-of κ₁ κ₂ field form y z r =
+      exE 𝓤 _ (λ ws. snd∗ 𝓤 (sem 𝓤 H A (lasts step.ended (κ₁, (κ₂, tt)) (field, (form, (y, (z, tt)))) ws))
+      (fact 𝓤 (r ≡ start field form (opening (now y) (now z)))))
 
 module _ {M : Type 1} (𝓤 : URA M) (H : Heap 𝓤) (A : Atoms 𝓤) (W : Given 𝓤 H A) (at-mem : Memory → SProp 𝓤) (run : Routine → Fun 𝓤)
-    (κ κ₁ κ₂ : Lft) (q q₁ q₂ : Share) (b o : ℕ) (γ : GName) (h : Session) (field : ℕ) (y z : RefT (List ℕ)) where
+    (κ κ₁ κ₂ : Lft) (q q₁ q₂ : Share) (b o : ℕ) (γ : GName) (h : Session) (field form : ℕ) (y z : RefT (List ℕ)) where
   abbrev x : Arg
-  x = (record { ptr = (b, o); name = γ; now = h }, (field, (y, (z, tt))))
+  x = (record { ptr = (b, o); name = γ; now = h }, (field, (form, (y, (z, tt)))))
 
-  abbrev at : List Val × (List Val × (List Val × (List Val × Unit {0})))
-  at = (vptr b o ∷ [], (vint w32 field ∷ [], (slice-vals y, (slice-vals z, tt))))
+  abbrev at : List Val × (List Val × (List Val × (List Val × (List Val × Unit {0}))))
+  at = (vptr b o ∷ [], (vint w32 field ∷ [], (vint w32 form ∷ [], (slice-vals y, (slice-vals z, tt)))))
 
   -- what each slice owns
   abbrev S : Fml
@@ -106,106 +109,113 @@ module _ {M : Type 1} (𝓤 : URA M) (H : Heap 𝓤) (A : Atoms 𝓤) (W : Given
   Post = walkOf 𝓤 H A f.ended stayed (f.clauses 𝓤 H A at-mem run) .post (((κ, (κ₁, (κ₂, tt))), (q, (q₁, (q₂, tt))), tt, x, at), tt)
 
   abbrev to-step : Step 𝓤 H A at-mem run .Ghost
-  to-step = (((κ₁, (κ₂, tt)), (q₁, (q₂, tt)), tt, (field, (y, (z, tt))), (vint w32 field ∷ [], (slice-vals y, (slice-vals z, tt)))), tt)
+  to-step = (((κ₁, (κ₂, tt)), (q₁, (q₂, tt)), tt, (field, (form, (y, (z, tt)))), (vint w32 field ∷ [], (vint w32 form ∷ [], (slice-vals y, (slice-vals z, tt))))), tt)
 
-  goes-step : field < 2 ^ 32
+  goes-step : field < 2 ^ 32 → form < 2 ^ 32
       → ent 𝓤 (sep 𝓤 (sep 𝓤 (A .lft κ₁ q₁) (sep 𝓤 (A .lft κ₂ q₂) (sem 𝓤 H A ftrue))) (sep 𝓤 (sem 𝓤 H A S) (sem 𝓤 H A P)))
       (Step 𝓤 H A at-mem run .pre to-step)
-  goes-step field-fits =
+  goes-step field-fits form-fits =
       qed W ((‵ (flft κ₁ q₁) ⊛ ‵ (flft κ₂ q₂) ⊛ ‵ ftrue) ∷ ‵ S ∷ ‵ P ∷ []) ∵
       nothing ! $ move ! (3 ∷ 0 ∷ []) $ fjoin ! $ move ! (2 ∷ 0 ∷ []) $ fjoin ! $
+      owned ! u32 (Is u32) (uint-makes 𝓤 H A W w32) form _ (refl, form-fits) $ fjoin ! $
       owned ! u32 (Is u32) (uint-makes 𝓤 H A W w32) field _ (refl, field-fits) $ fjoin ! $ move ! (1 ∷ 0 ∷ []) $ join ! $ frame ! $ done !
 
-  exits : field < 2 ^ 32 → (r : Answer) → r ≡ start field (opening (now y) (now z)) → r .number < 2 ^ 32
+  exits : field < 2 ^ 32 → form < 2 ^ 32 → (r : Answer) → r ≡ start field form (opening (now y) (now z)) → r .number < 2 ^ 32
       → ent 𝓤 (⋆ 𝓤 H A (‵ (fobs γ (session.the-row .coded .code (r .session))) ∷ ‵ (fbor κ (Body (mem session.the-row) b o γ)) ∷ ‵
       (flft κ q) ∷ (‵ (flft κ₁ q₁) ⊛ ‵ (flft κ₂ q₂) ⊛ ‵ ftrue) ∷ ‵ S ∷ ‵ P ∷ [])) (Post (vint w32 (r .number)))
   unfolding giving
-  exits field-fits r e fits =
+  exits field-fits form-fits r e fits =
       qed W (‵ (fobs γ (session.the-row .coded .code (r .session))) ∷ ‵ (fbor κ (Body (mem session.the-row) b o γ)) ∷ ‵ (flft κ q) ∷
       (‵ (flft κ₁ q₁) ⊛ ‵ (flft κ₂ q₂) ⊛ ‵ ftrue) ∷ ‵ S ∷ ‵ P ∷ []) ∵
       suffices ! _ (ends-at 𝓤 H A f.ended stayed (f.clauses 𝓤 H A at-mem run) W (((κ, (κ₁, (κ₂, tt))), (q, (q₁, (q₂, tt))), tt, x, at), tt)
-      (vint w32 (r .number)) (r .number) (r .session, (tt, (tt, (tt, tt)))) (tt, (tt, (tt, (tt, tt))))) $
+      (vint w32 (r .number)) (r .number) (r .session, (tt, (tt, (tt, (tt, tt))))) (tt, (tt, (tt, (tt, (tt, tt)))))) $
       says ! e $
       move ! (2 ∷ 3 ∷ []) $ join ! $ frame ! $ feqI ! (List Val) (vptr b o ∷ []) (vptr b o ∷ []) refl $ fjoin3 ! $ nothing ! $
       move ! (3 ∷ 0 ∷ []) $ fjoin ! $ move ! (2 ∷ 0 ∷ []) $ fjoin ! $
+      owned ! u32 (Is u32) (uint-makes 𝓤 H A W w32) form _ (refl, form-fits) $ fjoin ! $
       owned ! u32 (Is u32) (uint-makes 𝓤 H A W w32) field _ (refl, field-fits) $ fjoin ! $ move ! (1 ∷ 0 ∷ []) $ fjoin ! $ frame ! $
       owned ! u32 (Is u32) (uint-makes 𝓤 H A W w32) (r .number) _ (refl, fits) $ done !
 
   module _ (C : Calls 𝓤 H) (Λ : Loops 𝓤 H) (fm : FmC 𝓤 H (W .laws) C) (known : Triple 𝓤 (C #step) (Step 𝓤 H A at-mem run)) where
-    walk : field < 2 ^ 32 → Room u32 (length (now y)) → Room u8 (length (now z))
+    walk : field < 2 ^ 32 → form < 2 ^ 32 → Room u32 (length (now y)) → Room u8 (length (now z))
         → ent 𝓤 (onEntry 𝓤 H A f.signature (κ, (κ₁, (κ₂, tt))) (q, (q₁, (q₂, tt))) x at)
-        (WpFn 𝓤 H C Λ code.function (vptr b o ∷ vint w32 field ∷ sliceVal (ptr y) (length (now y)) ∷ slice-vals z) Post)
-    walk field-fits room room′ =
+        (WpFn 𝓤 H C Λ code.function (vptr b o ∷ vint w32 field ∷ vint w32 form ∷ sliceVal (ptr y) (length (now y)) ∷ slice-vals z) Post)
+    walk field-fits form-fits room room′ =
         qed W ((‵ (flft κ q) ⊛ ‵ (flft κ₁ q₁) ⊛ ‵ (flft κ₂ q₂) ⊛ ‵ ftrue) ∷ ‵
-        (owns (MutRef (named 0) κ session.the-row ∷ u32 ∷ ShrSlice (named 1) κ₁ u32 ∷ ShrSlice
+        (owns (MutRef (named 0) κ session.the-row ∷ u32 ∷ u32 ∷ ShrSlice (named 1) κ₁ u32 ∷ ShrSlice
         (named 2) κ₂ u8 ∷ []) x at) ∷ []) ∵
-        enter ! C Λ code.function (vptr b o ∷ vint w32 field ∷ sliceVal (ptr y) (length (now y)) ∷ slice-vals z) _ $
-        alloc1 ! (λ l₀. alloc1 ! (λ l₁. alloc1 ! (λ l₂. alloc1 ! (λ l₃. alloc1 ! (λ l₄. alloc1 ! (λ l₅. alloc0 ! $ params1 ! $
-        pass1 ! (init ! 8 refl (tt, tt)) $ pass1 ! (init ! 6 refl (tt, record { fits = field-fits })) $
+        enter ! C Λ code.function (vptr b o ∷ vint w32 field ∷ vint w32 form ∷ sliceVal (ptr y) (length (now y)) ∷ slice-vals z) _ $
+        alloc1 ! (λ l₀. alloc1 ! (λ l₁. alloc1 ! (λ l₂. alloc1 ! (λ l₃. alloc1 ! (λ l₄. alloc1 ! (λ l₅. alloc1 ! (λ l₆. alloc0 ! $ params1 ! $
+        pass1 ! (init ! 10 refl (tt, tt)) $ pass1 ! (init ! 8 refl (tt, record { fits = field-fits })) $
+        pass1 ! (init ! 6 refl (tt, record { fits = form-fits })) $
         pass1 ! (init ! 4 refl (tt, (tt, (record { fits = room .0 }, tt)))) $
         pass1 ! (init ! 2 refl (tt, (tt, (record { fits = room′ .0 }, tt)))) $ pass0 ! $
-        -- [room for _5; …; _4; …; _3; …; _2; …; _1; …; room for _0; …; the tokens; what record, field, words and separator own]: each slice is
-        -- duplicated
-        move ! (13 ∷ []) $ fsplit ! $ move ! (1 ∷ []) $ fsplit ! $ drop ! $ fsplit ! $ move ! (1 ∷ []) $ fsplit ! $
+        -- [room for _6; …; _5; …; _4; …; _3; …; _2; …; _1; …; room for _0; …; the tokens; what record, field, form, words and separator own]: each
+        -- slice is duplicated
+        move ! (15 ∷ []) $ fsplit ! $ move ! (1 ∷ []) $ fsplit ! $ drop ! $ fsplit ! $ drop ! $ fsplit ! $ move ! (1 ∷ []) $ fsplit ! $
         use1 W (‵ P ⊛ ‵ P) (shr-slice-copy 𝓤 H A W (named 2) κ₂ u8 .twice z (slice-vals z)) $ split ! $
         move ! (3 ∷ []) $ use1 W (‵ S ⊛ ‵ S) (shr-slice-copy 𝓤 H A W (named 1) κ₁ u32 .twice y (slice-vals y)) $ split ! $
-        move ! (18 ∷ []) $ split ! $
-        -- [the token; the slices' tokens; words; words; separator; separator; true; what record owns; room for _5; …]: the call
-        move ! (1 ∷ 2 ∷ 4 ∷ []) $ use3 W (raw (Step 𝓤 H A at-mem run .pre to-step)) (goes-step field-fits) $
+        move ! (20 ∷ []) $ split ! $
+        -- [the token; the slices' tokens; words; words; separator; separator; true; what record owns; room for _6; …]: the call
+        move ! (1 ∷ 2 ∷ 4 ∷ []) $ use3 W (raw (Step 𝓤 H A at-mem run .pre to-step)) (goes-step field-fits form-fits) $
         calls-at ! fm (Step 𝓤 H A at-mem run) known to-step
-        (and-then ! (load ! (from ! (stop !)) (look ! 12 refl)) (and-then ! (load ! (from ! (stop !)) (look ! 10 refl))
-        (and-then ! (load ! (from ! (stop !)) (look ! 8 refl)) (no-more !))))
+        (and-then ! (load ! (from ! (stop !)) (look ! 14 refl)) (and-then ! (load ! (from ! (stop !)) (look ! 12 refl))
+        (and-then ! (load ! (from ! (stop !)) (look ! 10 refl)) (and-then ! (load ! (from ! (stop !)) (look ! 8 refl)) (no-more !)))))
         (λ w.
         use1 W (later (some (λ (r : Answer). ((‵ (flft κ₁ q₁) ⊛ ‵ (flft κ₂ q₂) ⊛ ‵ ftrue) ⊛ ‵ (answer.the-row .own r (w ∷ []))) ⊛ raw
-        (ensured 𝓤 H A step.ended (step.clauses 𝓤 H A at-mem run) (κ₁, (κ₂, tt)) (field, (y, (z, tt))) tt r)))) (id⊢ 𝓤 _) $ await ! tt $ pick !
+        (ensured 𝓤 H A step.ended (step.clauses 𝓤 H A at-mem run) (κ₁, (κ₂, tt)) (field, (form, (y, (z, tt)))) tt r)))) (id⊢ 𝓤 _) $ await ! tt $ pick !
         (λ r.
-        split ! $ move ! (1 ∷ []) $ use1 W (raw (fact 𝓤 (r ≡ start field (opening (now y) (now z))))) (step-of 𝓤 H A at-mem run κ₁ κ₂ field y z r) $
-        heard ! (r ≡ start field (opening (now y) (now z))) (λ e. split ! $ move ! (1 ∷ []) $
-        -- [what the answer owns; the slices' tokens; the token; words; separator; true; what record owns; room for _5; …; _4; …; _3; …; _2; …; _1; …;
-        -- room for _0; …]
+        split ! $ move ! (1 ∷ []) $ use1 W (raw (fact 𝓤 (r ≡ start field form (opening (now y) (now z))))) (step-of 𝓤 H A at-mem run κ₁ κ₂ field form y z r) $
+        heard ! (r ≡ start field form (opening (now y) (now z))) (λ e. split ! $ move ! (1 ∷ []) $
+        -- [what the answer owns; the slices' tokens; the token; words; separator; true; what record owns; room for _6; …; _5; …; _4; …; _3; …; _2; …;
+        -- _1; …; room for _0; …]
         peeks ! answer.the-row (Is answer.the-row) (shows 𝓤 H A answer.the-row) r (w ∷ []) (λ is.
         land ! (from ! (stop !)) (init ! 7 refl (laws.lawful answer.the-type answer-laws.the-laws 𝓤 H A W .typed r _ is .0)) $
-        rewrite ! 7 (λ (u : Val). ‵ (fat fullShare answer-laws.mir l₅ 0 u))
+        rewrite ! 7 (λ (u : Val). ‵ (fat fullShare answer-laws.mir l₆ 0 u))
         (ap only (laws.tells answer.the-type answer-laws.the-laws r _ is)) refl $
         -- the borrow is opened
         move ! (6 ∷ []) $ fsplit3 ! $ drop ! $ move ! (0 ∷ 1 ∷ 4 ∷ []) $
         opens-record ! tt b o h (λ _.
         -- [the struct's cell; what a Session owns; the open borrow; obs; auth; what the answer owns; the slices' tokens; words; separator; true;
-        -- _5; …; _4; …; _3; …; _2; …; _1; …; room for _0; …]
+        -- _6; …; _5; …; _4; …; _3; …; _2; …; _1; …; room for _0; …]
         assigns ! (of-opd ! (load ! (from ! (fld ! refl (stop !))) (look-in ! 10 (sub ! 1 refl (whole !)))))
-        (from ! (hop ! (look ! 18 refl) (stop !)))
+        (from ! (hop ! (look ! 20 refl) (stop !)))
         (store ! 0 refl (laws.lawful session.the-type session-laws.the-laws 𝓤 H A W .typed (r .session) _ (session-is r w is) .0)) $
         assigns ! (of-opd ! (load ! (from ! (fld ! refl (stop !))) (look-in ! 10 (sub ! 0 refl (whole !))))) (from ! (stop !))
-        (init ! 20 refl (tt, record { fits = number-fits r w is })) $
+        (init ! 22 refl (tt, record { fits = number-fits r w is })) $
         -- the borrow is closed at that record
         move ! (1 ∷ []) $ drop ! $ closes-record ! tt b o (r .session) (session-is r w is) $
-        -- [obs; the borrow; the token; what the answer owns; the slices' tokens; words; separator; true; _5; …; _4; …; _3; …; _2; …; _1; …; _0; …]
-        returns ! (look ! 18 refl) $ forget ! 8 refl $ forget ! 10 refl $ forget ! 12 refl $ forget ! 14 refl $ forget ! 16 refl $
-        forget ! 18 refl $ move ! (18 ∷ 19 ∷ []) $ free1 ! $ move ! (16 ∷ 17 ∷ []) $ free1 ! $ move ! (14 ∷ 15 ∷ []) $ free1 ! $
+        -- [obs; the borrow; the token; what the answer owns; the slices' tokens; words; separator; true; _6; …; _5; …; _4; …; _3; …; _2; …; _1; …; _0;
+        -- …]
+        returns ! (look ! 20 refl) $ forget ! 8 refl $ forget ! 10 refl $ forget ! 12 refl $ forget ! 14 refl $ forget ! 16 refl $
+        forget ! 18 refl $ forget ! 20 refl $ move ! (20 ∷ 21 ∷ []) $ free1 ! $ move ! (18 ∷ 19 ∷ []) $ free1 ! $ move ! (16 ∷ 17 ∷ []) $ free1 ! $ move ! (14 ∷ 15 ∷ []) $ free1 ! $
         move ! (12 ∷ 13 ∷ []) $ free1 ! $ move ! (10 ∷ 11 ∷ []) $ free1 ! $ move ! (8 ∷ 9 ∷ []) $ free1 ! $ free0 ! $
-        keep ! (0 ∷ 1 ∷ 2 ∷ 4 ∷ 5 ∷ 6 ∷ []) $ by ! (exits field-fits r e (number-fits r w is)))))))))))))
+        keep ! (0 ∷ 1 ∷ 2 ∷ 4 ∷ 5 ∷ 6 ∷ []) $ by ! (exits field-fits form-fits r e (number-fits r w is))))))))))))))
 
 module _ {M : Type 1} (𝓤 : URA M) (H : Heap 𝓤) (A : Atoms 𝓤) (W : Given 𝓤 H A) (at-mem : Memory → SProp 𝓤) (run : Routine → Fun 𝓤) where
   start-walks : (C : Calls 𝓤 H) (Λ : Loops 𝓤 H) → FmC 𝓤 H (W .laws) C → Triple 𝓤 (C #step) (Step 𝓤 H A at-mem run)
       → Walks 𝓤 H A f.ended stayed (WpFn 𝓤 H C Λ code.function) (f.clauses 𝓤 H A at-mem run)
   start-walks C Λ fm known =
       walked 𝓤 H A f.ended stayed (f.clauses 𝓤 H A at-mem run) (WpFn 𝓤 H C Λ code.function)
-      (λ κs. (ptr-vals, (uint-vals w32, (slice-vals, (slice-vals, tt)))))
+      (λ κs. (ptr-vals, (uint-vals w32, (uint-vals w32, (slice-vals, (slice-vals, tt))))))
       (λ κs. (
         mut-tells (named 0) (κs .0) session.the-row,
-        (uint-tells w32, (shr-slice-tells (named 1) (κs .1 .0) u32, (shr-slice-tells (named 2) (κs .1 .1 .0) u8, tt))),
+        (uint-tells w32, (uint-tells w32, (shr-slice-tells (named 1) (κs .1 .0) u32, (shr-slice-tells (named 2) (κs .1 .1 .0) u8, tt)))),
       ))
       (λ κs qs bounds a _ are. via 𝓤 _ (fst∗ 𝓤 _ (emp 𝓤))
       (walk 𝓤 H A W at-mem run (κs .0) (κs .1 .0) (κs .1 .1 .0) (qs .0) (qs .1 .0) (qs .1 .1 .0) (a .0 .ptr .0) (a .0 .ptr .1)
-      (a .0 .name) (a .0 .now) (a .1 .0) (a .1 .1 .0) (a .1 .1 .1 .0) C Λ fm known (are .1 .0 .1) (are .1 .1 .0 .0 .1)
-      (are .1 .1 .1 .0 .0 .1)))
+      (a .0 .name) (a .0 .now) (a .1 .0) (a .1 .1 .0) (a .1 .1 .1 .0) (a .1 .1 .1 .1 .0) C Λ fm known (are .1 .0 .1) (are .1 .1 .0 .1)
+      (are .1 .1 .1 .0 .0 .1) (are .1 .1 .1 .1 .0 .0 .1)))
 
   goes : AllGo 𝓤 H A W 3 (f.signature .params) (f.ended .kept) stayed
   goes = (
     goes-ref 𝓤 H A W 3 0 tt (plain (λ _. session.the-row)),
     (
       goes-none 𝓤 H A W 3 (λ _. u32) yes (λ κs x f. refl),
-      (goes-none-slice 𝓤 H A W 3 (1 ∷ []) tt (plain (λ _. u32)) yes, (goes-none-slice 𝓤 H A W 3 (2 ∷ []) tt (plain (λ _. u8)) yes, tt)),
+      (
+        goes-none 𝓤 H A W 3 (λ _. u32) yes (λ κs x f. refl),
+        (goes-none-slice 𝓤 H A W 3 (1 ∷ []) tt (plain (λ _. u32)) yes, (goes-none-slice 𝓤 H A W 3 (2 ∷ []) tt (plain (λ _. u8)) yes, tt)),
+      ),
     ),
   )
 
