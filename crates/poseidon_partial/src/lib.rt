@@ -42,12 +42,11 @@ fn next_elements(
     ensures { λ s. ⌜ NextElements (now (sparse .entry)) (48 * (round % 24)) y m q (now (v .entry)) (now (v .exit)) (s .low) (s .high) ⌝ }
 {
     let at = 48 * (round % 24);
-    let ys = [y; 24];
     let mut low: u64 = 0;
     let mut high: u64 = 0;
     let mut i: usize = 0;
     while i < 24 {
-        let w = next_element(v[i], sparse[at + 2 * i], ys[i], m, q);
+        let w = next_element(v[i], sparse[at + 2 * i], y, m, q);
         let product = montgomery::product(wide(sparse[at + 2 * i + 1]), w);
         low += product % 281474976710656;
         high += product / 281474976710656;

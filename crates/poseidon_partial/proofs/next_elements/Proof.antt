@@ -4,7 +4,7 @@ use mathlib.Core.Path.{_≡_, _∙_, ap, sym, subst}
 use Prim.Native.Nat.{ℕ, _+_, _*_, _-_, _%_, _<_}
 use native.Mathlib.Omega.{arith}
 use denote.Ref.{now}
-use lib.ListN.{getD, getD-replicate}
+use lib.ListN.{getD}
 use Rattle.montgomery.specs.Montgomery.{lowProduct}
 use Rattle.poseidon_partial.specs.Partial.{NextElement}
 use Rattle.poseidon_partial.proofs.Partial.{Spreading, spreading-start, spreading-step, spreading-end}
@@ -13,13 +13,13 @@ use Rattle.poseidon_partial.proofs.next_elements.Statement.{statement}
 use Rattle.poseidon_partial.proofs.next_elements.Tie as tie
 
 abbrev Inv-loop : tie.InvT-loop
-Inv-loop v₀ sparse round y m q at ys low₀ high₀ i₀ v low high i = Spreading sparse (48 * (round % 24)) y m q v₀ v low high i × ((k : ℕ) → k < 24 → getD ys k 0 ≡ y)
+Inv-loop v₀ sparse round y m q at low₀ high₀ i₀ v low high i = Spreading sparse (48 * (round % 24)) y m q v₀ v low high i
 
 abbrev μ-loop : tie.MeasureT-loop
-μ-loop v₀ sparse round y m q at ys low₀ high₀ i₀ v low high i = 24 - i
+μ-loop v₀ sparse round y m q at low₀ high₀ i₀ v low high i = 24 - i
 
 loop-holds : tie.Need-loop-holds Inv-loop μ-loop
-loop-holds c = (spreading-start (c .pre), λ k h. getD-replicate 24 k (c .args .y) 0 h)
+loop-holds c = spreading-start (c .pre)
 
 loop-again : tie.Need-loop-again Inv-loop μ-loop
 loop-again c =
@@ -30,15 +30,12 @@ loop-again c =
     let at = 48 * (a .round % 24) in
     let e = c .before .before .before .next-element .result in
     let d : NextElement (getD (now (a .sparse)) (at + 2 * i) 0) (getD (now (a .v)) i 0) (a .y) (a .m) (a .q) e =
-    subst (λ (x : ℕ). NextElement (getD (now (a .sparse)) (at + 2 * i) 0) x (a .y) (a .m) (a .q) e) (l .inv .0 .rest i (omega arith))
-    (subst (λ (x : ℕ). NextElement (getD (now (a .sparse)) (at + 2 * i) 0) (getD (l .v) i 0) x (a .m) (a .q) e) (l .inv .1 i (omega arith)) (c .before .before .before .next-element .ensures)) in (
-      spreading-step e (c .product .result) (l .inv .0) (omega arith) d
-          (c .product .ensures ∙ ap (λ (x : ℕ). lowProduct x e) (c .before .wide .ensures)) (search needs),
-      l .inv .1,
-    )
+    subst (λ (x : ℕ). NextElement (getD (now (a .sparse)) (at + 2 * i) 0) x (a .y) (a .m) (a .q) e) (l .inv .rest i (omega arith)) (c .before .before .before .next-element .ensures) in
+    spreading-step e (c .product .result) (l .inv) (omega arith) d
+    (c .product .ensures ∙ ap (λ (x : ℕ). lowProduct x e) (c .before .wide .ensures)) (search needs)
 
 returns : tie.Need-returns Inv-loop μ-loop
-returns c = spreading-end (c .before .loop .inv .0) (omega arith)
+returns c = spreading-end (c .before .loop .inv) (omega arith)
 
 pub next-elements-spec : {M : Type 1} → statement M
 next-elements-spec =
@@ -48,8 +45,6 @@ next-elements-spec =
     μ-loop
     (λ c. search needs)
     loop-holds
-    (λ c. search needs)
-    (λ c. search needs)
     (λ c. search needs)
     (λ c. search needs)
     (λ c. search needs)
