@@ -20,7 +20,7 @@ use Rattle.poseidon_rounds.specs.Places.{Each}
 use Rattle.poseidon_rounds.specs.Sparse.{carried, lower, SparseTables, Represents}
 use Rattle.poseidon_rounds.proofs.Places.{either}
 use Rattle.poseidon_rounds.proofs.Sparse.{represents-step}
-use Rattle.poseidon_partial.specs.Partial.{NextElement, rowTerm, NextElements, FirstElement, NextFirst, Rest, PartialSetting, PartialRun, PartialRounds}
+use Rattle.poseidon_partial.specs.Partial.{NextElement, LowPart, rowTerm, NextElements, FirstElement, NextFirst, Rest, PartialSetting, PartialRun, PartialRounds}
 
 term-bound : (a b : ℕ) → a < 2130706433 → b < 2131755009 → a * b ≤ 4542144106993811456
 term-bound a b ha hb = mul-le-mul (le-pred-of-lt ha) (le-pred-of-lt hb)
@@ -38,30 +38,36 @@ next-element t v y m q p s e ep es d =
           (g, omega (arith, g .bound));
     }
 
--- the loop over the elements
-pub record Spreading (t : List ℕ) (at y m q : ℕ) (v w : List ℕ) (low high i : ℕ) : Type 0 where
+-- a sum's low part
+pub low-part : (s high low : ℕ) → low < 18446744073709551616 → (low + high % 65536 * 281474976710656) % 2 ^ 64 ≡ s → LowPart s high low
+low-part s high low h e = record { right = λ a ha g. omega arith }
+
+-- the loop over the elements; the sum of the products has wrapped round
+pub record Spreading (t : List ℕ) (at y m q : ℕ) (v w : List ℕ) (s high i : ℕ) : Type 0 where
+  pub low : ℕ
   pub within : i ≤ 24
   pub long : length w ≡ 24
   pub done : (k : ℕ) → k < i → NextElement (getD t (at + 2 * k) 0) (getD v k 0) y m q (getD w k 0)
   pub rest : (k : ℕ) → i ≤ k → getD w k 0 ≡ getD v k 0
   pub whole : high * 281474976710656 + low ≡ sum i (rowTerm t at w)
+  pub wrapped : s ≡ (high * 281474976710656 + low) % 18446744073709551616
   pub low-le : low ≤ i * 281474976710656
   pub high-le : high ≤ i * 65536
 
 pub spreading-start : {t : List ℕ} {at y m q : ℕ} {v : List ℕ} → length v ≡ 24 → Spreading t at y m q v v 0 0 0
 unfolding sum
 spreading-start e =
-    record { within = zero-le; long = e; done = λ k h. absurd (not-suc-le-zero h); rest = λ k h. refl; whole = refl; low-le = zero-le; high-le = zero-le }
+    record { low = 0; within = zero-le; long = e; done = λ k h. absurd (not-suc-le-zero h); rest = λ k h. refl; whole = refl; wrapped = refl; low-le = zero-le; high-le = zero-le }
 
 sum-next : (f : ℕ → ℕ) (n : ℕ) → sum (n + 1) f ≡ sum n f + f n
 unfolding sum
 sum-next f n = rw add-one
 
-pub spreading-step : {t : List ℕ} {at y m q : ℕ} {v w : List ℕ} {low high i : ℕ} (e p : ℕ) → Spreading t at y m q v w low high i → i < 24
+pub spreading-step : {t : List ℕ} {at y m q : ℕ} {v w : List ℕ} {s high i : ℕ} (e p n : ℕ) → Spreading t at y m q v w s high i → i < 24
     → NextElement (getD t (at + 2 * i) 0) (getD v i 0) y m q e → p ≡ lowProduct (getD t (at + 2 * i + 1) 0) e → p < 18446744073709551616
-    → Spreading t at y m q v (set w i e) (low + p % 281474976710656) (high + p / 281474976710656) (i + 1)
+    → n ≡ (s + p) % 2 ^ 64 → Spreading t at y m q v (set w i e) n (high + p / 281474976710656) (i + 1)
 unfolding rowTerm
-spreading-step {t} {at} {y} {m} {q} {v} {w} {low} {high} {i} e p f h d ep hp =
+spreading-step {t} {at} {y} {m} {q} {v} {w} {s} {high} {i} e p n f h d ep hp en =
     let b : List ℕ = set w i e in
     let here : getD b i 0 ≡ e = getD-set-same w i e 0 (omega (arith, f .long)) in
     let same : sum i (rowTerm t at b) ≡ sum i (rowTerm t at w) =
@@ -69,6 +75,7 @@ spreading-step {t} {at} {y} {m} {q} {v} {w} {low} {high} {i} e p f h d ep hp =
     (λ k l. ap (λ (x : ℕ). lowProduct (getD t (at + 2 * k + 1) 0) x) (getD-set-other w i k e 0 (λ z. omega arith))) in
     let new : rowTerm t at b i ≡ p = ap (λ (x : ℕ). lowProduct (getD t (at + 2 * i + 1) 0) x) here ∙ sym ep in
     record {
+      low = f .low + p % 281474976710656;
       within = omega arith;
       long = length-set w i e ∙ f .long;
       done = λ k l. either i k
@@ -77,17 +84,20 @@ spreading-step {t} {at} {y} {m} {q} {v} {w} {low} {high} {i} e p f h d ep hp =
           (λ n. absurd (omega arith));
       rest = λ k l. getD-set-other w i k e 0 (λ z. omega arith) ∙ f .rest k (omega arith);
       whole = omega (arith, sum-next (rowTerm t at b) i, same, new, f .whole);
+      wrapped = omega (arith, en, f .wrapped);
       low-le = omega (arith, f .low-le);
       high-le = omega (arith, f .high-le);
     }
 
-pub spreading-end : {t : List ℕ} {at y m q : ℕ} {v w : List ℕ} {low high i : ℕ} → Spreading t at y m q v w low high i → 24 ≤ i → NextElements t at y m q v w low high
-spreading-end {t} {at} {y} {m} {q} {v} {w} {low} {high} {i} f h =
+pub spreading-end : {t : List ℕ} {at y m q : ℕ} {v w : List ℕ} {s high i : ℕ} (low : ℕ) → Spreading t at y m q v w s high i → 24 ≤ i → LowPart s high low
+    → NextElements t at y m q v w low high
+spreading-end {t} {at} {y} {m} {q} {v} {w} {s} {high} {i} low f h g =
     let e : i ≡ 24 = omega (arith, f .within) in
+    let same : low ≡ f .low = g .right (f .low) (omega (arith, f .low-le)) (f .wrapped) in
     record {
       moved = record { long = f .long; each = λ k l. f .done k (omega arith) };
-      whole = rw e at (f .whole);
-      low-le = omega (arith, f .low-le);
+      whole = ap (λ (x : ℕ). high * 281474976710656 + x) same ∙ rw e at (f .whole);
+      low-le = omega (arith, same, f .low-le);
       high-le = omega (arith, f .high-le);
     }
 

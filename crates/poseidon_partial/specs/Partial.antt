@@ -15,6 +15,10 @@ pub record NextElement (t v y m q e : ℕ) : Type 0 where
   pub narrow : e < 4294967296
   pub right : Inverse m q → m ≤ 2130706433 → v < 3188256770 → t < 2130706433 → y < 2131755009 → Divided m (t * y + v) e × (e < 3188256770)
 
+-- what is left of a sum when the high part is taken away, though the sum has wrapped round
+pub record LowPart (s high low : ℕ) : Type 0 where
+  pub right : (a : ℕ) → a < 18446744073709551616 → s ≡ (high * 281474976710656 + a) % 18446744073709551616 → low ≡ a
+
 -- a product of the row's entry at a place with the element
 unfoldable pub rowTerm : List ℕ → ℕ → List ℕ → ℕ → ℕ
 rowTerm t at v k = lowProduct (getD t (at + 2 * k + 1) 0) (getD v k 0)

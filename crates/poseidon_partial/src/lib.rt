@@ -4,7 +4,7 @@ ghost use mathlib.Core.Path.{_≡_};
 ghost use Prim.Native.Nat.{_*_, _≤_, _%_};
 ghost use lib.ListN.{length, getD};
 ghost use Rattle.poseidon_rounds.specs.Places.{Each};
-ghost use Rattle.poseidon_partial.specs.Partial.{NextElement, NextElements, NextFirst, Rest, PartialRounds};
+ghost use Rattle.poseidon_partial.specs.Partial.{NextElement, LowPart, NextElements, NextFirst, Rest, PartialRounds};
 
 // The sum of a row with elements 1 to 23, its products' low 48 and high 16 bits apart.
 struct RowSum {
@@ -29,7 +29,15 @@ fn next_element(v: u64, entry: u32, y: u64, m: u32, q: u32) -> u64
     )
 }
 
+// The low part of a sum that has wrapped round, by its high part, which has not.
+fn low_part(sum: u64, high: u64) -> u64
+    ensures { λ low. ⌜ LowPart sum high low ⌝ }
+{
+    std::num::wrapping_sub_u64(sum, (high % 65536) * 281474976710656)
+}
+
 // The elements after a partial round, and the sum of the next round's row with them. The table has pairs of an entry of the column and one of the row.
+// Products are summed whole, so that their low 48 bits are taken once.
 fn next_elements(
     v: &mut [u64; 24],
     sparse: &[u32; 1152],
@@ -42,18 +50,21 @@ fn next_elements(
     ensures { λ s. ⌜ NextElements (now (sparse .entry)) (48 * (round % 24)) y m q (now (v .entry)) (now (v .exit)) (s .low) (s .high) ⌝ }
 {
     let at = 48 * (round % 24);
-    let mut low: u64 = 0;
+    let mut sum: u64 = 0;
     let mut high: u64 = 0;
     let mut i: usize = 0;
     while i < 24 {
         let w = next_element(v[i], sparse[at + 2 * i], y, m, q);
         let product = montgomery::product(wide(sparse[at + 2 * i + 1]), w);
-        low += product % 281474976710656;
+        sum = std::num::wrapping_add_u64(sum, product);
         high += product / 281474976710656;
         v[i] = w;
         i += 1;
     }
-    RowSum { low, high }
+    RowSum {
+        low: low_part(sum, high),
+        high,
+    }
 }
 
 // Element 0 after a partial round: y times the matrix's first entry, the sum of the row with the others, and a constant.
