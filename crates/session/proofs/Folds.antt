@@ -15,7 +15,7 @@ use Rattle.sponge.specs.Sponge.{sponge, absorbElement, squeezeElement, squeezed
 use Rattle.sponge.specs.declared.Sponge.{Sponge}
 use Rattle.sponge.proofs.Folds.{counted, absorbed-counted, squeezes-counted, elements-counted}
 use Rattle.session.specs.Record.{spongeOf, moved, nextPlaceOf, parametersIn, absorbOne, squeezeOne, squeezedOne, absorbAll, squeezeAll, squeezedAll}
-use Rattle.session.specs.Steps.{movedOn}
+use Rattle.session.specs.Steps.{movedTo, movedOn}
 use Rattle.session.specs.declared.Session.{Session}
 use Rattle.session.proofs.SoundRecord.{phaseWord}
 
@@ -26,6 +26,11 @@ InPhase r absorbs n = calls.InPhase (r .words) (r .count) (r .phase) (r .done) a
 -- the place of a record after n elements more
 abbrev placeLater : Session → ℕ → Place
 placeLater r n = placeAfter (r .words) (r .count) (r .phase) (r .done) n
+
+-- a record moved to the place after n elements more
+pub moved-to : (r : Session) (s : Sponge) (n : ℕ) → movedTo r (r .words) s (placeLater r n) ≡ movedOn r s n
+unfolding movedTo movedOn moved
+moved-to r s n = refl
 
 module _ (r : Session) (early : r .phase < r .count) (more : suc (r .done) < lengthOf (phaseWord r)) where
   -- the place after one element that is not the phase's last

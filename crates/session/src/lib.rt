@@ -1,13 +1,14 @@
 // Sessions: START, ABSORB, SQUEEZE and FINISH over a record that goes from call to call by value.
+use progress::place::Place;
 use sponge::Sponge;
 ghost use mathlib.Core.Path.{_≡_};
 ghost use lib.ListN.{length};
 ghost use Rattle.basics.specs.Refusals.{firstNumber};
 ghost use Rattle.pattern.specs.Opening.{opening};
-ghost use Rattle.session.specs.Record.{wiped, tagState};
+ghost use Rattle.session.specs.Record.{opened, wiped, tagState};
 ghost use Rattle.session.specs.Soundness.{sound};
 ghost use Rattle.session.specs.Calls.{giving, recordRows, callRows, start, absorb, squeeze, squeezeBuffer, finish};
-ghost use Rattle.session.specs.Steps.{refusedWith, movedOn, Countable};
+ghost use Rattle.session.specs.Steps.{recordOf, refusedWith, movedTo, Countable};
 
 // The record of a session, laid out as C does it. Any contents at all may be handed over: a call looks at them before it uses them.
 #[repr(C)]
@@ -140,7 +141,23 @@ impl Session {
     pub fn absorb_step(self, input: &[u32]) -> Answer
         ensures { λ r. ⌜ r ≡ absorb self (now (input .entry)) ⌝ }
     {
-        let number = self.call_number(true, input.len());
+        let state = self.state;
+        let words = self.words;
+        let number = Session::call_number(
+            self.status,
+            self.field,
+            self.form,
+            &state,
+            &words,
+            self.count,
+            self.phase,
+            self.done,
+            self.absorb_position,
+            self.squeeze_position,
+            self.permutations,
+            true,
+            input.len(),
+        );
         if number != basics::ACCEPTED {
             return refuse(number, self);
         }
@@ -148,7 +165,6 @@ impl Session {
         if !field::is_reduced(field, input) {
             return refuse(basics::ELEMENT_NOT_REDUCED, self);
         }
-        let state = self.state;
         let sponge = sponge::absorb(
             field,
             state,
@@ -156,9 +172,16 @@ impl Session {
             self.squeeze_position,
             input,
         );
+        let place = progress::place::place_after(
+            &words,
+            self.count,
+            self.phase,
+            self.done,
+            input.len(),
+        );
         Answer {
             number,
-            session: self.move_on(sponge, input.len()),
+            session: self.move_on(words, sponge, place),
         }
     }
 
@@ -167,12 +190,27 @@ impl Session {
         ensures { λ r. ⌜ (r ≡ squeeze self (length (now (output .entry)))) ×
             (now (output .exit) ≡ squeezeBuffer self (now (output .entry))) ⌝ }
     {
-        let number = self.call_number(false, output.len());
+        let state = self.state;
+        let words = self.words;
+        let number = Session::call_number(
+            self.status,
+            self.field,
+            self.form,
+            &state,
+            &words,
+            self.count,
+            self.phase,
+            self.done,
+            self.absorb_position,
+            self.squeeze_position,
+            self.permutations,
+            false,
+            output.len(),
+        );
         if number != basics::ACCEPTED {
             return refuse(number, self);
         }
         let field = field::field_of(self.field);
-        let state = self.state;
         let sponge = sponge::squeeze(
             field,
             state,
@@ -180,9 +218,16 @@ impl Session {
             self.squeeze_position,
             output,
         );
+        let place = progress::place::place_after(
+            &words,
+            self.count,
+            self.phase,
+            self.done,
+            output.len(),
+        );
         Answer {
             number,
-            session: self.move_on(sponge, output.len()),
+            session: self.move_on(words, sponge, place),
         }
     }
 
@@ -190,7 +235,21 @@ impl Session {
     pub fn finish_step(self) -> Answer
         ensures { λ r. ⌜ r ≡ finish self ⌝ }
     {
-        let number = self.record_number();
+        let state = self.state;
+        let words = self.words;
+        let number = Session::record_number(
+            self.status,
+            self.field,
+            self.form,
+            &state,
+            &words,
+            self.count,
+            self.phase,
+            self.done,
+            self.absorb_position,
+            self.squeeze_position,
+            self.permutations,
+        );
         if number != basics::ACCEPTED {
             return refuse(number, self);
         }
@@ -200,90 +259,130 @@ impl Session {
         wipe(basics::ACCEPTED)
     }
 
-    // Whether the record is sound.
-    fn is_sound(self) -> bool
-        ensures { λ r. ⌜ r ≡ sound self ⌝ }
+    // Whether an open record of these parts is sound. The parts are lent, here and below: a record by value would be copied for each function that is called.
+    fn is_sound(
+        field_number: u32,
+        form_number: u32,
+        state: &[u32; Session::WIDTH],
+        words: &[u32; 64],
+        count: u32,
+        phase: u32,
+        done: u32,
+        absorb_position: u32,
+        squeeze_position: u32,
+        permutations: u64,
+    ) -> bool
+        ensures { λ r. ⌜ r ≡ sound (recordOf opened «field_number» «form_number» (now (state .entry)) (now (words .entry)) count phase done «absorb_position» «squeeze_position» permutations) ⌝ }
     {
-        if !field::is_field(self.field) {
+        if !field::is_field(field_number) {
             return false;
         }
-        if !tag::is_form(self.form) {
+        if !tag::is_form(form_number) {
             return false;
         }
-        let words = self.words;
-        if !sound_words::places_sound(&words, self.count) {
+        if !sound_words::places_sound(words, count) {
             return false;
         }
-        if !progress::place::is_sound(&words, self.count, self.phase, self.done) {
+        if !progress::place::is_sound(words, count, phase, done) {
             return false;
         }
-        let state = self.state;
-        if !field::is_reduced(field::field_of(self.field), &state) {
+        if !field::is_reduced(field::field_of(field_number), state) {
             return false;
         }
-        if self.permutations
-            != counters::permutations::permutations_at(&words, self.phase, self.done)
-        {
+        if permutations != counters::permutations::permutations_at(words, phase, done) {
             return false;
         }
-        let positions = counters::positions::positions_at(&words, self.phase, self.done);
-        if self.absorb_position != positions.absorb {
+        let positions = counters::positions::positions_at(words, phase, done);
+        if absorb_position != positions.absorb {
             return false;
         }
-        self.squeeze_position == positions.squeeze
+        squeeze_position == positions.squeeze
     }
 
     // The rows about the record: open, and sound.
-    fn record_number(self) -> u32
-        ensures { λ r. ⌜ r ≡ firstNumber (recordRows self) ⌝ }
+    fn record_number(
+        status: u32,
+        field_number: u32,
+        form_number: u32,
+        state: &[u32; Session::WIDTH],
+        words: &[u32; 64],
+        count: u32,
+        phase: u32,
+        done: u32,
+        absorb_position: u32,
+        squeeze_position: u32,
+        permutations: u64,
+    ) -> u32
+        ensures { λ r. ⌜ r ≡ firstNumber (recordRows (recordOf status «field_number» «form_number» (now (state .entry)) (now (words .entry)) count phase done «absorb_position» «squeeze_position» permutations)) ⌝ }
     {
-        if self.status != OPEN {
+        if status != OPEN {
             return basics::RECORD_NOT_OPEN;
         }
-        if !self.is_sound() {
+        if !Session::is_sound(
+            field_number,
+            form_number,
+            state,
+            words,
+            count,
+            phase,
+            done,
+            absorb_position,
+            squeeze_position,
+            permutations,
+        ) {
             return basics::RECORD_NOT_SOUND;
         }
         basics::ACCEPTED
     }
 
     // The rows of a call of so many elements of a kind, which ABSORB and SQUEEZE share.
-    fn call_number(self, absorbs: bool, elements: usize) -> u32
-        ensures { λ r. ⌜ r ≡ firstNumber (callRows absorbs elements self) ⌝ }
+    fn call_number(
+        status: u32,
+        field_number: u32,
+        form_number: u32,
+        state: &[u32; Session::WIDTH],
+        words: &[u32; 64],
+        count: u32,
+        phase: u32,
+        done: u32,
+        absorb_position: u32,
+        squeeze_position: u32,
+        permutations: u64,
+        absorbs: bool,
+        elements: usize,
+    ) -> u32
+        ensures { λ r. ⌜ r ≡ firstNumber (callRows absorbs elements (recordOf status «field_number» «form_number» (now (state .entry)) (now (words .entry)) count phase done «absorb_position» «squeeze_position» permutations)) ⌝ }
     {
-        let number = self.record_number();
+        let number = Session::record_number(
+            status,
+            field_number,
+            form_number,
+            state,
+            words,
+            count,
+            phase,
+            done,
+            absorb_position,
+            squeeze_position,
+            permutations,
+        );
         if number != basics::ACCEPTED {
             return number;
         }
         if elements == 0 {
             return basics::ACCEPTED;
         }
-        let words = self.words;
-        if progress::place::in_pattern(
-            &words,
-            self.count,
-            self.phase,
-            self.done,
-            absorbs,
-            elements,
-        ) {
+        if progress::place::in_pattern(words, count, phase, done, absorbs, elements) {
             return basics::ACCEPTED;
         }
         basics::CALL_NOT_IN_PATTERN
     }
 
-    // The record with what a call made of its sponge, so many elements further on in its pattern.
-    fn move_on(self, sponge: Sponge, elements: usize) -> Session
+    // The record with what a call made of its sponge, at another place of its pattern. Its words come by themselves, since a copy of them was lent before.
+    fn move_on(self, words: [u32; 64], sponge: Sponge, place: Place) -> Session
         requires { ⌜ Countable self sponge ⌝ }
-        ensures { λ r. ⌜ r ≡ movedOn self sponge elements ⌝ }
+        ensures { λ r. ⌜ r ≡ movedTo self words sponge place ⌝ }
     {
-        let words = self.words;
-        let place = progress::place::place_after(
-            &words,
-            self.count,
-            self.phase,
-            self.done,
-            elements,
-        );
         let state = sponge.state;
         Session {
             status: self.status,

@@ -18,16 +18,16 @@ use Rattle.sponge.specs.Sponge.{absorbElements}
 use Rattle.sponge.specs.declared.Sponge.{Sponge}
 use Rattle.session.specs.Record.{fieldIn, absorbAll}
 use Rattle.session.specs.Calls.{giving, callRows, absorbRows, absorb}
-use Rattle.session.specs.Steps.{refusedWith, movedOn}
+use Rattle.session.specs.Steps.{refusedWith, movedTo, movedOn}
 use Rattle.session.specs.declared.Session.{Session}
-use Rattle.session.proofs.Folds.{uncounted, absorb-all}
+use Rattle.session.proofs.Folds.{uncounted, moved-to, absorb-all}
 use Rattle.session.proofs.Numbers.{Takes, answer-accepted, answer-refused, call-takes, absorb-countable, absorb-refused, absorb-unreduced, absorb-passes}
 use borrow.Author.Needs.{needs}
 use Rattle.session.proofs.Session.absorb_step.Statement.{statement}
 use Rattle.session.proofs.Session.absorb_step.Tie as tie
 
 -- behind the rows of the call
-takes : (c : tie.Else1) → let args = c .before .before .before .args in Takes (args .self) true (length (args .input .now))
+takes : (c : tie.Else1) → let args = c .before .before .before .before .before .before .before .args in Takes (args .self) true (length (args .input .now))
 takes c = call-takes _ _ _ (sym (c .before .call-number .ensures) ∙ c .if1 .left)
 
 -- what was found of the elements is so in the record's field
@@ -38,8 +38,8 @@ returns : tie.Need-returns
 unfolding absorb
 returns c =
     let at-number = c .before .before in
-    let r = at-number .before .before .args .self in
-    let xs = at-number .before .before .args .input .now in
+    let r = at-number .before .before .before .before .before .before .args .self in
+    let xs = at-number .before .before .before .before .before .before .args .input .now in
     let number = at-number .call-number .ensures in
     let refused : firstNumber (callRows true (length xs) r) ≢ accepted = λ e. c .before .if1 .taken (number ∙ e) in
     c .refuse .ensures
@@ -52,7 +52,7 @@ returns-2 c =
     let at-reduced = c .before .before in
     let at-field = at-reduced .before in
     let at-takes = at-field .before in
-    let args = at-takes .before .before .before .args in
+    let args = at-takes .before .before .before .before .before .before .before .args in
     let r = args .self in
     let xs = args .input .now in
     let number : firstNumber (absorbRows r xs) ≡ elementNotReduced =
@@ -63,28 +63,35 @@ returns-2 c =
 
 move-on-requires : tie.Need-move-on-requires
 move-on-requires c κs =
-    let at-field = c .before .before .before .before in
+    let at-absorbed = c .before .before in
+    let at-field = at-absorbed .before .before .before in
     let at-takes = at-field .before in
-    let args = at-takes .before .before .before .args in
-    rw (c .absorb .ensures, at-field .field-of .ensures) (absorb-countable (args .self) (args .input .now) (takes at-takes))
+    let args = at-takes .before .before .before .before .before .before .before .args in
+    rw (at-absorbed .absorb .ensures, at-field .field-of .ensures) (absorb-countable (args .self) (args .input .now) (takes at-takes))
 
 returns-3 : tie.Need-returns-3
 unfolding absorb giving
 returns-3 c =
-    let at-absorbed = c .before in
-    let at-reduced = at-absorbed .before .before in
+    let at-absorbed = c .before .before .before in
+    let at-reduced = at-absorbed .before in
     let at-field = at-reduced .before .before in
     let at-takes = at-field .before in
-    let args = at-takes .before .before .before .args in
+    let args = at-takes .before .before .before .before .before .before .before .args in
     let r = args .self in
     let xs = args .input .now in
     let reduced = elements r xs (at-field .field-of .ensures) (at-reduced .before .is-reduced .ensures) (not-false _ (at-reduced .if2 .left)) in
     let absorbed = at-absorbed .absorb .ensures ∙ ap (λ (f : Field). absorbElements (parameters f) (uncounted r) xs) (at-field .field-of .ensures) in
     let next = c .move-on .ensures
+    ∙ ap (movedTo r (r .words) _) (c .before .place-after .ensures)
+    ∙ moved-to r _ (length xs)
     ∙ ap (λ (s : Sponge). movedOn r s (length xs)) absorbed
     ∙ absorb-all r xs (takes at-takes .fits) in
     (λ i. record { number = at-takes .if1 .left i; session = next i })
     ∙ sym (answer-accepted r (absorbAll r xs) _ (absorb-passes r xs (takes at-takes) reduced))
+
+-- the record's words have 64 places: `needs` does not look that far back by itself
+slice-aggregate-place-after : tie.Need-slice-aggregate-place-after
+slice-aggregate-place-after c = let good = c .before .before .before .before .before .before .before .before .before .before .before .before .good in search needs
 
 pub absorb-step-spec : {M : Type 1} → statement M
 absorb-step-spec =
@@ -97,6 +104,8 @@ absorb-step-spec =
     (λ c κs. search needs)
     (λ c κs. search needs)
     returns-2
+    (λ c κs. search needs)
+    slice-aggregate-place-after
     (λ c κs. search needs)
     move-on-requires
     returns-3)

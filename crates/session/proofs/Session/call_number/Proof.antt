@@ -1,13 +1,23 @@
 -- `session::Session::call_number` meets its contract.
 -- Assumes nothing.
 use mathlib.Core.Path.{sym, _∙_}
+use denote.Ref.{now}
+use Rattle.session.specs.Steps.{recordOf}
+use Rattle.session.specs.declared.Session.{Session}
 use Rattle.session.proofs.Numbers.{OpenSound, record-passes, call-refused, call-empty, call-fits, call-outside}
 use borrow.Author.Needs.{needs}
 use Rattle.session.proofs.Session.call_number.Statement.{statement}
 use Rattle.session.proofs.Session.call_number.Tie as tie
 
+-- the record of the parts
+abbrev self : tie.Else1 → Session
+self c =
+    let a = c .before .before .args in
+    recordOf (a .status) (a .field-number) (a .form-number) (now (a .state)) (now (a .words)) (a .count) (a .phase) (a .done) (a .absorb-position)
+    (a .squeeze-position) (a .permutations)
+
 -- behind the rows about the record
-passed : (c : tie.Else1) → OpenSound (c .before .before .args .self)
+passed : (c : tie.Else1) → OpenSound (self c)
 passed c = record-passes _ (sym (c .before .record-number .ensures) ∙ c .if1 .left)
 
 returns : tie.Need-returns
@@ -20,12 +30,12 @@ returns-2 c = sym (call-empty _ _ _ (passed (c .before)) (c .if2 .taken))
 
 returns-3 : tie.Need-returns-3
 returns-3 c =
-    let at-some = c .before .before .before .before in
+    let at-some = c .before .before .before in
     sym (call-fits _ _ _ (passed (at-some .before)) (at-some .if2 .left) (sym (c .before .in-pattern .ensures) ∙ c .if3 .taken))
 
 returns-4 : tie.Need-returns-4
 returns-4 c =
-    let at-some = c .before .before .before .before in
+    let at-some = c .before .before .before in
     sym (call-outside _ _ _ (passed (at-some .before)) (at-some .if2 .left) (sym (c .before .in-pattern .ensures) ∙ c .if3 .left))
 
 pub call-number-spec : {M : Type 1} → statement M
@@ -35,7 +45,6 @@ call-number-spec =
     (λ c κs. search needs)
     returns
     returns-2
-    (λ c. search needs)
     (λ c κs. search needs)
     returns-3
     returns-4)

@@ -14,14 +14,14 @@ use Rattle.session.proofs.Session.finish_step.Statement.{statement}
 use Rattle.session.proofs.Session.finish_step.Tie as tie
 
 -- behind the rows about the record
-passed : (c : tie.Else1) → OpenSound (c .before .before .args .self)
+passed : (c : tie.Else1) → OpenSound (c .before .before .before .before .before .before .args .self)
 passed c = record-passes _ (sym (c .before .record-number .ensures) ∙ c .if1 .left)
 
 returns : tie.Need-returns
 unfolding finish
 returns c =
     let at-number = c .before .before in
-    let r = at-number .before .args .self in
+    let r = at-number .before .before .before .before .before .args .self in
     let number = at-number .record-number .ensures in
     let refused : firstNumber (recordRows r) ≢ accepted = λ e. c .before .if1 .taken (number ∙ e) in
     c .refuse .ensures
@@ -33,7 +33,7 @@ unfolding finish
 returns-2 c =
     let at-end = c .before in
     let at-passed = at-end .before .before in
-    let r = at-passed .before .before .args .self in
+    let r = at-passed .before .before .before .before .before .before .args .self in
     c .wipe .ensures ∙ sym (wiped-answer r wiped _ (finish-early r (passed at-passed) (at-end .if2 .taken)))
 
 returns-3 : tie.Need-returns-3
@@ -41,7 +41,7 @@ unfolding finish
 returns-3 c =
     let at-end = c .before in
     let at-passed = at-end .before .before in
-    let r = at-passed .before .before .args .self in
+    let r = at-passed .before .before .before .before .before .before .args .self in
     c .wipe2 .ensures ∙ sym (answer-accepted r wiped _ (finish-passes r (passed at-passed) (at-end .if2 .left)))
 
 pub finish-step-spec : {M : Type 1} → statement M

@@ -3,6 +3,7 @@
 use mathlib.Core.Path.{_≡_, sym, ap, subst, _∙_}
 use mathlib.Core.Bool.{true}
 use borrow.Author.Tests.{eq-eqb, ne-eqb, not-true, not-false}
+use denote.Ref.{now}
 use lib.Dec.{eqb}
 use Rattle.basics.specs.Logic.{all}
 use Rattle.basics.proofs.Cases.{and-step, and-stop}
@@ -14,35 +15,39 @@ use Rattle.counters.specs.Permutations.{permutationsAt}
 use Rattle.counters.specs.Positions.{positionsAt}
 use Rattle.progress.specs.Place.{soundPlace}
 use Rattle.counters.specs.declared.positions.Positions.{Positions}
-use Rattle.session.specs.Record.{fieldIn}
+use Rattle.session.specs.Record.{opened, fieldIn}
 use Rattle.session.specs.Soundness.{sound}
+use Rattle.session.specs.Steps.{recordOf}
 use Rattle.session.specs.declared.Session.{Session}
 use borrow.Author.Needs.{needs}
 use Rattle.session.proofs.Session.is_sound.Statement.{statement}
 use Rattle.session.proofs.Session.is_sound.Tie as tie
 
--- the record
+-- the record of the parts
 abbrev self : tie.Else1 → Session
-self c = c .before .before .args .self
+self c =
+    let a = c .before .before .args in
+    recordOf opened (a .field-number) (a .form-number) (now (a .state)) (now (a .words)) (a .count) (a .phase) (a .done) (a .absorb-position)
+    (a .squeeze-position) (a .permutations)
 
 -- the branch behind each test, from that behind a later one
 abbrev at-1 : tie.Else2 → tie.Else1
 at-1 c = c .before .before
 
 abbrev at-2 : tie.Else3 → tie.Else2
-at-2 c = c .before .before .before .before
+at-2 c = c .before .before .before
 
 abbrev at-3 : tie.Else4 → tie.Else3
 at-3 c = c .before .before .before
 
 abbrev at-4 : tie.Else5 → tie.Else4
-at-4 c = c .before .before .before .before .before
+at-4 c = c .before .before .before .before
 
 abbrev at-5 : tie.Else6 → tie.Else5
-at-5 c = c .before .before .before .before
+at-5 c = c .before .before .before
 
 abbrev at-6 : tie.Else7 → tie.Else6
-at-6 c = c .before .before .before .before .before
+at-6 c = c .before .before .before .before
 
 abbrev first : tie.Else3 → tie.Else1
 first c = at-1 (at-2 c)
@@ -61,9 +66,9 @@ passed-4 : (c : tie.Else4) → let r = self (first (at-3 c)) in soundPlace (r .w
 passed-4 c = sym (c .before .is-sound .ensures) ∙ not-false _ (c .if4 .left)
 
 -- the elements are those of the record's field
-reduced : (c : tie.After-is-reduced) → let r = self (first (at-3 (c .before .before .before .before))) in c .is-reduced .result ≡ all (isElement (fieldIn r)) (r .state)
+reduced : (c : tie.After-is-reduced) → let r = self (first (at-3 (c .before .before .before))) in c .is-reduced .result ≡ all (isElement (fieldIn r)) (r .state)
 reduced c =
-    subst (λ (f : Field). c .is-reduced .result ≡ all (isElement f) (self (first (at-3 (c .before .before .before .before))) .state)) (c .before .before .field-of .ensures)
+    subst (λ (f : Field). c .is-reduced .result ≡ all (isElement f) (self (first (at-3 (c .before .before .before))) .state)) (c .before .before .field-of .ensures)
     (c .is-reduced .ensures)
 
 passed-5 : (c : tie.Else5) → let r = self (first (at-3 (at-4 c))) in all (isElement (fieldIn r)) (r .state) ≡ true
@@ -71,11 +76,11 @@ passed-5 c = sym (reduced (c .before)) ∙ not-false _ (c .if5 .left)
 
 passed-6 : (c : tie.Else6)
     → let r = self (first (at-3 (at-4 (at-5 c)))) in eqb (r .permutations) (permutationsAt (r .words) (r .phase) (r .done)) ≡ true
-passed-6 c = eq-eqb _ _ (c .if6 .left ∙ c .before .before .permutations-at .ensures)
+passed-6 c = eq-eqb _ _ (c .if6 .left ∙ c .before .permutations-at .ensures)
 
 passed-7 : (c : tie.Else7)
     → let r = self (first (at-3 (at-4 (at-5 (at-6 c))))) in eqb (r .«absorb_position») (positionsAt (r .words) (r .phase) (r .done) .absorb) ≡ true
-passed-7 c = eq-eqb _ _ (c .if7 .left ∙ ap (λ (at : Positions). at .absorb) (c .before .before .before .positions-at .ensures))
+passed-7 c = eq-eqb _ _ (c .if7 .left ∙ ap (λ (at : Positions). at .absorb) (c .before .before .positions-at .ensures))
 
 returns : tie.Need-returns
 unfolding sound
@@ -89,7 +94,7 @@ returns-2 c =
 returns-3 : tie.Need-returns-3
 unfolding sound
 returns-3 c =
-    let at = c .before .before .before .before in
+    let at = c .before .before .before in
     sym
     (and-step _ _ (passed-1 (at-1 at))
     ∙ and-step _ _ (passed-2 at)
@@ -108,7 +113,7 @@ returns-4 c =
 returns-5 : tie.Need-returns-5
 unfolding sound
 returns-5 c =
-    let at = c .before .before .before .before .before in
+    let at = c .before .before .before .before in
     sym
     (and-step _ _ (passed-1 (first (at-3 at)))
     ∙ and-step _ _ (passed-2 (at-2 (at-3 at)))
@@ -119,20 +124,20 @@ returns-5 c =
 returns-6 : tie.Need-returns-6
 unfolding sound
 returns-6 c =
-    let at = c .before .before .before .before in
+    let at = c .before .before .before in
     sym
     (and-step _ _ (passed-1 (first (at-3 (at-4 at))))
     ∙ and-step _ _ (passed-2 (at-2 (at-3 (at-4 at))))
     ∙ and-step _ _ (passed-3 (at-3 (at-4 at)))
     ∙ and-step _ _ (passed-4 (at-4 at))
     ∙ and-step _ _ (passed-5 at)
-    ∙ and-stop _ _ (ne-eqb _ _ (λ e. c .if6 .taken (e ∙ sym (c .before .before .permutations-at .ensures)))))
+    ∙ and-stop _ _ (ne-eqb _ _ (λ e. c .if6 .taken (e ∙ sym (c .before .permutations-at .ensures)))))
 
 returns-7 : tie.Need-returns-7
 unfolding sound
 returns-7 c =
-    let at = c .before .before .before .before .before in
-    let position = ap (λ (at : Positions). at .absorb) (c .before .before .before .positions-at .ensures) in
+    let at = c .before .before .before .before in
+    let position = ap (λ (at : Positions). at .absorb) (c .before .before .positions-at .ensures) in
     sym
     (and-step _ _ (passed-1 (first (at-3 (at-4 (at-5 at)))))
     ∙ and-step _ _ (passed-2 (at-2 (at-3 (at-4 (at-5 at)))))
@@ -145,10 +150,10 @@ returns-7 c =
 returns-8 : tie.Need-returns-8
 unfolding sound
 returns-8 c =
-    let last = c .before .before in
+    let last = c .before in
     let at = at-6 last in
     let r = self (first (at-3 (at-4 (at-5 at)))) in
-    ap (λ (at : Positions). eqb (r .«squeeze_position») (at .squeeze)) (last .before .before .before .positions-at .ensures)
+    ap (λ (at : Positions). eqb (r .«squeeze_position») (at .squeeze)) (last .before .before .positions-at .ensures)
     ∙ sym
     (and-step _ _ (passed-1 (first (at-3 (at-4 (at-5 at)))))
     ∙ and-step _ _ (passed-2 (at-2 (at-3 (at-4 (at-5 at)))))
@@ -158,10 +163,6 @@ returns-8 c =
     ∙ and-step _ _ (passed-6 at)
     ∙ and-step _ _ (passed-7 last))
 
--- the record's words have 64 places: `needs` does not look that far back by itself
-slice-aggregate-positions-at : tie.Need-slice-aggregate-positions-at
-slice-aggregate-positions-at c = let good = first (at-3 (at-4 (at-5 (c .before)))) .before .before .good in search needs
-
 pub is-sound-spec : {M : Type 1} → statement M
 is-sound-spec =
     tie.close
@@ -170,20 +171,15 @@ is-sound-spec =
     returns
     (λ c κs. search needs)
     returns-2
-    (λ c. search needs)
     (λ c κs. search needs)
     returns-3
-    (λ c. search needs)
     (λ c κs. search needs)
     returns-4
     (λ c κs. search needs)
-    (λ c. search needs)
     (λ c κs. search needs)
     returns-5
-    (λ c. search needs)
     (λ c κs. search needs)
     returns-6
-    slice-aggregate-positions-at
     (λ c κs. search needs)
     returns-7
     returns-8)

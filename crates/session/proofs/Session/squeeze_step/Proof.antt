@@ -13,8 +13,8 @@ use Rattle.sponge.specs.Sponge.{squeezeElements, squeezedElements}
 use Rattle.sponge.specs.declared.Sponge.{Sponge}
 use Rattle.session.specs.Record.{squeezeAll}
 use Rattle.session.specs.Calls.{giving, callRows, squeeze}
-use Rattle.session.specs.Steps.{refusedWith, movedOn}
-use Rattle.session.proofs.Folds.{uncounted, squeeze-all, squeezed-all}
+use Rattle.session.specs.Steps.{refusedWith, movedTo, movedOn}
+use Rattle.session.proofs.Folds.{uncounted, moved-to, squeeze-all, squeezed-all}
 use Rattle.session.proofs.Numbers.{Takes, answer-accepted, answer-refused, call-takes, squeeze-countable}
 use Rattle.session.proofs.Buffers.{buffer-left, buffer-written}
 use borrow.Author.Needs.{needs}
@@ -22,14 +22,14 @@ use Rattle.session.proofs.Session.squeeze_step.Statement.{statement}
 use Rattle.session.proofs.Session.squeeze_step.Tie as tie
 
 -- behind the rows of the call
-takes : (c : tie.Else1) → let args = c .before .before .before .args in Takes (args .self) false (length (args .output .now))
+takes : (c : tie.Else1) → let args = c .before .before .before .before .before .before .before .args in Takes (args .self) false (length (args .output .now))
 takes c = call-takes _ _ _ (sym (c .before .call-number .ensures) ∙ c .if1 .left)
 
 returns : tie.Need-returns
 unfolding squeeze
 returns c =
     let at-number = c .before .before in
-    let args = at-number .before .before .args in
+    let args = at-number .before .before .before .before .before .before .args in
     let r = args .self in
     let buffer = args .output .now in
     let number = at-number .call-number .ensures in
@@ -40,19 +40,19 @@ returns c =
 
 move-on-requires : tie.Need-move-on-requires
 move-on-requires c κs =
-    let at-squeezed = c .before .before in
-    let at-field = at-squeezed .before .before .before in
+    let at-squeezed = c .before .before .before .before in
+    let at-field = at-squeezed .before .before in
     let at-takes = at-field .before in
-    let args = at-takes .before .before .before .args in
+    let args = at-takes .before .before .before .before .before .before .before .args in
     rw (at-squeezed .squeeze .ensures .0, at-field .field-of .ensures) (squeeze-countable (args .self) (length (args .output .now)) (takes at-takes))
 
 returns-2 : tie.Need-returns-2
 unfolding squeeze giving
 returns-2 c =
-    let at-squeezed = c .before .before .before in
-    let at-field = at-squeezed .before .before .before in
+    let at-squeezed = c .before .before .before .before .before in
+    let at-field = at-squeezed .before .before in
     let at-takes = at-field .before in
-    let args = at-takes .before .before .before .args in
+    let args = at-takes .before .before .before .before .before .before .before .args in
     let r = args .self in
     let buffer = args .output .now in
     let n = length buffer in
@@ -61,6 +61,8 @@ returns-2 c =
     let out = at-squeezed .squeeze .ensures .1 ∙ ap (λ (f : Field). squeezedElements (parameters f) (uncounted r) n) (at-field .field-of .ensures) in
     let same : length (at-squeezed .squeeze .last .1 .1 .1 .1 .0) ≡ n = search needs in
     let next = c .move-on .ensures
+    ∙ ap (movedTo r (r .words) _) (c .before .place-after .ensures)
+    ∙ moved-to r _ _
     ∙ ap (movedOn r _) same
     ∙ ap (λ (s : Sponge). movedOn r s n) left
     ∙ squeeze-all r n (takes at-takes .fits) in (
@@ -76,6 +78,8 @@ squeeze-step-spec =
     (λ c κs. search needs)
     returns
     (λ c κs. search needs)
+    (λ c κs. search needs)
+    (λ c. search needs)
     (λ c κs. search needs)
     move-on-requires
     (λ c. search needs)
