@@ -22,12 +22,13 @@ use Rattle.sha3.specs.Sponge.{sha3}
 use Rattle.pattern.specs.Pattern.{mergedWords}
 use Rattle.pattern.specs.Opening.{Opening, opening, wordRows, openingRows, withWords}
 use Rattle.pattern.specs.declared.WordList.{WordList}
+use Rattle.pattern.proofs.Answers.{words-used}
 use Rattle.pattern.proofs.Given.{given-accepted, given-refused}
 use Rattle.tag.specs.TagString.{isForm, tagString, bufferRows, writeRows, writeNumber, writtenWith, written, bufferAfter}
-use Rattle.tag.specs.TagString.{bodyOf, lengthIn, wordsPart, soundBytes, bodyRows, tailMissing, readRows, readNumber, readWords, readSeparator}
+use Rattle.tag.specs.TagString.{bodyOf, lengthIn, wordsPart, soundBytes, bodyRows, tailMissing, readRows, readNumber, readWords, wordsRead, readSeparator, wordsOf}
 use Rattle.tag.specs.Elements.{tagElements}
 use Rattle.tag.proofs.Writing.{string-in-front, buffer-left}
-use Rattle.tag.proofs.Reading.{number-read, read-refused, separator-refused}
+use Rattle.tag.proofs.Reading.{number-read, read-accepted, read-refused, separator-refused}
 use Rattle.counters.specs.Positions.{inLastBlock, positionsAfter, positionsAt}
 use Rattle.words.specs.Words.{isAbsorb, lengthOf}
 use Rattle.sponge.specs.Sponge.{absorbElement, squeezeElement, readyToAbsorb, readyToSqueeze}
@@ -151,14 +152,19 @@ pub reading-form-2-row-by-row : (s : List ℕ) (n : ℕ)
 unfolding readNumber readRows bodyRows bodyOf lengthIn tailMissing isForm firstNumber if_then_else_ _and_ _or_
 reading-form-2-row-by-row s n = refl
 
--- "the number comes with the words"; "Refused, it gives 64 zero words and count 0.", and the separator is "empty on a refusal", in either form.
+-- "the number comes with the words", which stand in 64 places with zeros behind them; "Refused, it gives 64 zero words and count 0.", and the separator is
+-- "empty on a refusal", in either form.
 pub what-reading-gives : (form : ℕ) (s : List ℕ) (n : ℕ)
     → (readWords form s n .number ≡ readNumber form s n)
+    × (readNumber form s n ≡ accepted → readWords form s n .words ≡ wordsRead form s n ++ replicate (64 - readWords form s n .count) 0)
     × (readNumber form s n ≢ accepted
     → (readWords form s n .words ≡ replicate 64 0) × (readWords form s n .count ≡ 0) × (readSeparator form s n ≡ []))
 unfolding withWords
 what-reading-gives form s n = (
   sym (number-read form s n (readWords form s n) refl),
+  λ e.
+      let ws = wordsOf (wordsPart (bodyOf form s) (lengthIn form s n)) in
+      rw (read-accepted form s n e) (sym (ap (λ (l : List ℕ). l ++ replicate (64 - length ws) 0) (words-used accepted ws))),
   λ refused.
       let none = read-refused form s n (readNumber form s n) (ne-eqb _ accepted refused) refl in
       (ap (λ (r : WordList). r .words) none, ap (λ (r : WordList). r .count) none, separator-refused form s n refused),
