@@ -7,13 +7,22 @@ pub mod ffi;
 // Stops unless the other commit's library has the layout that the declarations are for. One of another version has no such function, so that a job
 // which calls this is not linked with it.
 pub fn check_layout() {
-    #[cfg(before)]
+    #[cfg(all(before, not(before_version_2)))]
     {
         extern "C" {
             fn before_tuilarder_layout_3() -> u64;
         }
         // SAFETY: it takes nothing.
         assert_eq!(unsafe { before_tuilarder_layout_3() }, ffi::LAYOUT);
+    }
+    // Version 2 has no forms. What takes neither a form nor a record is the same in it, and a job calls nothing else of it.
+    #[cfg(before_version_2)]
+    {
+        extern "C" {
+            fn before_tuilarder_layout_2() -> u64;
+        }
+        // SAFETY: it takes nothing.
+        assert_eq!(unsafe { before_tuilarder_layout_2() }, (2 << 32) | 392);
     }
 }
 

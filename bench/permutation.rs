@@ -36,20 +36,6 @@ mod version_1 {
     }
 }
 
-// One of version 2, whose permutation is called as now.
-#[cfg(before_version_2)]
-mod version_2 {
-    extern "C" {
-        fn before_tuilarder_layout_2() -> u64;
-    }
-
-    // Stops unless it is of that version.
-    pub fn check_layout() {
-        // SAFETY: it takes nothing.
-        assert_eq!(unsafe { before_tuilarder_layout_2() } >> 32, 2);
-    }
-}
-
 // A field of the permutation written here, with figures that are constants, as they are in the library.
 trait Field {
     const NUMBER: u32;
@@ -202,15 +188,9 @@ fn by_library<F: Field>(library: &'static Library) -> (&'static str, Permutation
     (library.name, permute)
 }
 
-#[cfg(not(any(before_version_1, before_version_2)))]
+#[cfg(not(before_version_1))]
 fn by_libraries<F: Field>() -> Ways<'static> {
     Library::all().iter().map(by_library::<F>).collect()
-}
-
-#[cfg(before_version_2)]
-fn by_libraries<F: Field>() -> Ways<'static> {
-    version_2::check_layout();
-    [&Library::BEFORE, &Library::NOW].map(by_library::<F>).into()
 }
 
 #[cfg(before_version_1)]

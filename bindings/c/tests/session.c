@@ -688,6 +688,40 @@ static void test_not_read_form_2(void)
             check_not_read(FORM_2, strings[i].bytes, strings[i].length, any_given[k], strings[i].number);
 }
 
+/* Strings of form 2 that are longer, with tails about 256 behind one word and any bytes: 256 is read where just a word precedes so many; it gets 13 where a
+   byte is missing there, where it names all that precedes it, and where it names one byte more. Above it there is 6, whatever precedes it. */
+static void test_tails_about_256(void)
+{
+    static const struct {
+        size_t preceding;
+        uint8_t tail[4];
+        uint32_t number;
+    } strings[] = {
+        {260, {0, 0, 1, 0}, TUILARDER_ACCEPTED},
+        {259, {0, 0, 1, 0}, TUILARDER_NOT_TAG_STRING},
+        {256, {0, 0, 1, 0}, TUILARDER_NOT_TAG_STRING},
+        {255, {0, 0, 1, 0}, TUILARDER_NOT_TAG_STRING},
+        {261, {0, 0, 1, 1}, TUILARDER_SEPARATOR_TOO_LONG},
+        {260, {0, 0, 1, 1}, TUILARDER_SEPARATOR_TOO_LONG},
+        {257, {0, 0, 1, 1}, TUILARDER_SEPARATOR_TOO_LONG},
+        {256, {0, 0, 1, 1}, TUILARDER_SEPARATOR_TOO_LONG},
+        {260, {0xff, 0xff, 0xff, 0xff}, TUILARDER_SEPARATOR_TOO_LONG},
+    };
+    const struct reading longest = {TUILARDER_ACCEPTED, {A | 1}, 1, 4, 256};
+    for (size_t i = 0; i < sizeof strings / sizeof *strings; i++) {
+        const size_t preceding = strings[i].preceding;
+        uint8_t string[265] = {0x80, 0, 0, 1};
+        memset(string + 4, 7, preceding - 4);
+        memcpy(string + preceding, strings[i].tail, 4);
+        for (size_t k = 0; k < GIVEN; k++) {
+            if (strings[i].number == TUILARDER_ACCEPTED)
+                check_read(FORM_2, string, preceding + 4, any_given[k], &longest);
+            else
+                check_not_read(FORM_2, string, preceding + 4, any_given[k], strings[i].number);
+        }
+    }
+}
+
 /* The longest tag strings, 64 words that do not merge and 256 bytes: written into as many bytes and not into one less, and read back. */
 static void test_longest_tag_string(uint32_t form)
 {
@@ -1135,6 +1169,7 @@ int main(void)
     test_read_tag();
     test_read_form_2();
     test_not_read_form_2();
+    test_tails_about_256();
     test_longest_tag_string(FORM_1);
     test_longest_tag_string(FORM_2);
     test_unequal_lengths();

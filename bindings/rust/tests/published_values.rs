@@ -535,7 +535,10 @@ fn form_2_tells_b2_apart() {
         assert_eq!(state(1, &short, &separator), state(1, &long, &[]));
         assert_ne!(state(2, &short, &separator), state(2, &long, &[]));
     }
-    assert_ne!(written_in_form(2, &short, &separator), written_in_form(2, &long, &[]));
+    let words = [0x80, 0, 0, 1, 0, 0, 0, 1, 0x80, 0, 0, 2, 0, 0, 0, 2];
+    let with_tail = |tail: [u8; 4]| [&words[..], &tail].concat();
+    assert_eq!(written_in_form(2, &short, &separator), with_tail([0, 0, 0, 8]));
+    assert_eq!(written_in_form(2, &long, &[]), with_tail([0, 0, 0, 0]));
 }
 
 /// "SHA3-256 (FIPS 202) of that string is the digest", of the string of the form that START got. "Word k is added to element 8 + k of the zero
@@ -574,7 +577,10 @@ fn read(form: u32, string: &[u8], given: usize) -> (u32, Vec<u32>, std::ops::Ran
 }
 
 /// Lengths given, which reading form 2 ignores.
-const GIVEN: [usize; 7] = [0, 1, 2, 8, 256, 257, usize::MAX];
+const GIVEN: [usize; 8] = [0, 1, 2, 3, 8, 256, 257, usize::MAX];
+
+/// Numbers that no form has: in some a part of the bits is the number of one.
+const UNKNOWN_FORMS: [u32; 7] = [0, 3, 257, 65538, ABSORB, ABSORB + 1, u32::MAX];
 
 /// "Reading form 2 goes by the string's last four bytes and ignores any length given."
 #[test]
@@ -603,12 +609,14 @@ fn form_2_is_read_by_its_tail() {
 fn form_2_strings_turned_away_as_in_the_request() {
     let number = |string: &[u8]| {
         let numbers = GIVEN.map(|given| read(2, string, given).0);
-        assert_eq!(numbers, [numbers[0]; 7]);
+        assert_eq!(numbers, [numbers[0]; 8]);
         numbers[0]
     };
+    let b1 = [0x80, 0, 0, 6, 0, 0, 0, 3, 0x41, 0x42, 0, 0, 0, 2];
     for length in 0..4 {
         assert_eq!(number(&[0; 4][..length]), 13);
         assert_eq!(number(&[0xff; 4][..length]), 13);
+        assert_eq!(number(&b1[b1.len() - length..]), 13);
     }
     assert_eq!(number(&[0xff; 4]), 6);
     assert_eq!(number(&[0, 0, 0, 0]), 13);
@@ -630,7 +638,9 @@ fn form_2_strings_turned_away_as_in_the_request() {
     for tail in [257, 300, 304, 305, 1 << 16, 1 << 24, 1 << 31, u32::MAX] {
         assert_eq!(number(&with_tail(&long, tail)), 6);
     }
-    // Its bytes are highest first: a tail that names two bytes, and one that names 33554432.
+    // Its bytes are highest first: a tail that names one byte or two, and one that names 16777216 or 33554432.
+    assert_eq!(number(&[0x80, 0, 0, 1, 7, 0, 0, 0, 1]), 0);
+    assert_eq!(number(&[0x80, 0, 0, 1, 7, 1, 0, 0, 0]), 6);
     assert_eq!(number(&[0x80, 0, 0, 1, 5, 5, 0, 0, 0, 2]), 0);
     assert_eq!(number(&[0x80, 0, 0, 1, 5, 5, 2, 0, 0, 0]), 6);
     assert_eq!(number(&with_tail(&[0, 0, 0, 1], 0)), 13);
@@ -655,14 +665,15 @@ fn forms_turned_away_as_in_the_request() {
         (&[0; 65], b""),
         (&[1, LIMIT + 1], b""),
     ];
-    let strings: [&[u8]; 5] = [
+    let strings: [&[u8]; 6] = [
         &[],
         &[0xff; 4],
         &[0x80, 0, 0, 1],
+        &[0x80, 0, 0, 1, 7],
         &[0x80, 0, 0, 1, 0, 0, 0, 0],
         &[0; 600],
     ];
-    for form in [0, 3, 257, 1 << 31, u32::MAX] {
+    for form in UNKNOWN_FORMS {
         for (words, separator) in openings {
             for field in [1, 2] {
                 assert_eq!(start(field, form, words, separator), (22, WIPED));
@@ -689,7 +700,7 @@ fn forms_turned_away_as_in_the_request() {
 fn records_keep_their_form() {
     for (field, form) in [(1, 1), (1, 2), (2, 1), (2, 2)] {
         let fresh = started_in_form(form, field, &[ABSORB + 9, 9], &[]);
-        for other in [0, 3, 257, 1 << 31, u32::MAX] {
+        for other in UNKNOWN_FORMS {
             let unsound = Session {
                 form: other,
                 ..fresh.clone()

@@ -2,21 +2,25 @@
 -- number, and where reading finds a separator. What tag strings of a form tell is in `TagStrings`.
 use mathlib.Core.Path.{_≡_, refl, ap, _∙_}
 use mathlib.Core.Bool.{true, false}
-use mathlib.Core.List.{List, [], _++_, append-nil}
+use mathlib.Core.List.{List, [], _∷_, _++_, append-nil}
 use mathlib.Core.Logic.{_≢_}
 use Prim.Native.Nat.{ℕ, _+_, _-_}
 use native.Mathlib.Omega.{arith}
 use borrow.Author.Tests.{eq-eqb, ne-eqb}
-use lib.ListN.{length, take, drop}
+use lib.ListN.{length, take, drop, replicate}
 use lib.Seq.{length-take-le}
-use Rattle.basics.specs.Logic.{if_then_else_, _and_, _or_}
-use Rattle.basics.specs.Digits.{digits}
+use Rattle.basics.specs.Logic.{if_then_else_, _and_, _or_, same, all, any}
+use Rattle.basics.specs.Lists.{tabulate, placed}
+use Rattle.basics.specs.Digits.{digits, number, numberAfter}
 use Rattle.basics.specs.Numbers.{accepted, recordNotSound, formUnknown}
+use Rattle.basics.specs.Refusals.{firstNumber}
 use Rattle.basics.proofs.Cases.{or-neither, cases, and-step, and-stop}
 use Rattle.field.specs.Field.{isField}
 use Rattle.sha3.specs.Sponge.{sha3}
-use Rattle.pattern.specs.Pattern.{mergedWords}
-use Rattle.pattern.specs.Opening.{Opening, withWords}
+use Rattle.words.specs.Words.{isAbsorb, lengthOf, phaseOf, wordOf}
+use Rattle.pattern.specs.Pattern.{join, merge, phases, mergedWords, alternate, soundWords}
+use Rattle.pattern.specs.Opening.{Opening, opening, wordRows, openingRows, given, withWords, answerWith}
+use Rattle.tag.specs.TagString.{bufferRows, writeRows, writeNumber, writtenWith, bufferWith, wordAt, wordsOf, wordsPart, separatorPart, soundBytes, wordsRead}
 use Rattle.tag.specs.TagString.{isForm, wordBytes, tailOf, stringOf, tagString, written, bufferAfter, bodyOf, lengthIn, tailMissing, bodyRows, readRows, readNumber, readWords, readSeparator, separatorStart}
 use Rattle.tag.specs.Elements.{tagElements}
 use Rattle.tag.proofs.Forms.{body-1, body-2, tail-there-2}
@@ -128,3 +132,44 @@ separator-lies-in-the-string form s n = (
   ),
   λ z. (start-refused form s n z, ap length (separator-refused form s n z)),
 )
+
+-- ---- by hand
+
+-- B1 has ten bytes in form 1 and fourteen in form 2: "9 bytes for case B1" are too few, and in form 2 so are thirteen.
+pub buffers-for-b1 :
+    let o = opening (0x80000003 ∷ 0x80000003 ∷ 3 ∷ []) (0x41 ∷ 0x42 ∷ []) in
+    (_≡_ {A = ℕ} (written 1 o (replicate 9 7) .number) 12) × (_≡_ {A = ℕ} (written 1 o (replicate 10 7) .number) 0)
+    × (_≡_ {A = ℕ} (written 2 o (replicate 13 7) .number) 12) × (_≡_ {A = ℕ} (written 2 o (replicate 14 7) .number) 0)
+    × (bufferAfter 2 o (replicate 16 7) ≡ 0x80 ∷ 0 ∷ 0 ∷ 6 ∷ 0 ∷ 0 ∷ 0 ∷ 3 ∷ 0x41 ∷ 0x42 ∷ 0 ∷ 0 ∷ 0 ∷ 2 ∷ 7 ∷ 7 ∷ [])
+unfolding written writtenWith writeNumber writeRows bufferRows bufferAfter bufferWith given placed openingRows wordRows firstNumber isForm tagString stringOf tailOf wordBytes digits mergedWords phases merge join
+    phaseOf wordOf isAbsorb lengthOf if_then_else_ _and_ _or_ any same
+buffers-for-b1 = (refl, refl, refl, refl, refl)
+
+-- A separator of 256 bytes, the longest: its length is 00 00 01 00.
+pub longest-separator : drop 260 (tagString 2 (opening (0x80000001 ∷ []) (replicate 256 7))) ≡ 0 ∷ 0 ∷ 1 ∷ 0 ∷ []
+unfolding tagString stringOf tailOf wordBytes digits mergedWords phases merge join phaseOf wordOf isAbsorb lengthOf if_then_else_
+longest-separator = refl
+
+-- Strings of form 2 with the empty separator, and with 41 42, which begins at place 4.
+pub strings-that-read :
+    (_≡_ {A = ℕ} (readWords 2 (0x80 ∷ 0 ∷ 0 ∷ 1 ∷ 0 ∷ 0 ∷ 0 ∷ 0 ∷ []) 0 .number) 0)
+    × (_≡_ {A = ℕ} (readWords 2 (0x80 ∷ 0 ∷ 0 ∷ 1 ∷ 0x41 ∷ 0x42 ∷ 0 ∷ 0 ∷ 0 ∷ 2 ∷ []) 9 .number) 0)
+    × (readSeparator 2 (0x80 ∷ 0 ∷ 0 ∷ 1 ∷ 0x41 ∷ 0x42 ∷ 0 ∷ 0 ∷ 0 ∷ 2 ∷ []) 9 ≡ 0x41 ∷ 0x42 ∷ [])
+    × (_≡_ {A = ℕ} (separatorStart 2 (0x80 ∷ 0 ∷ 0 ∷ 1 ∷ 0x41 ∷ 0x42 ∷ 0 ∷ 0 ∷ 0 ∷ 2 ∷ []) 9) 4)
+    × (wordsRead 2 (0x80 ∷ 0 ∷ 0 ∷ 1 ∷ 0x41 ∷ 0x42 ∷ 0 ∷ 0 ∷ 0 ∷ 2 ∷ []) 9 ≡ 0x80000001 ∷ [])
+unfolding readWords answerWith withWords given readSeparator separatorStart separatorPart readNumber readRows bodyRows bodyOf lengthIn tailMissing isForm soundBytes wordsPart wordsOf wordAt
+    firstNumber soundWords alternate isAbsorb lengthOf number numberAfter tabulate if_then_else_ _and_ _or_ same all
+strings-that-read = (refl, refl, refl, refl, refl)
+
+-- "a string under four bytes, or one whose tail names more bytes than precede it, gets 13, and a tail above 256 gets 6 before that": three bytes; a tail that
+-- names 1, where none precede it, and 5, where four do; 257 and 2^32 - 1, where fewer precede; and no words at all.
+pub strings-refused :
+    (_≡_ {A = ℕ} (readWords 2 (0 ∷ 0 ∷ 0 ∷ []) 0 .number) 13)
+    × (_≡_ {A = ℕ} (readWords 2 (0 ∷ 0 ∷ 0 ∷ 1 ∷ []) 0 .number) 13)
+    × (_≡_ {A = ℕ} (readWords 2 (0x80 ∷ 0 ∷ 0 ∷ 1 ∷ 0 ∷ 0 ∷ 0 ∷ 5 ∷ []) 0 .number) 13)
+    × (_≡_ {A = ℕ} (readWords 2 (0 ∷ 0 ∷ 1 ∷ 1 ∷ []) 0 .number) 6)
+    × (_≡_ {A = ℕ} (readWords 2 (0xff ∷ 0xff ∷ 0xff ∷ 0xff ∷ []) 0 .number) 6)
+    × (_≡_ {A = ℕ} (readWords 2 (0 ∷ 0 ∷ 0 ∷ 0 ∷ []) 0 .number) 13)
+unfolding readWords answerWith withWords given readNumber readRows bodyRows bodyOf lengthIn tailMissing isForm soundBytes wordsPart wordsOf wordAt firstNumber soundWords alternate isAbsorb lengthOf number numberAfter tabulate
+    if_then_else_ _and_ _or_ same all
+strings-refused = (refl, refl, refl, refl, refl, refl)

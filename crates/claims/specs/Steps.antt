@@ -1,29 +1,41 @@
 -- What calls do with a record, row by row and element by element: which number each call gives, what it leaves, and what one element does to positions
 -- and count. The definitions are those that the contracts of `session`, `tag` and `tag_reader` cite; here their figures are written out.
-use mathlib.Core.Path.{_≡_, refl, ap, _∙_}
+use mathlib.Core.Path.{_≡_, refl, sym, ap, _∙_}
 use mathlib.Core.Bool.{true, false, not}
-use mathlib.Core.List.{List, [], _∷_}
+use mathlib.Core.List.{List, [], _∷_, _++_}
+use mathlib.Core.Logic.{_≢_}
 use Prim.Native.Nat.{ℕ, _+_, _-_, _%_, _<_}
 use native.Mathlib.Nat.{mod-eq-of-lt}
 use native.Mathlib.Omega.{arith}
 use borrow.Author.Tests.{eq-eqb, ne-eqb}
 use lib.Dec.{ltb, eqb}
-use lib.ListN.{length, take, drop}
-use Rattle.basics.specs.Logic.{if_then_else_, _and_, _or_, all}
+use lib.ListN.{length, getD, take, drop, replicate}
+use Rattle.basics.specs.Logic.{if_then_else_, _and_, _or_, all, any}
 use Rattle.basics.specs.Digits.{number}
 use Rattle.basics.specs.Numbers.{accepted}
 use Rattle.basics.specs.Refusals.{_gets_⨾_, firstNumber}
 use Rattle.basics.proofs.Cases.{if-true, if-false}
-use Rattle.field.specs.Field.{fieldOf, isElement}
+use Rattle.basics.proofs.Placed.{placed-start}
+use Rattle.field.specs.Field.{isField, fieldOf, isElement}
 use Rattle.progress.specs.Place.{inPattern}
-use Rattle.tag.specs.TagString.{isForm, bodyOf, lengthIn, wordsPart, soundBytes, bodyRows, tailMissing, readRows, readNumber}
+use Rattle.sha3.specs.Sponge.{sha3}
+use Rattle.pattern.specs.Pattern.{mergedWords}
+use Rattle.pattern.specs.Opening.{Opening, opening, wordRows, openingRows, withWords}
+use Rattle.pattern.specs.declared.WordList.{WordList}
+use Rattle.pattern.proofs.Answers.{words-used}
+use Rattle.pattern.proofs.Given.{given-accepted, given-refused}
+use Rattle.tag.specs.TagString.{isForm, tagString, bufferRows, writeRows, writeNumber, writtenWith, written, bufferAfter}
+use Rattle.tag.specs.TagString.{bodyOf, lengthIn, wordsPart, soundBytes, bodyRows, tailMissing, readRows, readNumber, readWords, wordsRead, readSeparator, wordsOf}
+use Rattle.tag.specs.Elements.{tagElements}
+use Rattle.tag.proofs.Writing.{string-in-front, buffer-left}
+use Rattle.tag.proofs.Reading.{number-read, read-accepted, read-refused, separator-refused}
 use Rattle.counters.specs.Positions.{inLastBlock, positionsAfter, positionsAt}
 use Rattle.words.specs.Words.{isAbsorb, lengthOf}
 use Rattle.sponge.specs.Sponge.{absorbElement, squeezeElement, readyToAbsorb, readyToSqueeze}
 use Rattle.sponge.specs.declared.Sponge.{Sponge}
-use Rattle.session.specs.Record.{opened, wiped, spongeOf, moved, absorbOne, squeezeOne, squeezedOne, absorbAll, squeezeAll, squeezedAll}
+use Rattle.session.specs.Record.{opened, wiped, tagState, openRecord, spongeOf, moved, absorbOne, squeezeOne, squeezedOne, absorbAll, squeezeAll, squeezedAll}
 use Rattle.session.specs.Soundness.{sound}
-use Rattle.session.specs.Calls.{giving, recordRows, callRows, absorbRows, finishRows, wipes, answerOf, absorb, squeeze, finish}
+use Rattle.session.specs.Calls.{giving, startRows, startNumber, startRecord, start, recordRows, callRows, absorbRows, finishRows, wipes, answerOf, absorb, squeeze, finish}
 use Rattle.session.specs.declared.Session.{Session}
 use Rattle.session.proofs.SoundRecord.{parts}
 
@@ -60,6 +72,69 @@ pub finish-row-by-row : (r : Session)
 unfolding finish answerOf wipes finishRows recordRows
 finish-row-by-row r = refl
 
+-- "18: .. before 1 at START"; "22: .. straight after 18"; "START checks 1 to 6 in number order, whichever word is at fault, and a refusal gives a wiped
+-- record", with 19 behind 2. Accepted, it hashes the string of its form, and the record is open, keeps both numbers and has zeros in all else.
+pub start-row-by-row : (field form : ℕ) (ws separator : List ℕ)
+    → let n =
+    firstNumber
+    (not (isField field) gets 18 ⨾
+    not (isForm form) gets 22 ⨾
+    eqb (length ws) 0 or ltb 64 (length ws) gets 1 ⨾
+    any (λ w. eqb (lengthOf w) 0) ws gets 2 ⨾
+    any (λ w. ltb 16777216 (lengthOf w)) ws gets 19 ⨾
+    not (isAbsorb (getD ws 0 0)) gets 3 ⨾
+    ltb 256 (length separator) gets 6 ⨾
+    []) in
+    let merged = mergedWords ws in
+    start field form (opening ws separator)
+    ≡ (if eqb n 0 then
+    giving 0
+    (record {
+      status = 1;
+      field = field;
+      form = form;
+      state = replicate 8 0 ++ tagElements (sha3 (tagString form (opening ws separator))) ++ replicate 8 0;
+      words = merged ++ replicate (64 - length merged) 0;
+      count = length merged;
+      phase = 0;
+      done = 0;
+      «absorb_position» = 0;
+      «squeeze_position» = 0;
+      permutations = 0;
+    })
+    else giving n wiped)
+unfolding start startNumber startRows openingRows wordRows startRecord openRecord tagState
+start-row-by-row field form ws separator = refl
+
+-- "Writing checks 1 to 6, then 12", with 22 "first" and 19 behind 2: 12 for a "lent buffer shorter than the tag string" of the form.
+pub writing-row-by-row : (form : ℕ) (ws separator buffer : List ℕ)
+    → written form (opening ws separator) buffer .number
+    ≡ firstNumber
+    (not (isForm form) gets 22 ⨾
+    eqb (length ws) 0 or ltb 64 (length ws) gets 1 ⨾
+    any (λ w. eqb (lengthOf w) 0) ws gets 2 ⨾
+    any (λ w. ltb 16777216 (lengthOf w)) ws gets 19 ⨾
+    not (isAbsorb (getD ws 0 0)) gets 3 ⨾
+    ltb 256 (length separator) gets 6 ⨾
+    ltb (length buffer) (length (tagString form (opening ws separator))) gets 12 ⨾
+    [])
+unfolding written writtenWith writeNumber writeRows bufferRows openingRows wordRows
+writing-row-by-row form ws separator buffer = refl
+
+-- "it writes from the buffer's start and only the string's bytes, and none when refused"
+pub what-writing-leaves : (form : ℕ) (o : Opening) (buffer : List ℕ)
+    → let string = tagString form o in
+    (written form o buffer .number ≡ accepted
+    → (written form o buffer .length ≡ length string) × (bufferAfter form o buffer ≡ string ++ drop (length string) buffer))
+    × (written form o buffer .number ≢ accepted → (written form o buffer .length ≡ 0) × (bufferAfter form o buffer ≡ buffer))
+unfolding written writtenWith bufferAfter
+what-writing-leaves form o buffer =
+    let n = writeNumber form o buffer in
+    let string = tagString form o in (
+      λ e. (ap length (given-accepted n string e), string-in-front n string buffer e ∙ placed-start buffer string),
+      λ e. (ap length (given-refused n string (ne-eqb n accepted e)), buffer-left n string buffer e),
+    )
+
 -- "Reading checks 6 (the length given), then 13", in form 1.
 pub reading-row-by-row : (s : List ℕ) (n : ℕ)
     → readNumber 1 s n ≡ firstNumber (ltb 256 n gets 6 ⨾ ltb (length s) n gets 13 ⨾ not (soundBytes (wordsPart s n)) gets 13 ⨾ [])
@@ -76,6 +151,24 @@ pub reading-form-2-row-by-row : (s : List ℕ) (n : ℕ)
     (ltb (length s) 4 gets 13 ⨾ ltb 256 named gets 6 ⨾ ltb (length before) named gets 13 ⨾ not (soundBytes (wordsPart before named)) gets 13 ⨾ [])
 unfolding readNumber readRows bodyRows bodyOf lengthIn tailMissing isForm firstNumber if_then_else_ _and_ _or_
 reading-form-2-row-by-row s n = refl
+
+-- "the number comes with the words", which stand in 64 places with zeros behind them; "Refused, it gives 64 zero words and count 0.", and the separator is
+-- "empty on a refusal", in either form.
+pub what-reading-gives : (form : ℕ) (s : List ℕ) (n : ℕ)
+    → (readWords form s n .number ≡ readNumber form s n)
+    × (readNumber form s n ≡ accepted → readWords form s n .words ≡ wordsRead form s n ++ replicate (64 - readWords form s n .count) 0)
+    × (readNumber form s n ≢ accepted
+    → (readWords form s n .words ≡ replicate 64 0) × (readWords form s n .count ≡ 0) × (readSeparator form s n ≡ []))
+unfolding withWords
+what-reading-gives form s n = (
+  sym (number-read form s n (readWords form s n) refl),
+  λ e.
+      let ws = wordsOf (wordsPart (bodyOf form s) (lengthIn form s n)) in
+      rw (read-accepted form s n e) (sym (ap (λ (l : List ℕ). l ++ replicate (64 - length ws) 0) (words-used accepted ws))),
+  λ refused.
+      let none = read-refused form s n (readNumber form s n) (ne-eqb _ accepted refused) refl in
+      (ap (λ (r : WordList). r .words) none, ap (λ (r : WordList). r .count) none, separator-refused form s n refused),
+)
 
 -- An accepted call of one element does what one element does. (Longer calls are cut freely: `claims/Sessions.absorb-cut-freely` and the one behind it.)
 pub absorb-of-one : (r : Session) (x : ℕ) → absorb r (x ∷ []) .number ≡ accepted → absorb r (x ∷ []) .session ≡ absorbOne r x

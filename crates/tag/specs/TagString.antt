@@ -24,7 +24,7 @@ wordBytes [] = []
 wordBytes (w ∷ ws) = digits 256 4 w ++ wordBytes ws
 
 -- what stands behind a separator of n bytes: nothing in form 1, and in form 2 "the separator's length as four bytes, highest first". A number that is no
--- form has form 1's string, which is used nowhere: `isForm` is asked first.
+-- form has form 1's string: START, writing and reading ask `isForm` first, and `tag::write_string` alone takes any number.
 unfoldable pub tailOf : ℕ → ℕ → List ℕ
 tailOf form n = if eqb form 2 then digits 256 4 n else []
 
