@@ -166,7 +166,7 @@ fn open_session(
     let started = Session::start(field, NOTE_FORM, &words[..count], separator);
     let both = key_and_nonce(key, nonce);
     let record = started.session;
-    let absorbed = record.absorb_next(&both);
+    let absorbed = record.absorb_step(&both);
     absorbed.session
 }
 
@@ -200,7 +200,7 @@ fn seal_block(record: Session, plain: &[u32], cipher: &mut [u32]) -> Session
     let squeezed = record.squeeze_step(cipher);
     add_to(field::field_of(record.field), plain, cipher);
     let next = squeezed.session;
-    let moved = next.absorb_next(plain);
+    let moved = next.absorb_step(plain);
     moved.session
 }
 
@@ -213,7 +213,7 @@ fn open_block(record: Session, cipher: &[u32], plain: &mut [u32]) -> Session
     let squeezed = record.squeeze_step(plain);
     take_from(field::field_of(record.field), cipher, plain);
     let next = squeezed.session;
-    let absorbed = next.absorb_next(plain);
+    let absorbed = next.absorb_step(plain);
     absorbed.session
 }
 

@@ -185,55 +185,6 @@ impl Session {
         }
     }
 
-    // ABSORB too, for crates that use sessions. `absorb_next` is left to the static library as its one caller: the compiler then makes it a part of that, and
-    // a record less is copied.
-    pub fn absorb_next(self, list: &[u32]) -> Answer
-        ensures { λ r. ⌜ r ≡ absorb self (now (list .entry)) ⌝ }
-    {
-        let state = self.state;
-        let words = self.words;
-        let number = Session::call_number(
-            self.status,
-            self.field,
-            self.form,
-            &state,
-            &words,
-            self.count,
-            self.phase,
-            self.done,
-            self.absorb_position,
-            self.squeeze_position,
-            self.permutations,
-            true,
-            list.len(),
-        );
-        if number != basics::ACCEPTED {
-            return refuse(number, self);
-        }
-        let field = field::field_of(self.field);
-        if !field::is_reduced(field, list) {
-            return refuse(basics::ELEMENT_NOT_REDUCED, self);
-        }
-        let sponge = sponge::absorb(
-            field,
-            state,
-            self.absorb_position,
-            self.squeeze_position,
-            list,
-        );
-        let place = progress::place::place_after(
-            &words,
-            self.count,
-            self.phase,
-            self.done,
-            list.len(),
-        );
-        Answer {
-            number,
-            session: self.move_on(words, sponge, place),
-        }
-    }
-
     // SQUEEZE: fills a buffer with elements.
     pub fn squeeze_step(self, output: &mut [u32]) -> Answer
         ensures { λ r. ⌜ (r ≡ squeeze self (length (now (output .entry)))) ×

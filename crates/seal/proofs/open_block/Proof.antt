@@ -62,7 +62,7 @@ returns c =
       at-take .take-from .ensures
           ∙ ap (λ (f : Field). minus f cipher (at-squeeze .squeeze-step .last .1 .0)) (at-take .before .before .field-of .ensures)
           ∙ ap (minus (fieldIn r) cipher) (stream at-squeeze),
-      ap (λ (a : Answer). a .session) (c .before .absorb-next .ensures) ∙ ap (λ (a : Answer). absorb (a .session) plain .session) left,
+      ap (λ (a : Answer). a .session) (c .before .absorb-step .ensures) ∙ ap (λ (a : Answer). absorb (a .session) plain .session) left,
     )
 
 pub open-block-spec : {M : Type 1} → statement M

@@ -29,7 +29,7 @@ returns c =
     let at-start = at-both .before in
     let at-words = at-start .before .before in
     let args = at-words .before .before .before .before .before .args in
-    ap (λ (a : Answer). a .session) (c .before .absorb-next .ensures)
+    ap (λ (a : Answer). a .session) (c .before .absorb-step .ensures)
     ∙ ap₂ (λ (a : Answer) (l : List ℕ). absorb (a .session) l .session)
     (at-start .start .ensures ∙ ap (λ (ws : List ℕ). start (args .field) noteForm (opening ws (args .separator .now))) (at-words .declare .ensures))
     (at-both .key-and-nonce .ensures)

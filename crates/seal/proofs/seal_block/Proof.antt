@@ -43,7 +43,7 @@ returns c =
     let r = start .args .«record» in
     let plain = start .args .plain .now in
     let left = at-squeeze .squeeze-step .ensures .0 ∙ ap (squeeze r) (sym (start .pre .0)) in (
-      ap (λ (a : Answer). a .session) (c .before .absorb-next .ensures) ∙ ap (λ (a : Answer). absorb (a .session) plain .session) left,
+      ap (λ (a : Answer). a .session) (c .before .absorb-step .ensures) ∙ ap (λ (a : Answer). absorb (a .session) plain .session) left,
       at-add .add-to .ensures
           ∙ ap (λ (f : Field). plus f plain (at-squeeze .squeeze-step .last .1 .0)) (at-add .before .before .field-of .ensures)
           ∙ ap (plus (fieldIn r) plain) (stream at-squeeze),
