@@ -9,34 +9,61 @@ use Rattle.sponge.specs.declared.Sponge.{Sponge}
 use Rattle.session.specs.Record.{wiped, moved}
 use Rattle.session.specs.Calls.{giving, wipes}
 use Rattle.session.specs.declared.Session.{Session}
+use Rattle.session.specs.declared.Scalars.{Scalars}
 use Rattle.session.specs.declared.Answer.{Answer}
 
 -- the answer to a call that is turned away
 unfoldable pub refusedWith : ℕ → Session → Answer
 refusedWith number r = giving number (if wipes number then wiped else r)
 
--- the record of these parts
-abbrev pub recordOf : ℕ → ℕ → ℕ → List ℕ → List ℕ → ℕ → ℕ → ℕ → ℕ → ℕ → ℕ → Session
-recordOf status field form state words count phase done absorb squeeze permutations =
+-- the scalar fields of a record
+abbrev pub scalarsOf : Session → Scalars
+scalarsOf r =
     record {
-      status = status;
-      field = field;
-      form = form;
+      status = r .status;
+      field = r .field;
+      form = r .form;
+      count = r .count;
+      phase = r .phase;
+      done = r .done;
+      «absorb_position» = r .«absorb_position»;
+      «squeeze_position» = r .«squeeze_position»;
+      permutations = r .permutations;
+    }
+
+-- the record of these parts
+abbrev pub recordOf : Scalars → List ℕ → List ℕ → Session
+recordOf n state words =
+    record {
+      status = n .status;
+      field = n .field;
+      form = n .form;
       state = state;
       words = words;
-      count = count;
-      phase = phase;
-      done = done;
-      «absorb_position» = absorb;
-      «squeeze_position» = squeeze;
-      permutations = permutations;
+      count = n .count;
+      phase = n .phase;
+      done = n .done;
+      «absorb_position» = n .«absorb_position»;
+      «squeeze_position» = n .«squeeze_position»;
+      permutations = n .permutations;
     }
 
 -- the record with these words, what a call made of its sponge, and a place
 unfoldable pub movedTo : Session → List ℕ → Sponge → Place → Session
 movedTo r words s place =
-    recordOf (r .status) (r .field) (r .form) (s .state) words (r .count) (place .phase) (place .done) (s .«absorb_position») (s .«squeeze_position»)
-    (r .permutations + s .permutations)
+    record {
+      status = r .status;
+      field = r .field;
+      form = r .form;
+      state = s .state;
+      words = words;
+      count = r .count;
+      phase = place .phase;
+      done = place .done;
+      «absorb_position» = s .«absorb_position»;
+      «squeeze_position» = s .«squeeze_position»;
+      permutations = r .permutations + s .permutations;
+    }
 
 -- the record with what a call made of its sponge, n elements further on in its pattern
 unfoldable pub movedOn : Session → Sponge → ℕ → Session

@@ -5,10 +5,10 @@ ghost use mathlib.Core.Path.{_≡_};
 ghost use lib.ListN.{length};
 ghost use Rattle.basics.specs.Refusals.{firstNumber};
 ghost use Rattle.pattern.specs.Opening.{opening};
-ghost use Rattle.session.specs.Record.{opened, wiped, tagState};
+ghost use Rattle.session.specs.Record.{wiped, tagState};
 ghost use Rattle.session.specs.Soundness.{sound};
 ghost use Rattle.session.specs.Calls.{giving, recordRows, callRows, start, absorb, squeeze, squeezeBuffer, finish};
-ghost use Rattle.session.specs.Steps.{recordOf, refusedWith, movedTo, Countable};
+ghost use Rattle.session.specs.Steps.{scalarsOf, recordOf, refusedWith, movedTo, Countable};
 
 // The record of a session, laid out as C does it. Any contents at all may be handed over: a call looks at them before it uses them.
 #[repr(C)]
@@ -31,6 +31,19 @@ pub struct Session {
     pub absorb_position: u32,
     pub squeeze_position: u32,
     pub permutations: u64,
+}
+
+// The scalar fields of a record: all but its state and words.
+struct Scalars {
+    status: u32,
+    field: u32,
+    form: u32,
+    count: u32,
+    phase: u32,
+    done: u32,
+    absorb_position: u32,
+    squeeze_position: u32,
+    permutations: u64,
 }
 
 // Number 0 or a refusal's, and the record that the call leaves.
@@ -144,17 +157,9 @@ impl Session {
         let state = self.state;
         let words = self.words;
         let number = Session::call_number(
-            self.status,
-            self.field,
-            self.form,
+            Session::scalars(self),
             &state,
             &words,
-            self.count,
-            self.phase,
-            self.done,
-            self.absorb_position,
-            self.squeeze_position,
-            self.permutations,
             true,
             input.len(),
         );
@@ -193,17 +198,9 @@ impl Session {
         let state = self.state;
         let words = self.words;
         let number = Session::call_number(
-            self.status,
-            self.field,
-            self.form,
+            Session::scalars(self),
             &state,
             &words,
-            self.count,
-            self.phase,
-            self.done,
-            self.absorb_position,
-            self.squeeze_position,
-            self.permutations,
             false,
             output.len(),
         );
@@ -237,19 +234,7 @@ impl Session {
     {
         let state = self.state;
         let words = self.words;
-        let number = Session::record_number(
-            self.status,
-            self.field,
-            self.form,
-            &state,
-            &words,
-            self.count,
-            self.phase,
-            self.done,
-            self.absorb_position,
-            self.squeeze_position,
-            self.permutations,
-        );
+        let number = Session::record_number(Session::scalars(self), &state, &words);
         if number != basics::ACCEPTED {
             return refuse(number, self);
         }
@@ -259,77 +244,62 @@ impl Session {
         wipe(basics::ACCEPTED)
     }
 
-    // Whether an open record of these parts is sound. The parts are lent, here and below: a record by value would be copied for each function that is called.
-    fn is_sound(
-        field_number: u32,
-        form_number: u32,
-        state: &[u32; Session::WIDTH],
-        words: &[u32; 64],
-        count: u32,
-        phase: u32,
-        done: u32,
-        absorb_position: u32,
-        squeeze_position: u32,
-        permutations: u64,
-    ) -> bool
-        ensures { λ r. ⌜ r ≡ sound (recordOf opened «field_number» «form_number» (now (state .entry)) (now (words .entry)) count phase done «absorb_position» «squeeze_position» permutations) ⌝ }
+    // The scalar fields of a record.
+    fn scalars(session: Session) -> Scalars
+        ensures { λ r. ⌜ r ≡ scalarsOf session ⌝ }
     {
-        if !field::is_field(field_number) {
+        Scalars {
+            status: session.status,
+            field: session.field,
+            form: session.form,
+            count: session.count,
+            phase: session.phase,
+            done: session.done,
+            absorb_position: session.absorb_position,
+            squeeze_position: session.squeeze_position,
+            permutations: session.permutations,
+        }
+    }
+
+    // Whether the record of these parts is sound. State and words are lent, here and below: a whole record would be copied in each call.
+    fn is_sound(scalars: Scalars, state: &[u32; Session::WIDTH], words: &[u32; 64]) -> bool
+        ensures { λ r. ⌜ r ≡ sound (recordOf scalars (now (state .entry)) (now (words .entry))) ⌝ }
+    {
+        if !field::is_field(scalars.field) {
             return false;
         }
-        if !tag::is_form(form_number) {
+        if !tag::is_form(scalars.form) {
             return false;
         }
-        if !sound_words::places_sound(words, count) {
+        if !sound_words::places_sound(words, scalars.count) {
             return false;
         }
-        if !progress::place::is_sound(words, count, phase, done) {
+        if !progress::place::is_sound(words, scalars.count, scalars.phase, scalars.done) {
             return false;
         }
-        if !field::is_reduced(field::field_of(field_number), state) {
+        if !field::is_reduced(field::field_of(scalars.field), state) {
             return false;
         }
-        if permutations != counters::permutations::permutations_at(words, phase, done) {
+        if scalars.permutations
+            != counters::permutations::permutations_at(words, scalars.phase, scalars.done)
+        {
             return false;
         }
-        let positions = counters::positions::positions_at(words, phase, done);
-        if absorb_position != positions.absorb {
+        let positions = counters::positions::positions_at(words, scalars.phase, scalars.done);
+        if scalars.absorb_position != positions.absorb {
             return false;
         }
-        squeeze_position == positions.squeeze
+        scalars.squeeze_position == positions.squeeze
     }
 
     // The rows about the record: open, and sound.
-    fn record_number(
-        status: u32,
-        field_number: u32,
-        form_number: u32,
-        state: &[u32; Session::WIDTH],
-        words: &[u32; 64],
-        count: u32,
-        phase: u32,
-        done: u32,
-        absorb_position: u32,
-        squeeze_position: u32,
-        permutations: u64,
-    ) -> u32
-        ensures { λ r. ⌜ r ≡ firstNumber (recordRows (recordOf status «field_number» «form_number» (now (state .entry)) (now (words .entry)) count phase done «absorb_position» «squeeze_position» permutations)) ⌝ }
+    fn record_number(scalars: Scalars, state: &[u32; Session::WIDTH], words: &[u32; 64]) -> u32
+        ensures { λ r. ⌜ r ≡ firstNumber (recordRows (recordOf scalars (now (state .entry)) (now (words .entry)))) ⌝ }
     {
-        if status != OPEN {
+        if scalars.status != OPEN {
             return basics::RECORD_NOT_OPEN;
         }
-        if !Session::is_sound(
-            field_number,
-            form_number,
-            state,
-            words,
-            count,
-            phase,
-            done,
-            absorb_position,
-            squeeze_position,
-            permutations,
-        ) {
+        if !Session::is_sound(scalars, state, words) {
             return basics::RECORD_NOT_SOUND;
         }
         basics::ACCEPTED
@@ -337,42 +307,29 @@ impl Session {
 
     // The rows of a call of so many elements of a kind, which ABSORB and SQUEEZE share.
     fn call_number(
-        status: u32,
-        field_number: u32,
-        form_number: u32,
+        scalars: Scalars,
         state: &[u32; Session::WIDTH],
         words: &[u32; 64],
-        count: u32,
-        phase: u32,
-        done: u32,
-        absorb_position: u32,
-        squeeze_position: u32,
-        permutations: u64,
         absorbs: bool,
         elements: usize,
     ) -> u32
-        ensures { λ r. ⌜ r ≡ firstNumber (callRows absorbs elements (recordOf status «field_number» «form_number» (now (state .entry)) (now (words .entry)) count phase done «absorb_position» «squeeze_position» permutations)) ⌝ }
+        ensures { λ r. ⌜ r ≡ firstNumber (callRows absorbs elements (recordOf scalars (now (state .entry)) (now (words .entry)))) ⌝ }
     {
-        let number = Session::record_number(
-            status,
-            field_number,
-            form_number,
-            state,
-            words,
-            count,
-            phase,
-            done,
-            absorb_position,
-            squeeze_position,
-            permutations,
-        );
+        let number = Session::record_number(scalars, state, words);
         if number != basics::ACCEPTED {
             return number;
         }
         if elements == 0 {
             return basics::ACCEPTED;
         }
-        if progress::place::in_pattern(words, count, phase, done, absorbs, elements) {
+        if progress::place::in_pattern(
+            words,
+            scalars.count,
+            scalars.phase,
+            scalars.done,
+            absorbs,
+            elements,
+        ) {
             return basics::ACCEPTED;
         }
         basics::CALL_NOT_IN_PATTERN

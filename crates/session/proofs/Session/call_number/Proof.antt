@@ -13,8 +13,7 @@ use Rattle.session.proofs.Session.call_number.Tie as tie
 abbrev self : tie.Else1 → Session
 self c =
     let a = c .before .before .args in
-    recordOf (a .status) (a .field-number) (a .form-number) (now (a .state)) (now (a .words)) (a .count) (a .phase) (a .done) (a .absorb-position)
-    (a .squeeze-position) (a .permutations)
+    recordOf (a .scalars) (now (a .state)) (now (a .words))
 
 -- behind the rows about the record
 passed : (c : tie.Else1) → OpenSound (self c)

@@ -15,7 +15,7 @@ use Rattle.counters.specs.Permutations.{permutationsAt}
 use Rattle.counters.specs.Positions.{positionsAt}
 use Rattle.progress.specs.Place.{soundPlace}
 use Rattle.counters.specs.declared.positions.Positions.{Positions}
-use Rattle.session.specs.Record.{opened, fieldIn}
+use Rattle.session.specs.Record.{fieldIn}
 use Rattle.session.specs.Soundness.{sound}
 use Rattle.session.specs.Steps.{recordOf}
 use Rattle.session.specs.declared.Session.{Session}
@@ -27,8 +27,7 @@ use Rattle.session.proofs.Session.is_sound.Tie as tie
 abbrev self : tie.Else1 → Session
 self c =
     let a = c .before .before .args in
-    recordOf opened (a .field-number) (a .form-number) (now (a .state)) (now (a .words)) (a .count) (a .phase) (a .done) (a .absorb-position)
-    (a .squeeze-position) (a .permutations)
+    recordOf (a .scalars) (now (a .state)) (now (a .words))
 
 -- the branch behind each test, from that behind a later one
 abbrev at-1 : tie.Else2 → tie.Else1
@@ -44,10 +43,10 @@ abbrev at-4 : tie.Else5 → tie.Else4
 at-4 c = c .before .before .before .before
 
 abbrev at-5 : tie.Else6 → tie.Else5
-at-5 c = c .before .before .before
+at-5 c = c .before .before .before .before
 
 abbrev at-6 : tie.Else7 → tie.Else6
-at-6 c = c .before .before .before .before
+at-6 c = c .before .before .before .before .before
 
 abbrev first : tie.Else3 → tie.Else1
 first c = at-1 (at-2 c)
@@ -76,11 +75,11 @@ passed-5 c = sym (reduced (c .before)) ∙ not-false _ (c .if5 .left)
 
 passed-6 : (c : tie.Else6)
     → let r = self (first (at-3 (at-4 (at-5 c)))) in eqb (r .permutations) (permutationsAt (r .words) (r .phase) (r .done)) ≡ true
-passed-6 c = eq-eqb _ _ (c .if6 .left ∙ c .before .permutations-at .ensures)
+passed-6 c = eq-eqb _ _ (c .if6 .left ∙ c .before .before .permutations-at .ensures)
 
 passed-7 : (c : tie.Else7)
     → let r = self (first (at-3 (at-4 (at-5 (at-6 c))))) in eqb (r .«absorb_position») (positionsAt (r .words) (r .phase) (r .done) .absorb) ≡ true
-passed-7 c = eq-eqb _ _ (c .if7 .left ∙ ap (λ (at : Positions). at .absorb) (c .before .before .positions-at .ensures))
+passed-7 c = eq-eqb _ _ (c .if7 .left ∙ ap (λ (at : Positions). at .absorb) (c .before .before .before .positions-at .ensures))
 
 returns : tie.Need-returns
 unfolding sound
@@ -124,20 +123,20 @@ returns-5 c =
 returns-6 : tie.Need-returns-6
 unfolding sound
 returns-6 c =
-    let at = c .before .before .before in
+    let at = c .before .before .before .before in
     sym
     (and-step _ _ (passed-1 (first (at-3 (at-4 at))))
     ∙ and-step _ _ (passed-2 (at-2 (at-3 (at-4 at))))
     ∙ and-step _ _ (passed-3 (at-3 (at-4 at)))
     ∙ and-step _ _ (passed-4 (at-4 at))
     ∙ and-step _ _ (passed-5 at)
-    ∙ and-stop _ _ (ne-eqb _ _ (λ e. c .if6 .taken (e ∙ sym (c .before .permutations-at .ensures)))))
+    ∙ and-stop _ _ (ne-eqb _ _ (λ e. c .if6 .taken (e ∙ sym (c .before .before .permutations-at .ensures)))))
 
 returns-7 : tie.Need-returns-7
 unfolding sound
 returns-7 c =
-    let at = c .before .before .before .before in
-    let position = ap (λ (at : Positions). at .absorb) (c .before .before .positions-at .ensures) in
+    let at = c .before .before .before .before .before in
+    let position = ap (λ (at : Positions). at .absorb) (c .before .before .before .positions-at .ensures) in
     sym
     (and-step _ _ (passed-1 (first (at-3 (at-4 (at-5 at)))))
     ∙ and-step _ _ (passed-2 (at-2 (at-3 (at-4 (at-5 at)))))
@@ -150,10 +149,10 @@ returns-7 c =
 returns-8 : tie.Need-returns-8
 unfolding sound
 returns-8 c =
-    let last = c .before in
+    let last = c .before .before in
     let at = at-6 last in
     let r = self (first (at-3 (at-4 (at-5 at)))) in
-    ap (λ (at : Positions). eqb (r .«squeeze_position») (at .squeeze)) (last .before .before .positions-at .ensures)
+    ap (λ (at : Positions). eqb (r .«squeeze_position») (at .squeeze)) (last .before .before .before .positions-at .ensures)
     ∙ sym
     (and-step _ _ (passed-1 (first (at-3 (at-4 (at-5 at)))))
     ∙ and-step _ _ (passed-2 (at-2 (at-3 (at-4 (at-5 at)))))

@@ -13,7 +13,7 @@ use borrow.Author.Needs.{needs}
 use Rattle.session.proofs.Session.record_number.Statement.{statement}
 use Rattle.session.proofs.Session.record_number.Tie as tie
 
-passed : (c : tie.Else1) → not (eqb (c .before .args .status) opened) ≡ false
+passed : (c : tie.Else1) → not (eqb (c .before .before .args .scalars .status) opened) ≡ false
 passed c = ap not (eq-eqb _ 1 (c .if1 .left))
 
 returns : tie.Need-returns
