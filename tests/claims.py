@@ -8,7 +8,7 @@
 
 `write` writes what documents have from the tree itself: into docs/CLAIMS.md the table of what each contract rules out, by the line `of:` of every
 must-fail edit, and how many lines there are to read; into README.md the closing lines of the gate and of `rt check cards`. `test` fails where a document has not what
-`write` would write, where an edit names no contract, or one that is not in the tree, where a public function has no `ensures`, has a `requires` or a
+`write` would write, where an edit names no contract, or one that is not in the tree, or changes a text that its file has not or has twice, where a public function has no `ensures`, has a `requires` or a
 `ghost`, under which it might say nothing, or has fewer than two edits, where a public constant is not the figure of its row in docs/CLAIMS.md, or
 that row not what the papers and the definition say, where docs/ARCHITECTURE.md lacks a crate or has it below one that it depends on, and where a
 name that a document cites is not in the tree. tests/public.py says what is public, and fails on source that it does not read; tests/figures.py is
@@ -37,8 +37,8 @@ WORDS = {"requires", "ensures", "bool", "u32", "permutations", "axioms=", "nativ
          "Pattern.antt", "specs/", "proofs/", "src/", "must-fail/"}
 # what the table says before edits of a function, by the folders that they change; a proof may follow a definition, so that a theorem refuses it
 CHANGES = {("src",): "", ("specs", "src"): "of program and definition: ", ("specs",): "of the definition: ", ("proofs", "specs"): "of the definition: "}
-# of a must-fail edit: its name, the contracts and theorems that rule it out, and the folders that it changes
-Edit = namedtuple("Edit", "name contracts changes")
+# of a must-fail edit: its name, the contracts and theorems that rule it out, the folders that it changes, and what it puts for what in which files
+Edit = namedtuple("Edit", "name contracts changes replacements")
 
 
 # ---- what is in the tree, in the order of crates.txt
@@ -57,7 +57,19 @@ def edits():
             lines = read(path).splitlines()
             contracts = [name for line in lines if line.startswith("of: ") for name in line[4:].split(", ")]
             folders = {line[6:].split("/")[0] for line in lines if line.startswith("file: ")}
-            yield Edit(f"{crate}/{os.path.basename(path)[:-5]}", contracts, tuple(sorted(folders)))
+            yield Edit(f"{crate}/{os.path.basename(path)[:-5]}", contracts, tuple(sorted(folders)), list(replacements(crate, lines)))
+
+
+def replacements(crate, lines):
+    """Of an edit's lines: each file, the text in it, and the other that is put in its place."""
+    path = old = ""
+    for line in lines:
+        if line.startswith("file: "):
+            path = f"crates/{crate}/{line[6:]}"
+        elif line.startswith("old: "):
+            old = line[5:]
+        elif line.startswith("new:"):
+            yield path, old, line[4:].removeprefix(" ")
 
 
 def statements(crate):
@@ -167,6 +179,16 @@ def not_found():
                 yield f"{document}: not in the tree: {name}"
 
 
+def not_once(edit):
+    """Texts that the edit's files do not have exactly once, so that the gate could not try it."""
+    texts = {}
+    for path, old, new in edit.replacements:
+        text = texts.setdefault(path, read(path) if files(path) else "")
+        if text.count(old) != 1:
+            yield f"{edit.name}: {text.count(old)} times in {path}: {old}"
+        texts[path] = text.replace(old, new)
+
+
 def untried():
     known, tried = set(contracts()), list(edits())
     for edit in tried:
@@ -175,6 +197,7 @@ def untried():
         yield from (f"{edit.name}: not in the tree: {name}" for name in edit.contracts if name not in known)
         if edit.changes not in CHANGES:
             yield f"{edit.name}: changes neither program nor definition"
+        yield from not_once(edit)
     for function in public_functions():
         yield from (f"{function.name} is public and has a `{word}`" for word in function.words if word != "ensures")
         if "ensures" not in function.words:
@@ -226,6 +249,7 @@ def mistakes():
         ("crates/field/must-fail/sum_of_first.edit", "of: field::add\n", "of: field::sum\n", "field/sum_of_first: not in the tree: field::sum"),
         ("crates/field/must-fail/wide_product_of_first.edit", "of: field::wide_mul\n", "of: field::mul\n", "fewer than two edits of field::wide_mul"),
         ("crates/field/must-fail/sum_of_first.edit", "file: src/", "file: proofs/", "changes neither"),
+        ("crates/field/must-fail/sum_of_first.edit", "old: ", "old: untold ", "field/sum_of_first: 0 times in crates/field/src/lib.rt"),
         ("crates/field/src/lib.rt", "\npub fn ", "\npub fn untold() {}\n\npub fn ", "fewer than two edits of field::untold"),
         *public_mistakes(),
         *figures.MISTAKES,
