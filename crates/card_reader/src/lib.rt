@@ -1,4 +1,5 @@
 // Reads a card line: its separator and its words.
+#![tactic(auto)]
 ghost use Rattle.std.specs.Prelude.{◌≡◌, ◌+◌, ◌≤◌, ltb, length, set};
 ghost use Rattle.basics.specs.Logic.{if◌then◌else◌};
 ghost use Rattle.card_grammar.specs.Grammar.{none};
@@ -12,7 +13,7 @@ pub const MAX_LINE: usize = 2048;
 
 // A card's separator and words, with zeros behind them. Each has one place more than START takes: a longer one is cut to that, and START
 // turns it away all the same. For a line that is no card all is 0.
-#[derive(Drop)]
+#[derive(Clone, Copy)]
 pub struct Card {
     pub is_card: bool,
     pub separator: [u8; 257],

@@ -1,4 +1,5 @@
 // Answers the card lines of standard input on standard output, a line each, in the order of the input. Document 01, "Cards".
+#![tactic(auto)]
 ghost use Rattle.std.specs.Prelude.{◌≡◌, true, ◌≤◌, length};
 ghost use Rattle.card_lines.specs.Calls.{kept_of, next_kept, piece_kept};
 
@@ -6,7 +7,7 @@ use card_lines::Fed;
 use libc::{STDERR_FILENO, STDIN_FILENO, STDOUT_FILENO};
 
 // What the next call goes on with, and whether all output could be written.
-#[derive(Drop)]
+#[derive(Clone, Copy)]
 struct State {
     fed: Fed,
     is_written: bool,

@@ -6,7 +6,7 @@ ghost use Rattle.counters.specs.Positions.{in_last_block, positions_after, posit
 const RATE: u32 = 8;
 
 // An absorb and a squeeze position.
-#[derive(Drop)]
+#[derive(Clone, Copy)]
 pub struct Positions {
     pub absorb: u32,
     pub squeeze: u32,

@@ -1,4 +1,5 @@
 // Words cut into calls that a pattern may declare.
+#![tactic(auto)]
 ghost use Rattle.std.specs.Prelude.{◌≡◌, ◌∷◌, ◌<◌, ltb, length, get_or};
 ghost use Rattle.basics.specs.Logic.{◌and◌};
 ghost use Rattle.cutting.specs.Cutting.{cut_answer};
@@ -7,7 +8,7 @@ ghost use Rattle.cutting.specs.Steps.{first_call, calls_left};
 use pattern::{MAX_CALL, MAX_WORDS, WordList};
 
 // Where cutting is: at a place of the words, with so much left of the word there.
-#[derive(Drop)]
+#[derive(Clone, Copy)]
 struct Cursor {
     place: usize,
     left: u32,

@@ -1,11 +1,12 @@
 // Arithmetic modulo p in either of two fields. Every function takes all numbers of its type, below p or not.
+#![tactic(auto)]
 ghost use Rattle.std.specs.Prelude.{◌≡◌, ◌+◌, ◌*◌, ◌%◌, ◌^◌};
 ghost use Rattle.basics.specs.Logic.{all};
 ghost use Rattle.field.specs.declared.Field.TheVariants.{BabyBear, KoalaBear};
 ghost use Rattle.field.specs.Field.{modulus, power, partial_rounds, is_field, field_of, is_element};
 
 // The two fields.
-#[derive(Drop)]
+#[derive(Clone, Copy)]
 pub enum Field {
     BabyBear,
     KoalaBear,

@@ -1,4 +1,5 @@
 // The generator of the round constants (Grain).
+#![tactic(auto)]
 mod tables;
 
 ghost use Rattle.std.specs.Prelude.{◌≡◌, ◌-◌, ◌<◌, length, drop, replicate};
@@ -16,7 +17,7 @@ const DROPPED: usize = 160;
 const LIMIT: usize = 262144;
 
 // Number 0 with the constants of a field, zeros behind them and how many they are; or number 18 with zeros alone, and none found.
-#[derive(Drop)]
+#[derive(Clone, Copy)]
 pub struct Generated {
     pub number: u32,
     pub constants: [u32; 744],
@@ -24,14 +25,14 @@ pub struct Generated {
 }
 
 // Where the generator stands: the register, oldest bit first, and how many new bits may still be taken.
-#[derive(Drop)]
+#[derive(Clone, Copy)]
 struct Source {
     register: [u8; 80],
     left: usize,
 }
 
 // The next output bit and the source behind it, if there is one.
-#[derive(Drop)]
+#[derive(Clone, Copy)]
 struct Output {
     present: bool,
     bit: u8,
@@ -39,7 +40,7 @@ struct Output {
 }
 
 // The next candidate and the source behind it, if there is one.
-#[derive(Drop)]
+#[derive(Clone, Copy)]
 struct Candidate {
     present: bool,
     value: u32,

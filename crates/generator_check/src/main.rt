@@ -1,6 +1,7 @@
 // Runs the generator for field numbers, and prints what it answers and some places of the list; compares the tables of round constants with
 // it: at how many places they differ. Then runs it from either field's register with other moduli, limits and numbers of places lent.
 // stdout is what tests/constants.py prints, out of the second implementation.
+#![tactic(auto)]
 
 ghost use Rattle.std.specs.Prelude.{◌≤◌};
 

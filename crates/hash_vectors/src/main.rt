@@ -1,6 +1,7 @@
 // Prints digests, each behind the number of bytes of its message: of five messages whose digests NIST has published, and of the first n
 // bytes of a fixed pattern, for n from 0 to 300 and from 511 to 513. Byte i of the pattern is (5 i + i / 3 + i / 7) mod 256.
 // stdout is what tests/digests.py prints: the digests of another implementation, Python's hashlib, held there to the published ones.
+#![tactic(auto)]
 
 ghost use Rattle.std.specs.Prelude.{◌<◌};
 

@@ -1,4 +1,5 @@
 // Fields of hexadecimal digits out of a text, as the stored inputs have them: the bytes that a field writes, and bytes as words.
+#![tactic(auto)]
 ghost use Rattle.std.specs.Prelude.{◌≡◌, ◌≤◌, ◌<◌, length};
 ghost use Rattle.hex_fields.specs.Fields.{digit_value, pair_byte, is_pair, place_behind, field_at, field_words};
 
@@ -8,7 +9,7 @@ use basics::bytes::big_endian;
 const MAX_BYTES: usize = 2048;
 
 // The bytes that a field writes, with zeros behind them; how many it writes; and the place behind it and the byte that ends it.
-#[derive(Drop)]
+#[derive(Clone, Copy)]
 pub struct Field {
     pub bytes: [u8; 2048],
     pub count: usize,

@@ -1,6 +1,7 @@
 // Montgomery's reduction by 2^32, and powers by it, for any modulus. Nothing divides by the modulus. Every function takes any numbers: sums wrap round,
 // and a contract says under which conditions the result is the one that is wanted.
 // Factors are cut to 32 bits, though most have no more, so that the compiler sees that one 32-bit product of two lanes is enough.
+#![tactic(auto)]
 ghost use Rattle.std.specs.Prelude.{◌≡◌};
 ghost use Rattle.montgomery.specs.Montgomery.{low_product, folded, Reduced, ReducedAny, Multiplied, RaisedSmall, Raised};
 

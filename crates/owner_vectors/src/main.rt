@@ -1,6 +1,7 @@
 // Checks the tables of standard input, asks each for the owner of a separator, and prints the answers. tests/owners.py says how lines
 // are laid out; stdin is what it makes, and stdout what the second implementation answers to it, in Python, written from the papers by
 // other hands (tests/oracle).
+#![tactic(auto)]
 
 ghost use Rattle.std.specs.Prelude.{◌≡◌, ◌<◌, length};
 

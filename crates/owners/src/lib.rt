@@ -1,4 +1,5 @@
 // Who owns which separators: a table lent as bytes, ten a row, checked and asked.
+#![tactic(auto)]
 ghost use Rattle.std.specs.Prelude.{◌≡◌, [], ◌∷◌, ◌+◌, ◌*◌, ◌/◌, ◌≤◌, ◌<◌, length, take, drop};
 ghost use Rattle.basics.specs.Digits.{number};
 ghost use Rattle.owners.specs.Owners.{row_of, table_of, row_count, at_fault, first_fault, holds, least_free, line_of, checked, asked, value_of};
@@ -15,7 +16,7 @@ pub const MAX_ROWS: usize = 128;
 const NUMBER_COUNT: u64 = 0x1_0000_0000;
 
 // A row: the product line owns the numbers from the first to the last.
-#[derive(Drop)]
+#[derive(Clone, Copy)]
 pub struct OwnerRow {
     pub first: u32,
     pub last: u32,
@@ -24,7 +25,7 @@ pub struct OwnerRow {
 
 // The answer to a table that is checked: with number 15 the place is the first row at fault, counted from 1, with 16 the least number
 // that no row holds, and with 0 it is 0.
-#[derive(Drop)]
+#[derive(Clone, Copy)]
 pub struct Checked {
     pub number: u32,
     pub place: u32,
@@ -32,7 +33,7 @@ pub struct Checked {
 
 // The answer to a table that is asked for a separator: with number 0 the product line, with 15 and 16 the place as of `Checked`; what does
 // not come with a number is 0.
-#[derive(Drop)]
+#[derive(Clone, Copy)]
 pub struct Asked {
     pub number: u32,
     pub place: u32,

@@ -1,4 +1,5 @@
 // Patterns: the start check, which merges.
+#![tactic(auto)]
 mod pass;
 
 ghost use Rattle.std.specs.Prelude.{◌≡◌, []};
@@ -15,7 +16,7 @@ pub const MAX_CALL: u32 = 16777216;
 pub const MAX_SEPARATOR: usize = 256;
 
 // Number 0 and words, merged or cut, with unused places 0; or another number and no words.
-#[derive(Drop)]
+#[derive(Clone, Copy)]
 pub struct WordList {
     pub number: u32,
     pub words: [u32; 64],

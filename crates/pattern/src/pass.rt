@@ -12,7 +12,7 @@ use crate::{MAX_CALL, MAX_WORDS};
 const BETWEEN_2_AND_3: u64 = 5;
 
 // What the pass holds beside the list of merged words: a number, or 0 and how many words the list has.
-#[derive(Drop)]
+#[derive(Clone, Copy)]
 pub(crate) struct Held {
     pub(crate) number: u32,
     pub(crate) count: usize,

@@ -2,6 +2,7 @@
 // A line of input is a field number and a state: 25 numbers of ten digits, zeros in front, one byte behind each; 238 lines at most.
 // stdin is what tests/permutation_states.py makes, and stdout what the second implementation answers to it, in Python, written from
 // the papers by other hands (tests/oracle).
+#![tactic(auto)]
 
 ghost use Rattle.std.specs.Prelude.{◌<◌};
 

@@ -1,5 +1,6 @@
 // The Poseidon permutation of 24 field elements, in either field. It is computed in Montgomery's form, with the partial rounds in their sparse form; that it
 // is the definition's is proved for the tables of each field, which callers who permute several times make once and lend.
+#![tactic(auto)]
 ghost use Rattle.std.specs.Prelude.{◌≡◌, ◌%◌, ◌≤◌};
 ghost use Rattle.field.specs.Field.{modulus, power};
 ghost use Rattle.field.specs.declared.Field.TheVariants.{BabyBear, KoalaBear};
@@ -10,7 +11,7 @@ ghost use Rattle.poseidon.specs.Steps.{remainders, negated_inverse, high_weight,
 use field::Field;
 
 // Number 0 and the permuted state, or number 18 or 10 and the state as it came.
-#[derive(Drop)]
+#[derive(Clone, Copy)]
 pub struct Permuted {
     pub number: u32,
     pub state: [u32; 24],
@@ -18,7 +19,7 @@ pub struct Permuted {
 
 // What a permutation reads: the matrix in blocks and the pre-sparse matrix, the columns and rows of the partial rounds, the constants of element 0 in these, what
 // the other rounds add, and copies of the modulus' numbers.
-#[derive(Drop)]
+#[derive(Clone, Copy)]
 pub struct Tables {
     pub matrix: [u32; 432],
     pub pre_sparse: [u32; 576],

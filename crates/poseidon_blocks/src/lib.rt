@@ -1,20 +1,21 @@
 // A matrix of 24 rows whose entries depend on the sum of row and column alone, times a state, modulo m. Of its four blocks of 12 rows two are one, so that
 // three blocks do: 432 products for 576. A block is a table of pairs of diagonals, and a half of the state stands twice one behind the other, as in
 // poseidon_matrix.
+#![tactic(auto)]
 ghost use Rattle.std.specs.Prelude.{◌≡◌, ◌+◌, ◌*◌, ◌%◌, ◌<◌, ◌≤◌, slice_index};
 ghost use Rattle.montgomery.specs.Montgomery.{low_product};
 ghost use Rattle.poseidon_rounds.specs.Places.{Each};
 ghost use Rattle.poseidon_blocks.specs.Blocks.{PartialSum, Closed, TwoRows, Lowered, Product};
 
 // A sum of products of 64 bits, their low 48 and high 16 bits apart.
-#[derive(Drop)]
+#[derive(Clone, Copy)]
 struct Parts {
     low: u64,
     high: u64,
 }
 
 // Row i of the first 12 rows, and of the last.
-#[derive(Drop)]
+#[derive(Clone, Copy)]
 struct Two {
     first: u64,
     last: u64,

@@ -3,7 +3,7 @@ ghost use Rattle.std.specs.Prelude.{◌≡◌};
 ghost use Rattle.progress.specs.Place.{sound_place, in_pattern, place_after};
 
 // A phase number, from 0, and how many elements of that phase are done.
-#[derive(Drop)]
+#[derive(Clone, Copy)]
 pub struct Place {
     pub phase: u32,
     pub done: u32,

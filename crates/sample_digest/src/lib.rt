@@ -1,1 +1,2 @@
 // No function: one digest, computed.
+#![tactic(auto)]

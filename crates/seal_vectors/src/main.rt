@@ -1,6 +1,7 @@
 // Seals and opens the notes of standard input, and prints each answer's number and the buffer that it leaves. A line is s or o, and then field number, key,
 // nonce, separator, block lengths, text and the buffer's length as hexadecimal digits; stdout is what the second implementation answers to stdin, in Python, written from
 // the papers by other hands (tests/oracle).
+#![tactic(auto)]
 
 ghost use Rattle.std.specs.Prelude.{◌≡◌, ◌≤◌, ◌<◌, length};
 
@@ -25,7 +26,7 @@ fn print_answer(number: u32, buffer: &[u32; 512], count: usize) {
 }
 
 // The words of a field, how many they are, and the place behind it.
-#[derive(Drop)]
+#[derive(Clone, Copy)]
 struct Words {
     list: [u32; 512],
     count: usize,

@@ -1,4 +1,5 @@
 // Sessions: START, ABSORB, SQUEEZE and FINISH over a record that goes from call to call by value.
+#![tactic(auto)]
 ghost use Rattle.std.specs.Prelude.{◌≡◌, length};
 ghost use Rattle.basics.specs.Refusals.{first_number};
 ghost use Rattle.pattern.specs.Opening.{opening};
@@ -12,7 +13,7 @@ use sponge::Sponge;
 
 // The record of a session, laid out as C does it. Any contents at all may be handed over: a call looks at them before it uses them.
 #[repr(C)]
-#[derive(Drop)]
+#[derive(Clone, Copy)]
 pub struct Session {
     // OPEN, otherwise closed
     pub status: u32,
@@ -35,7 +36,7 @@ pub struct Session {
 }
 
 // The scalar fields of a record: all but its state and words.
-#[derive(Drop)]
+#[derive(Clone, Copy)]
 struct Scalars {
     status: u32,
     field: u32,
@@ -49,7 +50,7 @@ struct Scalars {
 }
 
 // Number 0 or a refusal's, and the record that the call leaves.
-#[derive(Drop)]
+#[derive(Clone, Copy)]
 pub struct Answer {
     pub number: u32,
     pub session: Session,

@@ -1,11 +1,12 @@
 // Runs the calls of standard input through the library, carries the record from call to call, and prints what each call answers.
 // tests/sessions.py says how lines are laid out; stdin is what it makes, and stdout what the second implementation answers to it, in
 // Python, written from the papers by other hands (tests/oracle).
+#![tactic(auto)]
 
 ghost use Rattle.std.specs.Prelude.{◌≡◌, ◌≤◌, ◌<◌, length};
 
 // The record that a line leaves, and the place behind the line.
-#[derive(Drop)]
+#[derive(Clone, Copy)]
 struct Step {
     record: session::Session,
     next: usize,

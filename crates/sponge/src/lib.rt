@@ -1,4 +1,5 @@
 // The sponge, element by element: SAFE's state, with an absorb and a squeeze position from 0 to 8.
+#![tactic(auto)]
 ghost use Rattle.std.specs.Prelude.{◌≡◌, ◌+◌, length, get_or};
 ghost use Rattle.poseidon.specs.Permutation.{parameters};
 ghost use Rattle.poseidon.specs.Tables.{tables_from, tables_of};
@@ -11,7 +12,7 @@ use field::Field;
 const RATE: u32 = 8;
 
 // What SAFE keeps: the state, both positions, and a count of permutations. `absorb` and `squeeze` count those of one call.
-#[derive(Drop)]
+#[derive(Clone, Copy)]
 pub struct Sponge {
     pub state: [u32; 24],
     pub absorb_position: u32,

@@ -1,4 +1,5 @@
 // Tag strings, written.
+#![tactic(auto)]
 mod bytes;
 
 ghost use Rattle.std.specs.Prelude.{◌≡◌, length};
@@ -15,7 +16,7 @@ pub const FORM_1: u32 = 1;
 pub const FORM_2: u32 = 2;
 
 // Number 0 and the length of the string that was written; or another number and 0.
-#[derive(Drop)]
+#[derive(Clone, Copy)]
 pub struct Written {
     pub number: u32,
     pub length: usize,

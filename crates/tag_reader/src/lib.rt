@@ -1,4 +1,5 @@
 // Tag strings, read back; and the elements cut from a tag string's digest.
+#![tactic(auto)]
 mod bytes;
 
 ghost use Rattle.std.specs.Prelude.{◌≡◌, false, ◌+◌, ◌-◌, ◌≤◌, length};
@@ -12,7 +13,7 @@ use pattern::WordList;
 
 // What reading a tag string gives: the number, the merged words as `pattern::WordList` has them, and of the separator where it begins in the
 // string and its length. Refused, the separator is the empty part at the string's end.
-#[derive(Drop)]
+#[derive(Clone, Copy)]
 pub struct Parts {
     pub number: u32,
     pub words: [u32; 64],

@@ -1,6 +1,7 @@
 // Checks, writes, cuts and reads the patterns and tag strings of standard input, and prints the answers. tests/tags.py says how lines are
 // laid out; stdin is what it makes, and stdout what the second implementation answers to it, in Python, written from document 01 by
 // other hands (tests/oracle).
+#![tactic(auto)]
 
 ghost use Rattle.std.specs.Prelude.{◌≤◌, ◌<◌, length};
 

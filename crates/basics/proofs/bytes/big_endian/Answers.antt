@@ -1,0 +1,9 @@
+-- `basics::bytes::big_endian` meets its contract.
+-- Assumes nothing.
+use native.Mathlib.Omega.{arith}
+use Rattle.basics.specs.Digits.{number, number_after}
+use Rattle.basics.proofs.bytes.big_endian.Goals as goal
+
+pub returns : goal.returns
+unfolding number number_after
+returns c = omega arith

@@ -1,0 +1,40 @@
+-- `counters::permutations::whole_phase` meets its contract.
+-- Assumes nothing.
+use mathlib.Core.Path.{◌≡◌, sym, ap, ◌∙◌}
+use Prim.Native.Nat.{ℕ, ◌+◌, ◌-◌, ◌/◌}
+use borrow.Author.Tests.{ne_eqb}
+use Rattle.basics.proofs.Cases.{if_true, if_false}
+use Rattle.words.specs.Words.{length_of}
+use Rattle.words.proofs.WordKinds.{length_below}
+use Rattle.counters.specs.Permutations.{block_count, phase_permutations}
+use Rattle.counters.proofs.PermutationCounts.{none_done}
+use borrow.Author.Rules.{rules}
+use Rattle.counters.proofs.permutations.whole_phase.Goals as goal
+
+pub returns-then-length-eq0 : goal.returns-then-length-eq0
+returns-then-length-eq0 c =
+    let word = c.args.word in
+    sym (ap (phase_permutations word) (sym c.length_of-length.ensures ∙ c.if-length-eq0.true) ∙ none_done word)
+
+pub overflow_add-squeezed : goal.overflow_add-squeezed
+overflow_add-squeezed c =
+    let below = length_below c.args.word in
+    let length = c.length_of-length.ensures in
+    search rules
+
+-- the word's length, which is not 0
+long : (c : tie.After-is-absorb) → c.length_of-length.result ≡ length_of c.args.word
+long c = c.length_of-length.ensures
+
+pub returns-then-is_absorb : goal.returns-then-is_absorb
+unfolding phase_permutations block_count
+returns-then-is_absorb c =
+    let absorbs = sym c.is_absorb.ensures ∙ c.if-is_absorb.true in
+    ap (λ (n : ℕ). (n + 7) / 8 - 1) (long c)
+    ∙ sym (if_true _ _ _ absorbs ∙ if_false _ _ _ (ne_eqb _ 0 (λ z. c.if-length-eq0.false (long c ∙ z))))
+
+pub returns-else-is_absorb : goal.returns-else-is_absorb
+unfolding phase_permutations block_count
+returns-else-is_absorb c =
+    let squeezes = sym c.is_absorb.ensures ∙ c.if-is_absorb.false in
+    ap (λ (n : ℕ). (n + 7) / 8) (long c) ∙ sym (if_false _ _ _ squeezes)

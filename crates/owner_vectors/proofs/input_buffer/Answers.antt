@@ -1,0 +1,9 @@
+-- `owner_vectors::input_buffer` is safe and ends.
+-- Assumes nothing.
+use mathlib.Core.Path.{sym}
+use Prim.Native.Nat.{ℕ}
+use lib.ListN.{length-replicate}
+use Rattle.owner_vectors.proofs.input_buffer.Goals as goal
+
+pub returns : goal.returns
+returns c = sym (length-replicate {0} {A = ℕ} 524288 0)

@@ -1,0 +1,7 @@
+use Prim.Native.Nat.{◌-◌}
+use lib.ListN.{length, replicate}
+use Rattle.seal.proofs.Overwrite.{Over}
+use Rattle.seal.proofs.clear.Given as goal
+
+abbrev pub invariant-loop-i : goal.invariant-loop-i
+invariant-loop-i l = Over l.initial.buffer (replicate (length l.initial.buffer) 0) l.i l.buffer

@@ -1,0 +1,12 @@
+-- `session::Session::move_on` meets its contract.
+-- Assumes nothing.
+use mathlib.Core.Path.{refl}
+use Rattle.session.specs.Steps.{moved_to}
+use Rattle.session.proofs.Session.move_on.Goals as goal
+
+pub UNKNOWN-overflow-add-t6 : goal.UNKNOWN-overflow-add-t6
+UNKNOWN-overflow-add-t6 c = record { fits = c.requires.fits }
+
+pub returns : goal.returns
+unfolding moved_to
+returns c = refl

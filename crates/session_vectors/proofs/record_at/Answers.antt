@@ -1,0 +1,9 @@
+-- `session_vectors::record_at` is safe and ends.
+-- Assumes nothing.
+use native.Mathlib.Omega.{arith}
+use Rattle.session_vectors.proofs.record_at.Goals as goal
+
+-- each field ends no earlier than it begins
+pub returns : goal.returns
+returns c =
+    omega (arith, c.field_at-third.ensures.1.2, c.field_at-second.ensures.1.2, c.field_at-first.ensures.1.2)

@@ -1,0 +1,51 @@
+-- `tag::bytes::put_bytes` meets its contract.
+-- Assumes nothing.
+use mathlib.Core.Path.{◌≡◌, sym, ap, ◌∙◌}
+use mathlib.Core.List.{List}
+use Prim.Native.Nat.{ℕ, ◌+◌, ◌-◌}
+use native.Mathlib.Omega.{arith}
+use lib.ListN.{length, get_or, take, set}
+use lib.Seq.{take-length, length-take-le}
+use Rattle.basics.specs.Lists.{placed}
+use Rattle.basics.proofs.Placed.{placed_none, placed_length, placed_next}
+use borrow.Author.Rules.{rules}
+use Rattle.tag.proofs.bytes.put_bytes.Goals as goal
+
+pub loop-i-init : goal.loop-i-init
+loop-i-init c = (search rules, sym (placed_none c.args.buffer.now c.args.at))
+
+-- the buffer keeps its length
+same : (c : tie.At-loop invariant-loop decreases-loop) → length c.loop-i.buffer ≡ length c.args.buffer.now
+same c =
+    let args = c.args in
+    let bytes = args.bytes.now in
+    let copied = length-take-le c.loop-i.i bytes (omega arith) in
+    ap length c.loop-i.invariant.1 ∙ placed_length args.buffer.now args.at (take c.loop-i.i bytes) (omega arith)
+
+pub bounds-buffer-at : goal.bounds-buffer-at
+bounds-buffer-at c = let long = same c in omega arith
+
+pub loop-i-preserved : goal.loop-i-preserved
+loop-i-preserved c =
+    let args = c.args in
+    let buffer = args.buffer.now in
+    let bytes = args.bytes.now in
+    let i = c.loop-i.i in (
+      search rules,
+      ap (λ (l : List ℕ). set l (args.at + i) (get_or bytes i 0)) c.loop-i.invariant.1
+          ∙ placed_next buffer args.at bytes i (omega arith) (omega arith),
+    )
+
+pub shape_of-buffer : goal.shape_of-buffer
+shape_of-buffer c = same c
+
+pub returns : goal.returns
+returns c =
+    let args = c.args in
+    let buffer = args.buffer.now in
+    let bytes = args.bytes.now in
+    let i = c.loop-i.i in
+    let e : i ≡ length bytes = omega arith in
+    c.loop-i.invariant.1
+    ∙ ap (λ (k : ℕ). placed buffer args.at (take k bytes)) e
+    ∙ ap (placed buffer args.at) (take-length bytes)

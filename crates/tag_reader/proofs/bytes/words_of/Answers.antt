@@ -1,0 +1,44 @@
+-- `tag_reader::bytes::words_of` meets its contract.
+-- Assumes nothing.
+use mathlib.Core.Path.{◌≡◌, refl, sym, ap, ap₂, ◌∙◌}
+use mathlib.Core.List.{List}
+use Prim.Native.Nat.{ℕ, ◌-◌, ◌/◌}
+use native.Mathlib.Numerals.{add-one}
+use native.Mathlib.Omega.{arith}
+use lib.ListN.{length, set}
+use Rattle.basics.specs.Lists.{tabulate, zero_padded}
+use Rattle.basics.proofs.Fill.{length_tabulate}
+use Rattle.tag.specs.TagString.{word_at, words_of}
+use Rattle.basics.proofs.Zeros.{push_number}
+use borrow.Author.Rules.{rules}
+use Rattle.tag_reader.proofs.bytes.words_of.Goals as goal
+
+-- the first k words
+abbrev front : List ℕ → ℕ → List ℕ
+front string k = tabulate k (word_at string)
+
+pub loop-k-init : goal.loop-k-init
+unfolding tabulate
+loop-k-init c = (search rules, refl)
+
+pub loop-k-preserved : goal.loop-k-preserved
+unfolding tabulate
+loop-k-preserved c =
+    let string = c.args.string.now in
+    let k = c.loop-k.k in
+    let words = front string k in
+    let long = length_tabulate k (word_at string) in (
+      search rules,
+      rw add-one
+          (ap₂ (λ (l : List ℕ) (w : ℕ). set l k w) c.loop-k.invariant.1 c.word_at.ensures
+          ∙ ap (λ (j : ℕ). set (zero_padded 64 words) j (word_at string k)) (sym long)
+          ∙ push_number 64 words (word_at string k) (omega (arith, c.requires))),
+    )
+
+pub returns : goal.returns
+unfolding words_of
+returns c =
+    let string = c.args.string.now in
+    let k = c.loop-k.k in
+    let e : k ≡ length string / 4 = omega arith in
+    c.loop-k.invariant.1 ∙ ap (λ (j : ℕ). zero_padded 64 (front string j)) e
