@@ -78,8 +78,8 @@ def camel(name):
     return "".join(word.capitalize() for word in name.split())
 
 
-def lower_camel(name):
-    return name.split()[0] + camel(name.partition(" ")[2])
+def lower_snake(name):
+    return name.replace(" ", "_")
 
 
 def marked(row, text=None):
@@ -117,7 +117,7 @@ def places():
     header = r" */\* (?P<comment>.+) \*/\n *(?P<name>\w+) = (?P<number>\d+),?\n"
     rust = r"(?: */// .+\n)* *(?P<number>\d+) (?P<name>\w+) \"(?P<comment>.+)\",\n"
     yield place(CODE, behind_heading(CODE), code, rows, snake, sentence)
-    yield place(DEFINITIONS, behind_heading(DEFINITIONS), definitions, rows, lower_camel)
+    yield place(DEFINITIONS, behind_heading(DEFINITIONS), definitions, rows, lower_snake)
     yield place(HEADER, between(HEADER, "enum tuilarder_number {\n", "};"), header, known, lambda name: "TUILARDER_" + snake(name))
     yield place(RUST, between(RUST, "\nrefusals! {\n", "}\n"), rust, known[1:], camel, lambda row: marked(row, row.message))
 
@@ -262,8 +262,8 @@ MISTAKES = [
     (CODE, "u32 = 6;", "u32 = 5;", "SEPARATOR_TOO_LONG"),
     (CODE, "// Record not open.", "// The record is closed.", "The record is closed."),
     (CODE, "pub const NOT_CARD", "pub const OTHER: u32 = 15;\n\npub const NOT_CARD", "OTHER"),
-    (DEFINITIONS, "lastWordAbsorb = 4", "lastWordAbsorb = 3", "lastWordAbsorb"),
-    (DEFINITIONS, "-- not a card line\nabbrev pub notCard : ℕ\nnotCard = 14\n", "", "notCard"),
+    (DEFINITIONS, "last_word_absorb = 4", "last_word_absorb = 3", "last_word_absorb"),
+    (DEFINITIONS, "-- not a card line\nabbrev pub not_card : ℕ\nnot_card = 14\n", "", "not_card"),
     (HEADER, "TUILARDER_BUFFER_TOO_SHORT = 12", "TUILARDER_BUFFER_SHORT = 12", "TUILARDER_BUFFER_SHORT"),
     (HEADER, "/* open record not sound */", "/* record not sound */", "open record not sound"),
     (HEADER, "Checks 7, 8, 11.", "Checks 7, 11.", "tuilarder_finish is said to check [7, 11]"),

@@ -284,9 +284,9 @@ def mistakes():
         (README, checked(), "rt: ok, 1 crates proved", checked()),
         (CLAIMS, row("field::reduce", [edit for edit in edits() if "field::reduce" in edit.contracts]), "", "`field::reduce`"),
         (CLAIMS, "`field/sum_of_first`", "`field/sum_of_second`", "`field::add`"),
-        (CLAIMS, "| `claims/ThirdDemand.third-demand` | `claims/", "| these theorems | `claims/", "these theorems"),
-        (CLAIMS, "`field/Field.isElement`", "`field/Field.isNumber`", "field/Field.isNumber"),
-        ("docs/GUIDE.md", "`claims/ThirdDemand.third-demand`", "`claims/Third.demand`", "claims/Third.demand"),
+        (CLAIMS, "| `claims/ThirdDemand.third_demand` | `claims/", "| these theorems | `claims/", "these theorems"),
+        (CLAIMS, "`field/Field.is_element`", "`field/Field.isNumber`", "field/Field.isNumber"),
+        ("docs/GUIDE.md", "`claims/ThirdDemand.third_demand`", "`claims/Third.demand`", "claims/Third.demand"),
         ("crates/field/specs/Field.antt", "\n\n", "\n\n-- one line more\n", "-| 1. The words"),
         ("crates/field/must-fail/sum_of_first.edit", "of: field::add\n", "", "field/sum_of_first: no line"),
         ("crates/field/must-fail/sum_of_first.edit", "of: field::add\n", "of: field::sum\n", "field/sum_of_first: not in the tree: field::sum"),
@@ -296,9 +296,9 @@ def mistakes():
         ("crates/field/src/lib.rt", "\npub fn ", "\npub fn untold() {}\n\npub fn ", "fewer than two edits of field::untold"),
         (CLAIMS, "| `poseidon::permutation_by` | the lists", "| the lists", "the contract of poseidon::permutation_by is no equation"),
         (CLAIMS, "| `montgomery::reduce` | `", "| `montgomery::product` | `", "named as a contract that is no equation: montgomery::product"),
-        ("crates/field/src/lib.rt", "⌜ r ≡ isField number ⌝", "⌜ (number ≡ 1 → r ≡ isField number) ⌝", "the contract of field::is_field is no equation"),
-        ("crates/field/src/lib.rt", "⌜ r ≡ isField number ⌝", "⌜ Named number r ⌝", "the contract of field::is_field is no equation"),
-        ("crates/montgomery/src/lib.rt", "⌜ Reduced a m q e ⌝", "⌜ e ≡ reduced a m q ⌝", "named as a contract that is no equation: montgomery::reduce"),
+        ("crates/field/src/lib.rt", "{ result ≡ is_field number }", "{ number ≡ 1 → result ≡ is_field number }", "the contract of field::is_field is no equation"),
+        ("crates/field/src/lib.rt", "{ result ≡ is_field number }", "{ Named number result }", "the contract of field::is_field is no equation"),
+        ("crates/montgomery/src/lib.rt", "{ Reduced a m q result }", "{ result ≡ reduced a m q }", "named as a contract that is no equation: montgomery::reduce"),
         *public_mistakes(),
         *figures.MISTAKES,
         ("crates.txt", "field: basics\n", "", "not in crates.txt: field"),
@@ -307,7 +307,7 @@ def mistakes():
         ("crates.txt", "\nwords: basics\n", "\nwords: basics tag\n", "words depends on tag"),
         (CLAIMS, "all, any | `pins/", "all | `pins/", "nothing holds any of basics/specs/Logic.antt"),
         (CLAIMS, "all, any | `pins/", "all, any, each | `pins/", "not a definition to read: each of basics/specs/Logic.antt"),
-        (CLAIMS, "`runs/Blocks.heldBy` |", "held by |", "nothing holds heldBy of runs/specs/Blocks.antt"),
+        (CLAIMS, "`runs/Blocks.held_by` |", "held by |", "nothing holds held_by of runs/specs/Blocks.antt"),
         (ARCHITECTURE, "| `words` |", "| one word |", "no line or no place for words"),
         (ARCHITECTURE, "poseidon   keccak ", "keccak ", "no line or no place for poseidon"),
     ]
@@ -315,11 +315,11 @@ def mistakes():
 
 def public_mistakes():
     """Functions and forms that are put before the first public function of a crate."""
-    path, asks, says = "crates/field/src/lib.rt", "    requires { ⌜ ⊥ ⌝ }\n", "    ensures { λ _. ⌜ ⊤ ⌝ }\n"
+    path, asks, says = "crates/field/src/lib.rt", "    requires { ⊥ }\n", "    ensures { ⊤ }\n"
 
     def put(text, wanted):
         return path, "\npub fn ", f"\n{text}\n\npub fn ", wanted
-    export, method = '#[no_mangle]\npub extern "C" fn untold(\n    a: u32, // )\n)\n', "pub struct Other;\nimpl Other {\n    pub fn untold()\n"
+    export, method = '#[unsafe(no_mangle)]\npub extern "C" fn untold(\n    a: u32, // )\n)\n', "pub struct Other;\nimpl Other {\n    pub fn untold()\n"
     return [
         put(f"{export}{asks}{says}{{}}", "field::untold is public and has a `requires`"),
         put(f"mod inner {{\n{export}{asks}{says}{{}}\n}}", "field::inner::untold is public and has a `requires`"),
@@ -336,7 +336,7 @@ def public_mistakes():
         put("fn told() {\n    pub fn untold() {}\n}", "does not read this: { pub fn untold"),
         put("/* /* */ pub fn untold() {} */", "does not read this: /* /* */"),
         put("#[cfg(other)]\npub fn untold() {}", "does not read this: #[cfg ( other )]"),
-        put("pub fn untold()\n    ensures { -- }\n    ⌜ ⊤ ⌝ }\n{}", "does not read this: a clause with a comment"),
+        put("pub fn untold()\n    ensures { -- }\n    ⊤ }\n{}", "does not read this: a clause with a comment"),
         put("pub const UNTOLD: u32 = 3;", "field::UNTOLD: 3 in the code, nothing in the table"),
         put("pub const UNTOLD: u32 = told(3);", "the constant told"),
     ]

@@ -51,7 +51,7 @@ def defined(name, known):
 
 def namesakes(constant, known):
     """The definitions with the name of a constant, as definitions write it."""
-    word = call_numbers.lower_camel(constant.split("::")[-1].lower().replace("_", " "))
+    word = constant.split("::")[-1].lower()
     return [name for name in known if name.endswith("." + word)]
 
 
@@ -101,12 +101,12 @@ MISTAKES = [
     ("crates/session/src/lib.rt", "pub const RATE", "const RATE", "session::Session::RATE: nothing in the code, 8"),
     ("crates/pattern/src/lib.rt", "MAX_SEPARATOR: usize = 256;", "MAX_SEPARATOR: usize = 9999;", "pattern::MAX_SEPARATOR: 9999 in the code"),
     ("crates/basics/src/lib.rt", "u32 = 14;", "u32 = 13;", "basics::NOT_CARD: 13 in the code, 14"),
-    ("crates/pattern/specs/Opening.antt", "maxSeparator = 256", "maxSeparator = 255", "pattern/Opening.maxSeparator is 255"),
+    ("crates/pattern/specs/Opening.antt", "max_separator = 256", "max_separator = 255", "pattern/Opening.max_separator is 255"),
     (CLAIMS, "| 8 | 01: \"rate 8\" |", "| 8 | 01: \"capacity 16\" |", "session::Session::RATE: 8 is not in the quotation"),
     (CLAIMS, "01: \"rate 8\"", "01: \"a rate of 8\"", "session::Session::RATE: not of a sentence"),
     (CLAIMS, "01: \"rate 8\"", "rate 8", "session::Session::RATE: neither quoted nor made of others"),
     (CLAIMS, "| 64 | 01: \"", "| 65 | 01: \"", "pattern::MAX_WORDS: 64 in the code, 65"),
     (CLAIMS, "made of 4 × ", "made of 5 × ", "tag::MAX_STRING: 516 is not 5 × "),
-    (CLAIMS, " | `pattern/Opening.maxCall` |", " | |", "pattern::MAX_CALL: the definition is pattern/Opening.maxCall"),
+    (CLAIMS, " | `pattern/Opening.max_call` |", " | |", "pattern::MAX_CALL: the definition is pattern/Opening.max_call"),
     (CLAIMS, "| `pattern::MAX_CALL` | 16777216 |", "| `pattern::MAX_CALL` | p |", "does not read this: | `pattern::MAX_CALL` | p |"),
 ]

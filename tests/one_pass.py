@@ -8,7 +8,7 @@
 - `check` calls the function of the pass, `pass::pass`, once and in no loop, and does nothing else with the words lent than to take their number;
 - `pass` has one loop, over the places of the words in turn, which looks at one word and hands it to `pass_word`, the step, once;
 - there is no other loop in the crate, and no function of it comes back to itself;
-- the contract of `pass_word` cites `passStep`, and that of `pass` `heldAfter`;
+- the contract of `pass_word` cites `pass_step`, and that of `pass` `held_after`;
 - START, writing and the answer to a card call `pattern::check` once each, and hand the words on to nothing else.
 
 `selftest` puts mistakes into the source, in memory, and fails where `test` would not notice one.
@@ -112,7 +112,7 @@ def findings():
     if missing:
         return [f"not there: {name}" for name in missing]
     return [*in_check(found[LIB, "check"]), *in_pass(found[PASS, "pass"]), *other_loops(found), *returning(found),
-            *cites(found[PASS, "pass_word"], "pass_word", "passStep"), *cites(found[PASS, "pass"], "pass", "heldAfter"),
+            *cites(found[PASS, "pass_word"], "pass_word", "pass_step"), *cites(found[PASS, "pass"], "pass", "held_after"),
             *(finding for caller in CALLERS for finding in in_caller(*caller))]
 
 
@@ -135,8 +135,8 @@ MISTAKES = [
     (PASS, LOOP, LOOP.replace("0..", "1.."), "`pass` has not one loop"),
     (PASS, LOOP, f"{LOOP}\n        for j in 0..i {{\n        }}", "`pass` has not one loop"),
     (PASS, "    2 * (number as u64)\n", "    while number < 2 {\n    }\n    2 * (number as u64)\n", "`rank_of` has a loop"),
-    (PASS, "≡ passStep n (heldAfter ws) word)", "≡ heldAfter (ws ++ (word ∷ [])))", "the contract of `pass_word` does not cite `passStep`"),
-    (PASS, "≡ heldAfter (now (words .entry)) ⌝", "≡ passed (now (words .entry)) ⌝", "the contract of `pass` does not cite `heldAfter`"),
+    (PASS, "≡ pass_step n (held_after ws) word)", "≡ held_after (ws ++ (word ∷ [])))", "the contract of `pass_word` does not cite `pass_step`"),
+    (PASS, "≡ held_after words.now }", "≡ passed words.now }", "the contract of `pass` does not cite `held_after`"),
     (PASS, "fn pass_word(", "fn pass_one(", "not there: pass_word"),
     *((path, "pattern::check(words, separator);", "pattern::check(words, separator);\n    pattern::check(words, separator);",
        f"`{name}` does not call `pattern::check` exactly once") for path, name in CALLERS),

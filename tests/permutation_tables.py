@@ -172,11 +172,7 @@ def permuted(field, state):
     return [a - p if p <= a else a for a in state]
 
 
-def lower_camel(name):
-    first, *rest = name.lower().split("_")
-    return first + "".join(word.capitalize() for word in rest)
-
-
+WIDTH = 99
 ABOUT = {
     "MATRIX": "the matrix in three blocks of 12 rows, each by pairs of diagonals",
     "PRE_SPARSE": "the matrix before the partial rounds, by pairs of diagonals",
@@ -187,20 +183,30 @@ ABOUT = {
 }
 
 
+def filled(entries):
+    """Lines of entries, each as long as the layout of code lets it be."""
+    lines = ["   "]
+    for x in entries:
+        if len(lines[-1]) + len(f" {x},") > WIDTH:
+            lines.append("   ")
+        lines[-1] += f" {x},"
+    return lines
+
+
 def program(field):
     lines = ["// The tables of the fast permutation. tests/permutation_tables.py writes this file."]
     for name, (kind, entries) in tables(field).items():
         about = ABOUT[name]
         lines += ["", f"// {about[0].upper()}{about[1:]}.", f"pub(crate) const {name}: [{kind}; {len(entries)}] = ["]
-        lines += [f"    {x}," for x in entries] + ["];"]
+        lines += filled(entries) + ["];"]
     return "\n".join(lines) + "\n"
 
 
 def definitions(field):
     lines = ["-- The tables of the fast permutation. tests/permutation_tables.py writes this file; proofs/Right.antt proves what the tables hold.",
-             "use mathlib.Core.List.{List, [], _∷_}", "use Prim.Native.Nat.{ℕ}"]
+             "use Rattle.std.specs.Prelude.{List, [], ◌∷◌, ℕ}"]
     for name, (_, entries) in tables(field).items():
-        name, about = lower_camel(name), ABOUT[name]
+        name, about = name.lower(), ABOUT[name]
         lines += ["", f"-- {about}", f"unfoldable pub {name} : List ℕ", f"{name} ="]
         lines += ["    " + " ∷ ".join(map(str, entries[at:at + 12])) + " ∷" for at in range(0, len(entries), 12)]
         lines[-1] += " []"

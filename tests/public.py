@@ -1,7 +1,7 @@
 """The items of a crate's source, and which of them are public: those that another crate, or a caller in C, may be able to use.
 
 Public is whatever has `pub`, in a private module too, since a `pub use` anywhere can bring it out, and a method of a private type too, since a public
-function can give a value of that type. `pub(crate)` is not public, and no `pub use` brings it out. A function with `#[no_mangle]` or
+function can give a value of that type. `pub(crate)` is not public, and no `pub use` brings it out. A function with `#[unsafe(no_mangle)]` or
 `extern "C"` is public whatever else it has. A program has no callers, so nothing in it is public.
 
 A form that is not read here is an error, so that nothing public is passed over; so is a `use` under another name, by which a constant could have two. The word `fn` is an error too in every part that is skipped.
@@ -16,7 +16,9 @@ from tree import files, read
 # constant's value or of what a `use` names; crate::module:: that it stands in; and what stands in each `ensures` of a function
 Item = namedtuple("Item", "name kind public words module ensures")
 CLAUSES = {"ghost", "requires", "ensures"}
-ATTRIBUTES = {"no_mangle", "repr ( C )"}
+ATTRIBUTES = {"unsafe ( no_mangle )", "repr ( C )", "derive ( Clone , Copy )"}
+# attributes that choose tactics, of a file or of an item: they say nothing of the code
+TACTIC = re.compile(r"tactic \(.*\)")
 CLOSING = {"(": ")", "[": "]", "{": "}"}
 TOKEN = re.compile(r"""
     \s+ | //[^\n]* | /\*(?:(?!/\*|\*/).)*\*/ | ghost\s+use\b[^;]*;      # passed over
@@ -46,7 +48,9 @@ def words_of(text):
     """The words and signs of a file, without comments; each clause of a contract is one."""
     at, found = 0, []
     while at < len(text):
-        if text[at] == "{" and found and found[-1] in CLAUSES:
+        named = len(found) > 1 and found[-2] in CLAUSES and found[-1].isidentifier()
+        if text[at] == "{" and found and (found[-1] in CLAUSES or named):
+            del found[len(found) - named:]
             word = clause(text, at)
             at += len(word)
         else:
@@ -86,9 +90,9 @@ def marks(words, at):
     while words[at] == "#":
         end = behind_group(words, at + 1)
         attribute = " ".join(words[at + 2:end - 1])
-        if attribute not in ATTRIBUTES:
+        if attribute not in ATTRIBUTES and not TACTIC.fullmatch(attribute):
             raise Unreadable(f"#[{attribute}]")
-        public, at = public or attribute == "no_mangle", end
+        public, at = public or "no_mangle" in attribute, end
     if words[at] == "pub":
         public, at = public or words[at + 1] != "(", at + 1
         at = behind_group(words, at) if words[at] == "(" else at
@@ -115,6 +119,14 @@ def function(words, at):
     return clauses, ensures, behind_group(words, at)
 
 
+def behind_tactic(words, at):
+    """The place behind an attribute of the whole file, which chooses tactics."""
+    end = behind_group(words, at)
+    if not TACTIC.fullmatch(" ".join(words[at + 1:end - 1])):
+        raise Unreadable(" ".join(words[at - 2:end]))
+    return end
+
+
 def owner(words):
     """The type of an `impl`, without lifetimes."""
     return re.sub(r"<[^<>]*>", "", " ".join(words)).strip()
@@ -124,6 +136,9 @@ def items_of(words, prefix, module):
     """The items of a module, or of an `impl` in it, whose names begin with the prefix."""
     at = 0
     while at < len(words):
+        if words[at:at + 2] == ["#", "!"]:
+            at = behind_tactic(words, at + 2)
+            continue
         public, here = marks(words, at)
         kind, name, ensures = words[here], words[here + 1], []
         if kind == "fn":
