@@ -1,6 +1,6 @@
 -- The least number that no row holds, found in one pass over rising rows.
 -- Assumes nothing.
-use mathlib.Core.Path.{◌≡◌, refl, ap, ◌∙◌}
+use mathlib.Core.Path.{◌≡◌, refl, sym, subst, ap, ◌∙◌}
 use mathlib.Core.Bool.{true, false, not}
 use mathlib.Core.List.{List, [], ◌∷◌}
 use Prim.Native.Nat.{ℕ, zero, suc, ◌+◌, ◌-◌, ◌≤◌, ◌<◌, zero-le}
@@ -10,7 +10,7 @@ use borrow.Author.Tests.{ltb-true, ltb-false, leb-true, leb-false, le-leb, lt-le
 use lib.Dec.{leb, ltb, eqb}
 use lib.ListN.{length, get_or, drop, drop_of_length-le}
 use lib.Seq.{drop-cons}
-use Rattle.basics.specs.Logic.{if◌then◌else◌, ◌and◌, ◌or◌, any}
+use Rattle.basics.specs.Logic.{if◌then◌else◌, ◌or◌, any}
 use Rattle.basics.proofs.Cases.{by, cases, if_true, if_false, and_both, and_step, and_stop, or_left, or_right, or_neither}
 use Rattle.owners.specs.Owners.{Table, row, row_count, at_fault, first_fault, holds, is_free, number_count, least_free}
 use Rattle.owners.specs.declared.OwnerRow.{OwnerRow}
@@ -88,11 +88,15 @@ gap_free (one {low} {r} {rs} from ordered rest) =
     cases
     (eqb r.first low)
     (λ e.
-    rw (gap_next low r rs (eqb-true _ _ e))
+    subst
+    (λ (g : ℕ). holds g r or any (holds g) rs ≡ false)
+    (sym (gap_next low r rs (eqb-true _ _ e)))
     (or_neither _ _ (above_last _ r (gap_from rest)) (gap_free rest)))
     (λ f.
     let apart = eqb-false r.first low f in
-    rw (gap_stop low r rs apart)
+    subst
+    (λ (g : ℕ). holds g r or any (holds g) rs ≡ false)
+    (sym (gap_stop low r rs apart))
     (or_neither _ _ (below_first low r (omega arith)) (none_below rest low (omega arith))))
 
 -- the rows of a table in which no whole row is at fault are such

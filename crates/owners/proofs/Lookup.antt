@@ -9,7 +9,6 @@ use native.Mathlib.Numerals.{add-one}
 use borrow.Author.Tests.{leb-true}
 use lib.ListN.{length, get_or, drop, drop_of_length-le}
 use lib.Seq.{drop-cons}
-use Rattle.basics.specs.Logic.{◌and◌}
 use Rattle.basics.proofs.Cases.{cases, if_true, if_false, and_right, any_at}
 use Rattle.owners.specs.Owners.{holds, line_of}
 use Rattle.owners.specs.declared.OwnerRow.{OwnerRow}

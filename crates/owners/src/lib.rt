@@ -1,5 +1,6 @@
 // Who owns which separators: a table lent as bytes, ten a row, checked and asked.
 #![tactic(auto)]
+
 ghost use Rattle.std.specs.Prelude.{◌≡◌, [], ◌∷◌, ◌+◌, ◌*◌, ◌/◌, ◌≤◌, ◌<◌, length, take, drop};
 ghost use Rattle.basics.specs.Digits.{number};
 ghost use Rattle.owners.specs.Owners.{row_of, table_of, row_count, at_fault, first_fault, holds, least_free, line_of, checked, asked, value_of};

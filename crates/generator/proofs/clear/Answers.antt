@@ -8,6 +8,7 @@ use lib.ListN.{length, set, replicate, length-set, length-replicate, replicate-a
 use Rattle.basics.specs.Lists.{placed}
 use Rattle.basics.proofs.Placed.{placed_none, placed_set}
 use borrow.Author.Rules.{rules}
+use Rattle.generator.proofs.clear.Invariants.{Cleared}
 use Rattle.generator.proofs.clear.Goals as goal
 
 -- one zero more behind k of them
@@ -17,13 +18,6 @@ next-zero entry from k h =
     ap (λ (n : ℕ). set (placed entry from (replicate k 0)) (from + n) 0) (sym size)
     ∙ placed_set entry from (replicate k 0) 0 (omega arith)
     ∙ ap (placed entry from) (replicate-append-replicate k 1 0)
-
--- the places before i are cleared
-record Cleared (entry : List ℕ) (from : ℕ) (constants : List ℕ) (i : ℕ) : Type 0 where
-  behind : from ≤ i
-  within : i - from ≤ length entry - from
-  long : length constants ≡ length entry
-  is : constants ≡ placed entry from (replicate (i - from) 0)
 
 none : (entry : List ℕ) (from i : ℕ) → i ≡ from → Cleared entry from entry i
 none entry from i first =

@@ -15,16 +15,8 @@ use Rattle.generator.specs.Steps.{bits_left, found_from}
 use Rattle.generator.specs.declared.Source.{Source}
 use Rattle.generator.proofs.Streams.{keep, skip}
 use borrow.Author.Rules.{rules}
+use Rattle.generator.proofs.fill.Invariants.{Progress}
 use Rattle.generator.proofs.fill.Goals as goal
-
--- count constants stand at the start of the list, and the others are still to come from the source
-record Progress (before : Source) (modulus : ℕ) (entry constants : List ℕ) (from : Source) (count : ℕ) : Type 0 where
-  stored : List ℕ
-  number : count ≡ length stored
-  within : count ≤ length entry
-  long : length constants ≡ length entry
-  is : constants ≡ placed entry 0 stored
-  all : found_from before modulus (length entry) ≡ stored ++ found_from from modulus (length entry - length stored)
 
 nothing : (before : Source) (modulus : ℕ) (entry : List ℕ) → Progress before modulus entry entry before 0
 nothing before modulus entry =

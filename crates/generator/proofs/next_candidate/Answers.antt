@@ -18,17 +18,8 @@ use Rattle.generator.specs.Steps.{bits_left}
 use Rattle.generator.specs.declared.Source.{Source}
 use Rattle.generator.proofs.Streams.{candidate_whole, candidate_part}
 use borrow.Author.Rules.{rules}
+use Rattle.generator.proofs.next_candidate.Invariants.{Collected}
 use Rattle.generator.proofs.next_candidate.Goals as goal
-
--- size output bits are taken, and value is the number that they write
-record Collected (before from : Source) (value size : ℕ) : Type 0 where
-  within : size ≤ 31
-  bound : value < 2 ^ size
-  fewer : from.left + size ≤ before.left
-  word : List ℕ
-  long : length word ≡ size
-  writes : value ≡ number 2 word
-  rest : output_bits (bits_left before) ≡ word ++ output_bits (bits_left from)
 
 small : {before from : Source} {value size : ℕ} → Collected before from value size → size < 31 → value < 1073741824
 small {size = size} k h = let e : 2 ^ size ≤ 2 ^ 30 = pow_mono {j = 30} (omega arith) in omega arith

@@ -1,24 +1,19 @@
 -- `owners::first_fault` meets its contract.
 -- Assumes nothing.
 use mathlib.Core.Path.{sym, ◌∙◌}
-use mathlib.Core.Bool.{Bool}
-use mathlib.Core.List.{List}
-use Prim.Native.Nat.{ℕ, ◌-◌, ◌≤◌}
 use native.Mathlib.Omega.{arith}
-use Rattle.owners.specs.Owners.{table_of, at_fault, first_fault}
+use Rattle.owners.specs.Owners.{first_fault}
 use Rattle.owners.proofs.Faults.{is_good}
 use Rattle.owners.proofs.Least.{none_next, least_is}
+use Rattle.owners.proofs.first_fault.Invariants.{faults}
 use Rattle.owners.proofs.first_fault.Goals as goal
-
-abbrev faults : List ℕ → ℕ → Bool
-faults table = at_fault (table_of table)
 
 pub loop-k-init : goal.loop-k-init
 loop-k-init c = (omega arith, omega arith, λ j h l. absurd (omega arith))
 
 -- a row that is not at fault is one of the first 128, so the loop makes at most 129 turns
-few : (c : tie.Else1 invariant-loop decreases-loop) → c.loop-k.k ≤ 128
-few c = (is_good _ _ (sym c.at_fault.ensures ∙ c.if-at_fault.false)).few
+pub overflow_add-k : goal.overflow_add-k
+overflow_add-k c = omega (arith, (is_good _ _ (sym c.at_fault.ensures ∙ c.if-at_fault.false)).few)
 
 pub returns-then-at_fault : goal.returns-then-at_fault
 unfolding first_fault
