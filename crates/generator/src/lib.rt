@@ -1,5 +1,6 @@
 // The generator of the round constants (Grain).
 #![tactic(auto)]
+
 mod tables;
 
 ghost use Rattle.std.specs.Prelude.{◌≡◌, ◌-◌, ◌<◌, length, drop, replicate};

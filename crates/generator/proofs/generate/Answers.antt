@@ -65,17 +65,17 @@ filled f {register} {constants} {m} {rounds} e₁ e₂ e₃ size (counted, is) =
 
 -- the number's field or none, as the test tells
 module _ (number : ℕ) {named : Bool} (tested : named ≡ is_field number) where
-  unknown : not named ≡ true → with_constants field_unknown [] ≡ generation number
+  unknown : named ≡ false → with_constants field_unknown [] ≡ generation number
   unfolding generation
-  unknown e = sym (if_true _ _ _ (ap not (sym tested) ∙ e))
+  unknown e = sym (if_true _ _ _ (ap not (sym tested ∙ e)))
 
-  known : {f : Field} → f ≡ field_of number → not named ≡ false → with_constants accepted (generated f) ≡ generation number
+  known : {f : Field} → f ≡ field_of number → named ≡ true → with_constants accepted (generated f) ≡ generation number
   unfolding generation
-  known field e = ap (λ (f : Field). with_constants accepted (generated f)) field ∙ sym (if_false _ _ _ (ap not (sym tested) ∙ e))
+  known field e = ap (λ (f : Field). with_constants accepted (generated f)) field ∙ sym (if_false _ _ _ (ap not (sym tested ∙ e)))
 
 pub returns-then-not-is_field : goal.returns-then-not-is_field
 unfolding with_constants
-returns-then-not-is_field c = unknown c.args.field c.is_field.ensures c.if-not-is_field.true-raw
+returns-then-not-is_field c = unknown c.args.field c.is_field.ensures c.if-not-is_field.true
 
 pub overflow_add-wanted : goal.overflow_add-wanted
 overflow_add-wanted c = let h = few c.field_of-named.result c.partial_rounds.ensures in record { fits = omega arith }
@@ -98,4 +98,4 @@ returns c =
     let f = c.field_of-named.result in
     filled f c.first_register-register.ensures c.modulus.ensures c.partial_rounds.ensures
     (length-take-le _ (replicate 744 0) (few f c.partial_rounds.ensures)) c.generate_from-count.ensures
-    ∙ known c.args.field c.is_field.ensures c.field_of-named.ensures c.if-not-is_field.false-raw
+    ∙ known c.args.field c.is_field.ensures c.field_of-named.ensures c.if-not-is_field.false

@@ -2,7 +2,7 @@
 -- Assumes nothing.
 use mathlib.Core.Path.{◌≡◌, ◌∙◌, refl, ap}
 use mathlib.Core.List.{[], ◌∷◌, ◌++◌}
-use Prim.Native.Nat.{ℕ, ◌-◌}
+use Prim.Native.Nat.{ℕ}
 use native.Mathlib.Omega.{arith}
 use lib.ListN.{drop, length-set}
 use Rattle.generator.specs.Generator.{shifted}
@@ -15,8 +15,7 @@ loop-i-init c = (search rules, c.requires, refl)
 
 pub loop-i-preserved : goal.loop-i-preserved
 loop-i-preserved c =
-    let at-loop = c.loop-i in
-    (
+    let at-loop = c.loop-i in (
       omega arith,
       simp length-set at-loop.invariant.1,
       shift_step c.args.register.now at-loop.out at-loop.i c.requires at-loop.invariant.1 (omega arith) at-loop.invariant.2,
