@@ -1,25 +1,24 @@
 -- From what the pass holds at the end to the start check's answer.
 -- Assumes nothing.
-use mathlib.Core.Path.{◌≡◌, refl, sym, ap, ◌∙◌}
+use mathlib.Core.Path.{◌≡◌, refl, sym, ◌∙◌}
 use mathlib.Core.Bool.{Bool, true, false}
 use mathlib.Core.List.{List, [], ◌∷◌}
 use mathlib.Core.Logic.{◌≢◌}
-use Prim.Native.Nat.{ℕ, suc, ◌-◌, ◌*◌, ◌≤◌, ◌<◌}
+use Prim.Native.Nat.{ℕ, suc, ◌*◌, ◌≤◌, ◌<◌}
 use native.Mathlib.Omega.{arith}
-use borrow.Author.Tests.{ltb-true, lt-ltb, le-ltb, leb-true, leb-false, eqb-true, eqb-false, ne_eqb}
-use lib.Dec.{leb, ltb, eqb}
-use lib.ListN.{length, get_or}
+use borrow.Author.Tests.{lt-ltb, le-ltb, eqb-true, ne_eqb}
+use lib.Dec.{eqb}
+use lib.ListN.{length}
 use Rattle.basics.specs.Logic.{if◌then◌else◌, ◌or◌}
 use Rattle.basics.specs.Numbers.{accepted, word_count_out_of_range}
 use Rattle.basics.specs.Refusals.{◌gets◌⨾◌, first_number}
-use Rattle.basics.proofs.Cases.{by, cases, if_true, if_false}
+use Rattle.basics.proofs.Cases.{cases, if_true, if_false}
 use Rattle.pattern.specs.Pattern.{merged_words}
 use Rattle.pattern.specs.Opening.{word_rows, opening_rows, opening_number, with_words, answer_with}
 use Rattle.pattern.specs.Pass.{pass_number, passed, rank, earlier, held_after, ending}
-use Rattle.pattern.specs.declared.WordList.{WordList}
 use Rattle.pattern.proofs.Given.{answer_accepted}
 use Rattle.pattern.proofs.StartCheck.{no_words}
-use Rattle.pattern.proofs.PassStep.{numbers, pass_number_law, held_over}
+use Rattle.pattern.proofs.PassStep.{numbers, pass_number_law}
 
 -- the first of all numbers is the earlier of what the pass holds and what is left for the end
 by_ending : (a b c d f : Bool)

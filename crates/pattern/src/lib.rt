@@ -1,5 +1,6 @@
 // Patterns: the start check, which merges.
 #![tactic(auto)]
+
 mod pass;
 
 ghost use Rattle.std.specs.Prelude.{◌≡◌, []};

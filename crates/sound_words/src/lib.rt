@@ -1,5 +1,6 @@
 // Whether words are those of a sound record.
 #![tactic(auto)]
+
 ghost use Rattle.std.specs.Prelude.{◌≡◌, true, ◌≤◌, length, leb, eqb};
 ghost use Rattle.basics.specs.Logic.{◌and◌, all};
 ghost use Rattle.words.specs.Words.{is_absorb, length_of};

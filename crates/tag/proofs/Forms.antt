@@ -5,15 +5,14 @@ use mathlib.Core.Bool.{true, false}
 use mathlib.Core.List.{List, [], ◌++◌, append-nil}
 use Prim.Native.Nat.{ℕ, ◌-◌, ◌/◌, ◌%◌, ◌≤◌, ◌<◌}
 use native.Mathlib.Omega.{arith}
-use borrow.Author.Tests.{eqb-true, eq-eqb, ltb-false, le-ltb}
+use borrow.Author.Tests.{eqb-true, ltb-false, le-ltb}
 use lib.Dec.{eqb, lit<}
 use lib.ListN.{length, take, drop, length-append, length-drop, take-append-drop}
 use lib.Seq.{length-take-le, take-length, take_at, drop_at}
-use Rattle.basics.specs.Logic.{◌and◌}
 use Rattle.basics.specs.Lists.{Below}
 use Rattle.basics.specs.Digits.{digits, number}
 use Rattle.basics.proofs.Below.{below_drop}
-use Rattle.basics.proofs.Cases.{by, cases, if_true, if_false, and_step, and_stop, or_end, or_false}
+use Rattle.basics.proofs.Cases.{cases, if_true, if_false, and_step, and_stop, or_end}
 use Rattle.basics.proofs.Positional.{length_digits, number_digits, digits_number}
 use Rattle.tag.specs.TagString.{is_form, tail_of, body_of, length_in, tail_missing}
 

@@ -1,5 +1,6 @@
 // Tag strings, written.
 #![tactic(auto)]
+
 mod bytes;
 
 ghost use Rattle.std.specs.Prelude.{◌≡◌, length};

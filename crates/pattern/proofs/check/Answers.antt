@@ -10,7 +10,7 @@ use lib.ListN.{length, take}
 use lib.Seq.{length-take-le, take_all}
 use Rattle.pattern.specs.Opening.{opening, opening_number}
 use Rattle.pattern.specs.Steps.{holding}
-use Rattle.pattern.specs.Pass.{earlier, held_after}
+use Rattle.pattern.specs.Pass.{earlier, held_after, ending}
 use Rattle.pattern.specs.declared.WordList.{WordList}
 use Rattle.pattern.proofs.StartCheck.{checked_refused, checked_accepted}
 use Rattle.pattern.proofs.PassStep.{held_65, holding_number, holding_words, earlier_zero}
@@ -34,49 +34,48 @@ pass-passed-requires c =
     let looked = c.looked_at-count.ensures in
     (omega (arith, looked, length-take-le c.looked_at-count.result words (omega (arith, looked))), search rules)
 
--- what was lent, where the number is known
-words : tie.After-earlier-of → List ℕ
-words c = c.args.words.now
+-- what the pass holds at its end, by the words that it looked at
+pass_held : (ws list : List ℕ) (looked number count : ℕ)
+    → looked ≡ min (length ws) 65
+    → holding number list count ≡ held_after (take looked ws)
+    → holding number list count ≡ held_after ws
+pass_held ws list looked number count is h = h ∙ ap (λ (n : ℕ). held_after (take n ws)) is ∙ held_65 ws
 
-separator : tie.After-earlier-of → List ℕ
-separator c = c.args.separator.now
+-- the number that it holds
+number_held : (ws list : List ℕ) (number count : ℕ) → holding number list count ≡ held_after ws → number ≡ (held_after ws).number
+number_held ws list number count h = sym (holding_number _ _ _) ∙ ap (λ (m : WordList). m.number) h
 
-some : (c : tie.After-earlier-of) → length (words c) ≢ 0
-unfolding words
-some c = λ e. omega arith
-
--- the pass gets 65 words at most, which tell
-looked : (c : tie.After-earlier-of) → c.looked_at-count.result ≡ min (length (words c)) 65
-unfolding words
-looked c = c.looked_at-count.ensures
-
-pass-held : (c : tie.After-earlier-of) → holding c.pass-passed.result.number c.pass-passed.new.1.0 c.pass-passed.result.count ≡ held_after (words c)
-unfolding words
-pass-held c = c.pass-passed.ensures ∙ ap (λ (n : ℕ). held_after (take n (words c))) (looked c) ∙ held_65 (words c)
-
-number-held : (c : tie.After-earlier-of) → c.pass-passed.result.number ≡ (held_after (words c)).number
-unfolding words
-number-held c = sym (holding_number _ _ _) ∙ ap (λ (m : WordList). m.number) (pass-held c)
-
-number_is : (c : tie.After-earlier-of) → c.earlier_of-number.result ≡ opening_number (opening (words c) (separator c))
-unfolding words separator
-number_is c =
-    c.earlier_of-number.ensures
-    ∙ ap₂ (λ (held end : ℕ). earlier held end) (number-held c) c.ending_of.ensures
-    ∙ start_by_pass (separator c) (words c) (some c)
+-- the number that is checked first
+number_is : (ws separator list : List ℕ) (number count end first : ℕ)
+    → length ws ≢ 0
+    → holding number list count ≡ held_after ws
+    → end ≡ ending (length separator)
+    → first ≡ earlier number end
+    → first ≡ opening_number (opening ws separator)
+number_is ws separator list number count end first some h ends is =
+    is
+    ∙ ap₂ (λ (held end : ℕ). earlier held end) (number_held ws list number count h) ends
+    ∙ start_by_pass separator ws some
 
 pub returns-then-number-ne-ACCEPTED : goal.returns-then-number-ne-ACCEPTED
-unfolding words separator
 returns-then-number-ne-ACCEPTED c =
+    let ws = c.args.words.now in
+    let some : length ws ≢ 0 = λ e. omega arith in
+    let held = pass_held ws _ _ _ _ c.looked_at-count.ensures c.pass-passed.ensures in
+    let is = number_is ws c.args.separator.now _ _ _ _ _ some held c.ending_of.ensures c.earlier_of-number.ensures in
     c.refused-then-number-ne-ACCEPTED.ensures
-    ∙ sym (checked_refused _ _ (ne_eqb _ 0 c.if-number-ne-ACCEPTED.true) (sym (number_is c)))
+    ∙ sym (checked_refused _ _ (ne_eqb _ 0 c.if-number-ne-ACCEPTED.true) (sym is))
 
 pub returns : goal.returns
-unfolding words separator
 returns c =
-    let accepts = sym (number_is c) ∙ c.if-number-ne-ACCEPTED.false in
+    let ws = c.args.words.now in
+    let separator = c.args.separator.now in
+    let some : length ws ≢ 0 = λ e. omega arith in
+    let pass = pass_held ws _ _ _ _ c.looked_at-count.ensures c.pass-passed.ensures in
+    let is = number_is ws separator _ _ _ _ _ some pass c.ending_of.ensures c.earlier_of-number.ensures in
+    let accepts = sym is ∙ c.if-number-ne-ACCEPTED.false in
     let (held, _) = earlier_zero _ _ (sym c.earlier_of-number.ensures ∙ c.if-number-ne-ACCEPTED.false) in
-    let list = sym (holding_words _ _ _ held) ∙ pass-held c in
+    let list = sym (holding_words _ _ _ held) ∙ pass in
     list
-    ∙ words_by_pass (words c) (some c) (sym (number-held c) ∙ held)
-    ∙ sym (checked_accepted (opening (words c) (separator c)) accepts)
+    ∙ words_by_pass ws some (sym (number_held ws _ _ _ pass) ∙ held)
+    ∙ sym (checked_accepted (opening ws separator) accepts)

@@ -2,8 +2,6 @@
 -- Assumes nothing.
 use mathlib.Core.Path.{◌∙◌, sym}
 use native.Mathlib.Omega.{arith}
-use borrow.Author.Tests.{not-true, not-false}
-use Rattle.words.specs.Words.{length_of}
 use Rattle.pattern.proofs.Answers.{first_word, other_kind, same_kind}
 use borrow.Author.Rules.{rules}
 use Rattle.pattern.proofs.pass.add_word.Goals as goal
@@ -13,7 +11,7 @@ returns-then-count-eq0 c = λ ws fine h. first_word ws _ _ _ c.ranges.word.fits 
 
 pub returns-then-not-same_kind : goal.returns-then-not-same_kind
 returns-then-not-same_kind c = λ ws fine h. other_kind ws _ _ _ c.ranges.word.fits fine h (search rules) (search rules)
-    (sym c.same_kind.ensures ∙ not-true _ c.if-not-same_kind.true-raw)
+    (sym c.same_kind.ensures ∙ c.if-not-same_kind.true)
 
 pub lengthened-requires : goal.lengthened-requires
 lengthened-requires c = omega (arith, c.length_of.ensures, c.requires.1 c.if-count-eq0.false)
@@ -22,4 +20,4 @@ pub returns : goal.returns
 returns c =
     λ ws fine h. rw (c.lengthened.ensures, c.length_of.ensures)
     (same_kind ws _ _ _ c.ranges.word.fits fine h (search rules)
-    (sym c.same_kind.ensures ∙ not-false _ c.if-not-same_kind.false-raw))
+    (sym c.same_kind.ensures ∙ c.if-not-same_kind.false))

@@ -2,7 +2,7 @@
 -- Assumes nothing.
 use mathlib.Core.Path.{◌≡◌, sym, ap, ◌∙◌}
 use mathlib.Core.List.{List}
-use Prim.Native.Nat.{ℕ, ◌+◌, ◌-◌}
+use Prim.Native.Nat.{ℕ, ◌+◌, ◌≤◌}
 use native.Mathlib.Omega.{arith}
 use lib.ListN.{length, get_or, take, set}
 use lib.Seq.{take-length, length-take-le}
@@ -15,15 +15,17 @@ pub loop-i-init : goal.loop-i-init
 loop-i-init c = (search rules, sym (placed_none c.args.buffer.now c.args.at))
 
 -- the buffer keeps its length
-same : (c : tie.At-loop invariant-loop decreases-loop) → length c.loop-i.buffer ≡ length c.args.buffer.now
-same c =
-    let args = c.args in
-    let bytes = args.bytes.now in
-    let copied = length-take-le c.loop-i.i bytes (omega arith) in
-    ap length c.loop-i.invariant.1 ∙ placed_length args.buffer.now args.at (take c.loop-i.i bytes) (omega arith)
+same : (buffer now bytes : List ℕ) (at i : ℕ)
+    → i ≤ length bytes
+    → at + length bytes ≤ length buffer
+    → now ≡ placed buffer at (take i bytes)
+    → length now ≡ length buffer
+same buffer now bytes at i inside room is =
+    let copied = length-take-le i bytes inside in
+    ap length is ∙ placed_length buffer at (take i bytes) (omega arith)
 
 pub bounds-buffer-at : goal.bounds-buffer-at
-bounds-buffer-at c = let long = same c in omega arith
+bounds-buffer-at c = let long = same _ _ _ _ _ c.loop-i.invariant.0 c.requires c.loop-i.invariant.1 in omega arith
 
 pub loop-i-preserved : goal.loop-i-preserved
 loop-i-preserved c =
@@ -37,7 +39,7 @@ loop-i-preserved c =
     )
 
 pub shape_of-buffer : goal.shape_of-buffer
-shape_of-buffer c = same c
+shape_of-buffer c = same _ _ _ _ _ c.loop-i.invariant.0 c.requires c.loop-i.invariant.1
 
 pub returns : goal.returns
 returns c =

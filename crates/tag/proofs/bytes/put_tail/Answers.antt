@@ -11,16 +11,16 @@ use Rattle.tag.proofs.bytes.put_tail.Goals as goal
 pub put_word-requires : goal.put_word-requires
 put_word-requires c =
     let form = c.args.form in
-    omega (arith, c.requires, tail_2_long form (eq-eqb form 2 c.if-form-eq-FORM_2.true) c.args.separator-length)
+    omega (arith, c.requires, tail_2_long form (eq-eqb form 2 c.if-form-eq-FORM_2.true) c.args.separator_length)
 
 pub returns-then-form-eq-FORM_2 : goal.returns-then-form-eq-FORM_2
 returns-then-form-eq-FORM_2 c =
     let args = c.args in
-    let n = args.separator-length in
+    let n = args.separator_length in
     c.put_word.ensures
     ∙ ap (placed args.buffer.now args.at) (low_digits n ∙ sym (tail_2 args.form (eq-eqb _ 2 c.if-form-eq-FORM_2.true) n))
 
 pub returns-else-form-eq-FORM_2 : goal.returns-else-form-eq-FORM_2
 returns-else-form-eq-FORM_2 c =
     let args = c.args in
-    sym (ap (placed args.buffer.now args.at) (tail_1 args.form (ne_eqb _ 2 c.if-form-eq-FORM_2.false) args.separator-length) ∙ placed_none args.buffer.now args.at)
+    sym (ap (placed args.buffer.now args.at) (tail_1 args.form (ne_eqb _ 2 c.if-form-eq-FORM_2.false) args.separator_length) ∙ placed_none args.buffer.now args.at)

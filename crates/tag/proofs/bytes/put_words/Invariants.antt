@@ -1,4 +1,4 @@
-use Prim.Native.Nat.{◌-◌, ◌≤◌}
+use Prim.Native.Nat.{◌≤◌}
 use lib.ListN.{length, take}
 use Rattle.basics.proofs.Placed.{Begins}
 use Rattle.tag.specs.TagString.{word_bytes}
