@@ -1,9 +1,9 @@
 -- Powers by reductions: the bounds by which their products fit, and what is divided out.
 -- Assumes nothing.
-use Rattle.std.proofs.Common.{◌≡◌, ℕ, ◌+◌, ◌*◌, ◌/◌, ◌%◌, ◌^◌, ◌<◌, ◌≤◌, ◌⊎◌, sym, refl, ap, ◌∙◌, subst, ⊎_elim, mul_assoc, mul-le-mul, one-mul, pow-suc, mul_right_comm, arith}
+use Rattle.std.proofs.Common.{◌≡◌, ℕ, ◌+◌, ◌*◌, ◌^◌, ◌<◌, ◌≤◌, sym, refl, ap, ◌∙◌, subst, ⊎_elim, mul_assoc, mul-le-mul, one-mul, pow-suc, mul_right_comm, arith}
 use native.Mathlib.Nat.{mul-mul-mul_comm, pow-zero}
 use Rattle.field.proofs.Congruence.{Congruent, reflexive, transitive, mul_congruent}
-use Rattle.montgomery.specs.Montgomery.{low_product, Modulus, Divided, Element, ReducedAny, Multiplied, scale, PowerOf, Power, RaisedSmall, Copies, Raised}
+use Rattle.montgomery.specs.Montgomery.{low_product, Element, ReducedAny, Multiplied, scale, PowerOf, Power, RaisedSmall, Raised}
 use Rattle.montgomery.proofs.Reduction.{low_product_law}
 
 module _ (w m : ℕ) (hw : w ≤ 2017460224) (hm : m ≤ 2013265921) where

@@ -1,9 +1,9 @@
 -- Montgomery's reduction: what it adds clears the low half, and what is left is a divided by the word modulo m.
 -- Assumes nothing.
-use Rattle.std.proofs.Common.{◌≡◌, ℕ, ◌+◌, ◌*◌, ◌/◌, ◌%◌, ◌^◌, ◌<◌, ◌≤◌, sym, refl, ap, ◌∙◌, subst, mul-le-mul_right, mod-lt, mod-eq_of_lt, zero-lt-suc, mul_assoc, mul_comm, mul-le-mul, add_comm, mul-zero, div-add-mod', mul-one, mul-add, arith}
+use Rattle.std.proofs.Common.{◌≡◌, ℕ, ◌+◌, ◌*◌, ◌/◌, ◌%◌, ◌^◌, ◌<◌, ◌≤◌, sym, ap, ◌∙◌, subst, mul-le-mul_right, mod-lt, mod-eq_of_lt, zero-lt-suc, mul_assoc, mul_comm, mul-le-mul, add_comm, mul-zero, div-add-mod', mul-one, mul-add, arith}
 use native.Mathlib.Nat.{mod-add-div', le-pred_of_lt}
 use Rattle.field.proofs.Congruence.{Congruent, reflexive, transitive, remainder, add_multiple, add_congruent, mul_congruent}
-use Rattle.montgomery.specs.Montgomery.{low_product, folded, Inverse, Modulus, Divided, Element, Reduced, ReducedAny, Multiplied}
+use Rattle.montgomery.specs.Montgomery.{low_product, folded, Modulus, Divided, Reduced, ReducedAny, Multiplied}
 
 -- for any B, as 2^32: what is added to a makes it a multiple of B
 multiple : (B a q m : ℕ) → Congruent B (q * m + 1) 0 → Congruent B (a + (a % B * q) % B * m) 0

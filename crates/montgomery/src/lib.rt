@@ -2,6 +2,7 @@
 // and a contract says under which conditions the result is the one that is wanted.
 // Factors are cut to 32 bits, though most have no more, so that the compiler sees that one 32-bit product of two lanes is enough.
 #![tactic(auto)]
+
 ghost use Rattle.std.specs.Prelude.{◌≡◌};
 ghost use Rattle.montgomery.specs.Montgomery.{low_product, folded, Reduced, ReducedAny, Multiplied, RaisedSmall, Raised};
 

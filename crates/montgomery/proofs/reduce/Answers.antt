@@ -18,6 +18,6 @@ pub returns : goal.returns
 returns c =
     let a = c.args in
     reduction a.a a.m a.q _ _ (search rules)
-    (c.wrapping_add_u64.ensures
+    (c.wrapping_add_u64.ensures.value
     ∙ ap (λ (x : ℕ). (a.a + x) % 18446744073709551616) (c.product-2.ensures ∙ ap (λ (x : ℕ). low_product x a.m) c.product.ensures))
     refl

@@ -7,5 +7,5 @@ use Rattle.poseidon_blocks.proofs.lowered.Goals as goal
 pub returns : goal.returns
 returns c =
     let a = c.args in
-    lowered a.a a.b a.m _ _ _ _ c.wide.ensures c.wrapping_add_u64-sum.ensures c.product.ensures
-    c.wrapping_sub_u64.ensures (search rules)
+    lowered a.a a.b a.m _ _ _ _ c.wide.ensures c.wrapping_add_u64-sum.ensures.value c.product.ensures
+    c.wrapping_sub_u64.ensures.value (search rules)

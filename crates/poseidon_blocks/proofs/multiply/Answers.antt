@@ -16,7 +16,7 @@ loop-i-preserved c =
     let last = c.half_twice-last.ensures in
     let sums = c.sums_of_halves-sums.ensures in
     let two = c.two_rows-two.ensures in
-    let place : 24 * (a.addends-row % 11) + 12 + l.i ≡ 24 * (a.addends-row % 11) + (12 + l.i) = omega arith in
+    let place : 24 * (a.addends_row % 11) + 12 + l.i ≡ 24 * (a.addends_row % 11) + (12 + l.i) = omega arith in
     halves_step _ _ l.invariant (omega arith) (at_first_rows a.table.now a.x.now _ _ _ a.m first last sums (omega arith) two.at_first)
     (subst (λ (k : ℕ). MatrixRow a.table.now a.x.now (get_or a.addends.now k 0) a.m a.q a.r (12 + l.i) c.two_rows-two.result.last) place
     (at_last_rows a.table.now a.x.now _ _ _ a.m first last sums (omega arith) two.at_last))

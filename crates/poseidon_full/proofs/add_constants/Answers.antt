@@ -13,7 +13,7 @@ loop-i-preserved c =
     step _ c.loop-i.invariant (omega arith)
     (λ h.
     let at = plain_sum_at _ _ _ _ (omega arith) in
-    c.wrapping_add_u32.ensures ∙ mod-eq_of_lt (omega (arith, at, h)) ∙ sym at)
+    c.wrapping_add_u32.ensures.value ∙ mod-eq_of_lt (omega (arith, at, h)) ∙ sym at)
 
 pub returns : goal.returns
 returns c = end c.loop-i.invariant (omega arith)

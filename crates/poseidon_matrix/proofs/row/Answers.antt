@@ -25,11 +25,11 @@ loop-d-preserved c =
           c.sum_of_four-four.ensures l.invariant.4,
     )
 
-pub UNKNOWN-overflow-add-reduce : goal.UNKNOWN-overflow-add-reduce
-UNKNOWN-overflow-add-reduce c = omega (arith, c.product.ensures, high_fits c.loop-d.high c.wide.result (omega arith))
+pub overflow_add-low-2 : goal.overflow_add-low-2
+overflow_add-low-2 c = omega (arith, c.product.ensures, high_fits c.loop-d.high c.wide.result (omega arith))
 
-pub UNKNOWN-overflow-add-reduce-2 : goal.UNKNOWN-overflow-add-reduce-2
-UNKNOWN-overflow-add-reduce-2 c = omega (arith, c.product.ensures, high_fits c.loop-d.high c.wide.result (omega arith))
+pub overflow_add-low-3 : goal.overflow_add-low-3
+overflow_add-low-3 c = omega (arith, c.product.ensures, high_fits c.loop-d.high c.wide.result (omega arith))
 
 pub returns : goal.returns
 unfolding row_sum

@@ -7,4 +7,4 @@ use Rattle.poseidon_partial.proofs.low_part.Goals as goal
 pub returns : goal.returns
 returns c =
     let a = c.args in
-    low_part a.sum a.high _ (search rules) c.wrapping_sub_u64.ensures
+    low_part a.sum a.high _ (search rules) c.wrapping_sub_u64.ensures.value

@@ -10,4 +10,4 @@ pub returns : goal.returns
 returns c =
     let a = c.args in
     next_element a.entry a.v a.y a.m a.q _ _ _ (c.product.ensures ∙ ap (λ (x : ℕ). low_product x a.y) c.wide.ensures)
-    c.wrapping_add_u64.ensures (reduced_at c.wide-2.ensures c.wide-3.ensures c.reduce.ensures)
+    c.wrapping_add_u64.ensures.value (reduced_at c.wide-2.ensures c.wide-3.ensures c.reduce.ensures)

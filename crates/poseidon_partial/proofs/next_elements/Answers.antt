@@ -20,7 +20,7 @@ loop-i-preserved c =
     subst (λ (x : ℕ). NextElement (get_or a.sparse.now (at + 2 * i) 0) x a.y a.m a.q e) (l.invariant.rest i (omega arith)) c.next_element-w.ensures in
     spreading_step e c.product-product.result _ l.invariant (omega arith) d
     (c.product-product.ensures ∙ ap (λ (x : ℕ). low_product x e) c.wide.ensures) (search rules)
-    c.wrapping_add_u64-sum.ensures
+    c.wrapping_add_u64-sum.ensures.value
 
 pub returns : goal.returns
 returns c = spreading_end _ c.loop-i.invariant (omega arith) c.low_part.ensures

@@ -6,14 +6,14 @@ use Rattle.montgomery.proofs.Reduction.{reduced_at}
 use Rattle.poseidon_partial.proofs.Partial.{next_first, rest_fits, fold_fits_all}
 use Rattle.poseidon_partial.proofs.next_first.Goals as goal
 
-pub UNKNOWN-overflow-add-reduce : goal.UNKNOWN-overflow-add-reduce
-UNKNOWN-overflow-add-reduce c = omega (arith, c.fold-folded.ensures, fold_fits_all c.product.result c.wide-2.result (search rules))
+pub overflow_add-folded : goal.overflow_add-folded
+overflow_add-folded c = omega (arith, c.fold-folded.ensures, fold_fits_all c.product.result c.wide-2.result (search rules))
 
-pub UNKNOWN-overflow-add-reduce-2 : goal.UNKNOWN-overflow-add-reduce-2
-UNKNOWN-overflow-add-reduce-2 c = omega (arith, c.fold-folded.ensures, fold_fits_all c.product.result c.wide-2.result (search rules), c.product-rest.ensures, rest_fits c.args.high c.wide-3.result c.requires.1)
+pub overflow_add-folded-2 : goal.overflow_add-folded-2
+overflow_add-folded-2 c = omega (arith, c.fold-folded.ensures, fold_fits_all c.product.result c.wide-2.result (search rules), c.product-rest.ensures, rest_fits c.args.high c.wide-3.result c.requires.1)
 
-pub UNKNOWN-overflow-add-reduce-3 : goal.UNKNOWN-overflow-add-reduce-3
-UNKNOWN-overflow-add-reduce-3 c = omega (arith, c.fold-folded.ensures, fold_fits_all c.product.result c.wide-2.result (search rules), c.product-rest.ensures, rest_fits c.args.high c.wide-3.result c.requires.1)
+pub overflow_add-folded-3 : goal.overflow_add-folded-3
+overflow_add-folded-3 c = omega (arith, c.fold-folded.ensures, fold_fits_all c.product.result c.wide-2.result (search rules), c.product-rest.ensures, rest_fits c.args.high c.wide-3.result c.requires.1)
 
 pub overflow_cast-result : goal.overflow_cast-result
 overflow_cast-result c = omega (arith, c.reduce.ensures.narrow)
