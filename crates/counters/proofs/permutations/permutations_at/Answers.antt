@@ -20,7 +20,10 @@ pub slice_bounds-whole_phases-end : goal.slice_bounds-whole_phases-end
 slice_bounds-whole_phases-end c = sym (front _ c.args.words.now c.args.phase c.words_before-before.ensures)
 
 pub whole_phases-requires : goal.whole_phases-requires
-whole_phases-requires c = let long = front _ c.args.words.now c.args.phase c.words_before-before.ensures in let few = c.words_before-before.ensures in search rules
+whole_phases-requires c =
+    let few = c.words_before-before.ensures in
+    let long = front _ c.args.words.now c.args.phase few in
+    search rules
 
 pub overflow_add-result : goal.overflow_add-result
 overflow_add-result c =
@@ -40,9 +43,10 @@ returns c =
     let args = c.args in
     let words = args.words.now in
     let n = c.words_before-before.result in
+    let long = front n words args.phase c.words_before-before.ensures in
     let before =
     c.whole_phases.ensures
-    ∙ ap (λ (k : ℕ). sum k (whole_phase (take n words))) (front _ c.args.words.now c.args.phase c.words_before-before.ensures)
+    ∙ ap (λ (k : ℕ). sum k (whole_phase (take n words))) long
     ∙ sum_of_front n words
     ∙ ap (λ (k : ℕ). sum k (whole_phase words)) c.words_before-before.ensures
     ∙ sum_stops words args.phase in
