@@ -1,6 +1,7 @@
 // The permutation Keccak-f[1600]. A state is 25 lanes by value; each step makes the next state of five planes, where a plane is the
 // five lanes of one y.
 #![tactic(auto)]
+
 ghost use Rattle.std.specs.Prelude.{◌≡◌, ◌<◌};
 ghost use Rattle.keccak.specs.Permutation.{lane, rotate, parity, effect, theta_lane, theta, rho_lane, rho, pi_lane, pi, chi_lane, chi, iota, permutation};
 ghost use Rattle.keccak.specs.Steps.{plane, of_planes, effect_of};

@@ -1,5 +1,6 @@
 // SHA3-256 (FIPS 202) of any string of bytes.
 #![tactic(auto)]
+
 ghost use Rattle.std.specs.Prelude.{◌≡◌, ◌+◌, ◌*◌, ◌≤◌, ◌<◌, length, get_or};
 ghost use Rattle.sha3.specs.Sponge.{padded, lane_at, block, added_lane, add_block, byte_of, squeeze, sha3};
 ghost use Rattle.sha3.specs.Steps.{little_endian};

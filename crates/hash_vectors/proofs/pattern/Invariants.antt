@@ -1,3 +1,4 @@
+-- What the loop of `hash_vectors::pattern` keeps true.
 use Prim.Native.Nat.{◌-◌, ◌≤◌}
 use Rattle.hash_vectors.proofs.pattern.Given as goal
 

@@ -1,3 +1,4 @@
+-- What the loop of `hash_vectors::print_digests` keeps true.
 use Prim.Native.Nat.{◌-◌, ◌≤◌}
 use Rattle.hash_vectors.proofs.print_digests.Given as goal
 

@@ -1,3 +1,4 @@
+-- What the loop of `hex_fields::field_at` keeps true.
 use Prim.Native.Nat.{◌-◌}
 use Rattle.hex_fields.proofs.Reading.{Read}
 use Rattle.hex_fields.proofs.field_at.Given as goal

@@ -1,3 +1,4 @@
+-- What the loop of `hex_fields::words_of` keeps true.
 use Prim.Native.Nat.{◌-◌}
 use Rattle.basics.proofs.Fill.{Filled}
 use Rattle.hex_fields.specs.Fields.{field_word}

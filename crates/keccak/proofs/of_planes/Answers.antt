@@ -13,6 +13,6 @@ returns c =
     let a = c.args in
     sym
     (λ i.
-    is_plane a.t1 (search rules) i
-    ++ (is_plane a.t2 (search rules) i
-    ++ (is_plane a.t3 (search rules) i ++ (is_plane a.t4 (search rules) i ++ is_plane a.t5 (search rules) i))))
+    is_plane a.p (search rules) i
+    ++ (is_plane a.q (search rules) i
+    ++ (is_plane a.r (search rules) i ++ (is_plane a.s (search rules) i ++ is_plane a.t (search rules) i))))

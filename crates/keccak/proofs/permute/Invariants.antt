@@ -1,3 +1,4 @@
+-- What the loop of `keccak::permute` keeps true.
 use mathlib.Core.Path.{◌≡◌}
 use Prim.Native.Nat.{◌-◌, ◌≤◌}
 use Rattle.keccak.specs.Permutation.{rounds}

@@ -1,8 +1,7 @@
 -- `sha3::add_block` meets its contract.
 -- Assumes nothing.
-use Prim.Native.Nat.{◌-◌}
 use Rattle.basics.proofs.Fill.{start, step, end}
-use Rattle.sha3.specs.Sponge.{added_lane, add_block}
+use Rattle.sha3.specs.Sponge.{add_block}
 use borrow.Author.Rules.{rules}
 use Rattle.sha3.proofs.add_block.Goals as goal
 

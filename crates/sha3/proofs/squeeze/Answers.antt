@@ -1,8 +1,7 @@
 -- `sha3::squeeze` meets its contract.
 -- Assumes nothing.
-use Prim.Native.Nat.{◌-◌}
 use Rattle.basics.proofs.Fill.{start, step, end}
-use Rattle.sha3.specs.Sponge.{squeeze, byte_of}
+use Rattle.sha3.specs.Sponge.{squeeze}
 use borrow.Author.Rules.{rules}
 use Rattle.sha3.proofs.squeeze.Goals as goal
 

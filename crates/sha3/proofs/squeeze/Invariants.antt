@@ -1,3 +1,4 @@
+-- What the loop of `sha3::squeeze` keeps true.
 use Prim.Native.Nat.{◌-◌}
 use Rattle.basics.proofs.Fill.{Filled}
 use Rattle.sha3.specs.Sponge.{byte_of}

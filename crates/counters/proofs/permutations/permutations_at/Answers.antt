@@ -1,7 +1,8 @@
 -- `counters::permutations::permutations_at` meets its contract.
 -- Assumes nothing.
 use mathlib.Core.Path.{◌≡◌, sym, ap, ap₂, ◌∙◌}
-use Prim.Native.Nat.{ℕ, ◌+◌}
+use mathlib.Core.List.{List}
+use Prim.Native.Nat.{ℕ, ◌+◌, min}
 use native.Mathlib.Omega.{arith}
 use lib.ListN.{length, take}
 use lib.Seq.{length-take-le}
@@ -11,22 +12,25 @@ use Rattle.counters.proofs.PermutationCounts.{whole_phase, phase_bound, sum_boun
 use borrow.Author.Rules.{rules}
 use Rattle.counters.proofs.permutations.permutations_at.Goals as goal
 
--- the words before the place, and how many they are
-front : (c : tie.After-whole-phases-arg) → length (take c.words_before-before.result c.args.words.now) ≡ c.words_before-before.result
-front c = let few = c.words_before-before.ensures in length-take-le _ _ (omega arith)
+-- how many the first n words are
+front : (n : ℕ) (ws : List ℕ) (phase : ℕ) → n ≡ min phase (length ws) → length (take n ws) ≡ n
+front n ws phase few = length-take-le _ _ (omega arith)
 
 pub slice_bounds-whole_phases-end : goal.slice_bounds-whole_phases-end
-slice_bounds-whole_phases-end c = sym (front c)
+slice_bounds-whole_phases-end c = sym (front _ c.args.words.now c.args.phase c.words_before-before.ensures)
 
 pub whole_phases-requires : goal.whole_phases-requires
-whole_phases-requires c = let long = front c in let few = c.words_before-before.ensures in search rules
+whole_phases-requires c =
+    let few = c.words_before-before.ensures in
+    let long = front _ c.args.words.now c.args.phase few in
+    search rules
 
 pub overflow_add-result : goal.overflow_add-result
 overflow_add-result c =
     let args = c.args in
     let words = args.words.now in
     let n = c.words_before-before.result in
-    let long = front c in
+    let long = front _ c.args.words.now c.args.phase c.words_before-before.ensures in
     let bound = sum_bound (take n words) (length (take n words)) in
     let whole = c.whole_phases.ensures in
     let phase = c.phase_permutations.ensures in
@@ -39,9 +43,10 @@ returns c =
     let args = c.args in
     let words = args.words.now in
     let n = c.words_before-before.result in
+    let long = front n words args.phase c.words_before-before.ensures in
     let before =
     c.whole_phases.ensures
-    ∙ ap (λ (k : ℕ). sum k (whole_phase (take n words))) (front c)
+    ∙ ap (λ (k : ℕ). sum k (whole_phase (take n words))) long
     ∙ sum_of_front n words
     ∙ ap (λ (k : ℕ). sum k (whole_phase words)) c.words_before-before.ensures
     ∙ sum_stops words args.phase in

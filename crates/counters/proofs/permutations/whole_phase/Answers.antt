@@ -22,19 +22,17 @@ overflow_add-squeezed c =
     let length = c.length_of-length.ensures in
     search rules
 
--- the word's length, which is not 0
-long : (c : tie.After-is-absorb) → c.length_of-length.result ≡ length_of c.args.word
-long c = c.length_of-length.ensures
-
 pub returns-then-is_absorb : goal.returns-then-is_absorb
 unfolding phase_permutations block_count
 returns-then-is_absorb c =
+    let long : c.length_of-length.result ≡ length_of c.args.word = c.length_of-length.ensures in
     let absorbs = sym c.is_absorb.ensures ∙ c.if-is_absorb.true in
-    ap (λ (n : ℕ). (n + 7) / 8 - 1) (long c)
-    ∙ sym (if_true _ _ _ absorbs ∙ if_false _ _ _ (ne_eqb _ 0 (λ z. c.if-length-eq0.false (long c ∙ z))))
+    ap (λ (n : ℕ). (n + 7) / 8 - 1) long
+    ∙ sym (if_true _ _ _ absorbs ∙ if_false _ _ _ (ne_eqb _ 0 (λ z. c.if-length-eq0.false (long ∙ z))))
 
 pub returns-else-is_absorb : goal.returns-else-is_absorb
 unfolding phase_permutations block_count
 returns-else-is_absorb c =
+    let long : c.length_of-length.result ≡ length_of c.args.word = c.length_of-length.ensures in
     let squeezes = sym c.is_absorb.ensures ∙ c.if-is_absorb.false in
-    ap (λ (n : ℕ). (n + 7) / 8) (long c) ∙ sym (if_false _ _ _ squeezes)
+    ap (λ (n : ℕ). (n + 7) / 8) long ∙ sym (if_false _ _ _ squeezes)

@@ -1,5 +1,6 @@
+-- What the loop of `counters::permutations::whole_phases` keeps true.
 use mathlib.Core.Path.{◌≡◌}
-use Prim.Native.Nat.{◌-◌, ◌≤◌}
+use Prim.Native.Nat.{◌≤◌}
 use lib.ListN.{length}
 use Rattle.basics.specs.Lists.{sum}
 use Rattle.counters.proofs.PermutationCounts.{whole_phase}

@@ -10,11 +10,6 @@ use Rattle.progress.proofs.Calls.{stays_behind, stays_at_end, goes_on, next_phas
 use borrow.Author.Rules.{rules}
 use Rattle.progress.proofs.place.place_after.Goals as goal
 
--- the length of the phase
-length : (c : tie.After-length-of)
-    → let args = c.args in c.length_of-length.result ≡ phase_length args.words.now args.phase
-length c = c.length_of-length.ensures ∙ ap length_of c.phase_word.ensures
-
 pub returns-then-phase-count : goal.returns-then-phase-count
 returns-then-phase-count c =
     let args = c.args in
@@ -23,24 +18,26 @@ returns-then-phase-count c =
 pub returns-then-done-length : goal.returns-then-done-length
 returns-then-done-length c =
     let args = c.args in
-    let long = length c in
+    let long : c.length_of-length.result ≡ phase_length args.words.now args.phase =
+    c.length_of-length.ensures ∙ ap length_of c.phase_word.ensures in
     sym (stays_at_end args.words.now args.count args.phase args.done args.elements (search rules) (omega arith))
 
 pub returns-then-elements-length : goal.returns-then-elements-length
 returns-then-elements-length c =
     let args = c.args in
-    let long = length c in
+    let long : c.length_of-length.result ≡ phase_length args.words.now args.phase =
+    c.length_of-length.ensures ∙ ap length_of c.phase_word.ensures in
     (λ i. record { phase = add-one args.phase i; done = 0 })
     ∙ sym (next_phase args.words.now args.count args.phase args.done args.elements (search rules) (omega arith) (omega arith))
 
-pub UNKNOWN-overflow-cast-t8 : goal.UNKNOWN-overflow-cast-t8
-UNKNOWN-overflow-cast-t8 c =
+pub overflow_cast-result : goal.overflow_cast-result
+overflow_cast-result c =
     let below = length_below c.phase_word.result in
     let long = c.length_of-length.ensures in
     omega arith
 
-pub UNKNOWN-overflow-add-t11 : goal.UNKNOWN-overflow-add-t11
-UNKNOWN-overflow-add-t11 c =
+pub overflow_add-result-2 : goal.overflow_add-result-2
+overflow_add-result-2 c =
     let below = length_below c.phase_word.result in
     let long = c.length_of-length.ensures in
     omega arith
@@ -48,5 +45,6 @@ UNKNOWN-overflow-add-t11 c =
 pub returns : goal.returns
 returns c =
     let args = c.args in
-    let long = length c in
+    let long : c.length_of-length.result ≡ phase_length args.words.now args.phase =
+    c.length_of-length.ensures ∙ ap length_of c.phase_word.ensures in
     sym (goes_on args.words.now args.count args.phase args.done args.elements (search rules) (omega arith) (omega arith))
