@@ -1,5 +1,6 @@
 // Reads a card line: its separator and its words.
 #![tactic(auto)]
+
 ghost use Rattle.std.specs.Prelude.{◌≡◌, ◌+◌, ◌≤◌, ltb, length, set};
 ghost use Rattle.basics.specs.Logic.{if◌then◌else◌};
 ghost use Rattle.card_grammar.specs.Grammar.{none};

@@ -5,8 +5,8 @@ use Rattle.card.proofs.Texts.{ok_written}
 use borrow.Author.Rules.{rules}
 use Rattle.card.proofs.put_ok.Goals as goal
 
-pub UNKNOWN-overflow-add-put-decimal : goal.UNKNOWN-overflow-add-put-decimal
-UNKNOWN-overflow-add-put-decimal c =
+pub overflow_add-tag_end : goal.overflow_add-tag_end
+overflow_add-tag_end c =
     let tag = length_hex c.args.string.now in
     search rules
 

@@ -1,3 +1,4 @@
+-- What `read_short`'s loop keeps, and its measure: how many bytes are left.
 use Prim.Native.Nat.{◌-◌}
 use lib.ListN.{length}
 use Rattle.card_reader.proofs.ReadLoop.{Held}

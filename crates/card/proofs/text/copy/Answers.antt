@@ -2,7 +2,7 @@
 -- Assumes nothing.
 use mathlib.Core.Path.{◌≡◌, sym, ap, ◌∙◌}
 use mathlib.Core.List.{List}
-use Prim.Native.Nat.{ℕ, ◌+◌, ◌-◌}
+use Prim.Native.Nat.{ℕ, ◌+◌, ◌-◌, ◌≤◌}
 use native.Mathlib.Omega.{arith}
 use lib.ListN.{length, get_or, take, set, length-take}
 use lib.Seq.{length-take-le}
@@ -13,10 +13,11 @@ use borrow.Author.Rules.{rules}
 use Rattle.card.proofs.text.copy.Goals as goal
 
 -- the buffer stays as long as it was
-same : (buffer₀ : List ℕ) (at : ℕ) (bytes buffer : List ℕ) (i : ℕ) → invariant-loop buffer₀ at bytes 0 0 buffer i → length buffer ≡ length buffer₀
-same buffer₀ at bytes buffer i inv =
-    let long = length-take-le i bytes inv.0 in
-    ap length inv.2 ∙ placed_length buffer₀ at (take i bytes) (omega arith)
+same : (old : List ℕ) (at : ℕ) (bytes buffer : List ℕ) (i : ℕ) → i ≤ length bytes → i ≤ length old - at → buffer ≡ placed old at (take i bytes)
+    → length buffer ≡ length old
+same old at bytes buffer i read room is =
+    let long = length-take-le i bytes read in
+    ap length is ∙ placed_length old at (take i bytes) (omega arith)
 
 pub loop-i-init : goal.loop-i-init
 loop-i-init c =
@@ -24,10 +25,10 @@ loop-i-init c =
     (search rules, search rules, sym (placed_none args.buffer.now args.at))
 
 pub overflow_add-buffer : goal.overflow_add-buffer
-overflow_add-buffer c = let long = same _ _ _ _ _ c.loop-i.invariant in search rules
+overflow_add-buffer c = let long = same _ _ _ _ _ c.loop-i.invariant.0 c.loop-i.invariant.1 c.loop-i.invariant.2 in search rules
 
 pub bounds-buffer-at : goal.bounds-buffer-at
-bounds-buffer-at c = let long = same _ _ _ _ _ c.loop-i.invariant in search rules
+bounds-buffer-at c = let long = same _ _ _ _ _ c.loop-i.invariant.0 c.loop-i.invariant.1 c.loop-i.invariant.2 in search rules
 
 pub loop-i-preserved : goal.loop-i-preserved
 loop-i-preserved c =
@@ -43,7 +44,7 @@ loop-i-preserved c =
     )
 
 pub shape_of-buffer : goal.shape_of-buffer
-shape_of-buffer c = same _ _ _ _ _ c.loop-i.invariant
+shape_of-buffer c = same _ _ _ _ _ c.loop-i.invariant.0 c.loop-i.invariant.1 c.loop-i.invariant.2
 
 pub returns : goal.returns
 returns c =

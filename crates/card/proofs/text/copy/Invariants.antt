@@ -1,3 +1,4 @@
+-- The loop of `copy` has put the first bytes into their place. Its measure is how many bytes are left.
 use mathlib.Core.Path.{◌≡◌}
 use Prim.Native.Nat.{◌-◌, ◌≤◌}
 use lib.ListN.{length, take}

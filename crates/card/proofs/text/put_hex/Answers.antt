@@ -15,27 +15,27 @@ use borrow.Author.Rules.{rules}
 use Rattle.card.proofs.text.put_hex.Goals as goal
 
 -- the buffer stays as long as it was
-same : (buffer₀ : List ℕ) (at : ℕ) (bytes buffer : List ℕ) (i : ℕ) → at + 2 * length bytes ≤ length buffer₀
-    → invariant-loop buffer₀ at bytes 0 0 buffer i → length buffer ≡ length buffer₀
-same buffer₀ at bytes buffer i room inv =
-    let long = length_hex_front bytes i inv.0 in
-    ap length inv.1 ∙ placed_length buffer₀ at (hex (take i bytes)) (omega arith)
+same : (old : List ℕ) (at : ℕ) (bytes buffer : List ℕ) (i : ℕ) → at + 2 * length bytes ≤ length old → i ≤ length bytes
+    → buffer ≡ placed old at (hex (take i bytes)) → length buffer ≡ length old
+same old at bytes buffer i room read is =
+    let long = length_hex_front bytes i read in
+    ap length is ∙ placed_length old at (hex (take i bytes)) (omega arith)
 
 pub loop-i-init : goal.loop-i-init
 unfolding hex
 loop-i-init c = (search rules, sym (placed_none c.args.buffer.now c.args.at))
 
 pub hex_digit-requires : goal.hex_digit-requires
-hex_digit-requires c = omega (arith, c.shared_slice_known-in-loop-i-1.given c.loop-i.i)
+hex_digit-requires c = omega arith
 
 pub bounds-buffer-at : goal.bounds-buffer-at
 bounds-buffer-at c =
-    let long = same _ _ _ _ _ c.requires c.loop-i.invariant in
+    let long = same _ _ _ _ _ c.requires c.loop-i.invariant.0 c.loop-i.invariant.1 in
     omega arith
 
 pub bounds-buffer-at-in-loop-i : goal.bounds-buffer-at-in-loop-i
 bounds-buffer-at-in-loop-i c =
-    let long = same _ _ _ _ _ c.requires c.loop-i.invariant in
+    let long = same _ _ _ _ _ c.requires c.loop-i.invariant.0 c.loop-i.invariant.1 in
     simp length-set (omega arith)
 
 pub loop-i-preserved : goal.loop-i-preserved
@@ -53,7 +53,7 @@ loop-i-preserved c =
     )
 
 pub shape_of-buffer : goal.shape_of-buffer
-shape_of-buffer c = same _ _ _ _ _ c.requires c.loop-i.invariant
+shape_of-buffer c = same _ _ _ _ _ c.requires c.loop-i.invariant.0 c.loop-i.invariant.1
 
 pub returns : goal.returns
 returns c =

@@ -1,3 +1,4 @@
+-- The loop of `put_hex` has put the digits of the first bytes into their place.
 use mathlib.Core.Path.{◌≡◌}
 use Prim.Native.Nat.{◌-◌, ◌≤◌}
 use lib.ListN.{length, take}
