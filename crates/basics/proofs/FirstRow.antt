@@ -7,7 +7,7 @@ use mathlib.Core.Logic.{◌≢◌}
 use Prim.Native.Nat.{ℕ, ◌≤◌, zero-le}
 use borrow.Author.Tests.{leb-true, eqb-false, not-true}
 use lib.Dec.{leb, eqb}
-use Rattle.basics.specs.Logic.{if◌then◌else◌, ◌or◌, all, any}
+use Rattle.basics.specs.Logic.{when◌then◌else◌, ◌or◌, all, any}
 use Rattle.basics.specs.Numbers.{accepted}
 use Rattle.basics.specs.Refusals.{Row, first_number}
 use Rattle.basics.proofs.Cases.{by, if_true, if_false, and_left, and_right, or_false}
@@ -45,7 +45,7 @@ pub refused_before : (rows others : List Row) → first_number rows ≢ accepted
 unfolding first_number
 refused_before [] others = λ n. absurd (n refl)
 refused_before (row ∷ rows) others =
-    by (λ (n : ℕ). n ≢ accepted → (if row.applies then row.number else first_number (rows ++ others)) ≡ n) row.applies _ _
+    by (λ (n : ℕ). n ≢ accepted → (when row.applies then row.number else first_number (rows ++ others)) ≡ n) row.applies _ _
     (λ t _. if_true _ _ _ t)
     λ f n. if_false _ _ _ f ∙ refused_before rows others n
 

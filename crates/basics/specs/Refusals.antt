@@ -1,6 +1,6 @@
 -- A table of refusals: rows in the order in which they are looked at, each a condition with the number that a call gets where it holds.
 use Rattle.std.specs.Prelude.{Bool, List, [], ◌∷◌, ℕ}
-use Rattle.basics.specs.Logic.{if◌then◌else◌}
+use Rattle.basics.specs.Logic.{when◌then◌else◌}
 use Rattle.basics.specs.Numbers.{accepted}
 
 -- a row of a table
@@ -16,4 +16,4 @@ condition gets n ⨾ rows = record { applies = condition; number = n } ∷ rows
 -- the number that a call gets: the first row that applies gives it, and where none does, the call is accepted
 unfoldable pub first_number : List Row → ℕ
 first_number [] = accepted
-first_number (row ∷ rows) = if row.applies then row.number else first_number rows
+first_number (row ∷ rows) = when row.applies then row.number else first_number rows

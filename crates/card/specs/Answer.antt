@@ -1,7 +1,7 @@
 -- The answer to a line. From document 01, "Cards".
 use Rattle.std.specs.Prelude.{List, [], ◌∷◌, ◌++◌, ℕ, eqb}
 use Prim.Native.Char.{code}
-use Rattle.basics.specs.Logic.{if◌then◌else◌}
+use Rattle.basics.specs.Logic.{when◌then◌else◌}
 use Rattle.basics.specs.Numbers.{accepted, not_card}
 use Rattle.pattern.specs.Opening.{Opening, opening, opening_number}
 use Rattle.tag.specs.TagString.{tag_string}
@@ -24,7 +24,7 @@ card_form = 1
 
 -- the answer to a card: START's numbers about an opening
 unfoldable pub card_answer : Opening → List ℕ
-card_answer o = if eqb (opening_number o) accepted then ok_text (tag_string card_form o) (full_permutations o.words) else no_text (opening_number o)
+card_answer o = when eqb (opening_number o) accepted then ok_text (tag_string card_form o) (full_permutations o.words) else no_text (opening_number o)
 
 -- "14 before 1 to 6"
 unfoldable pub reading_answer : Reading → List ℕ

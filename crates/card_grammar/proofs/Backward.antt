@@ -10,7 +10,7 @@ use borrow.Author.Tests.{ltb-true, ltb-false, le-leb, lt-leb, leb-true, eqb-true
 use lib.Dec.{ltb, leb, eqb, lit<}
 use lib.ListN.{take}
 use lib.Seq.{take-suc}
-use Rattle.basics.specs.Logic.{if◌then◌else◌}
+use Rattle.basics.specs.Logic.{when◌then◌else◌}
 use Rattle.basics.specs.Lists.{Below}
 use Rattle.basics.proofs.Cases.{by}
 use Rattle.basics.proofs.Below.{below_nil, below_push}
@@ -28,14 +28,14 @@ abbrev up_to : List ℕ → List ℕ → List ℕ
 up_to s w = head_text ++ (separator_text s ++ (middle_text ++ calls_text w))
 
 abbrev letter : ℕ → ℕ
-letter t = if is_absorb t then 97 else 115
+letter t = when is_absorb t then 97 else 115
 
 letter_absorb : 97 ≡ letter 2147483648
-unfolding is_absorb if◌then◌else◌
+unfolding is_absorb when◌then◌else◌
 letter_absorb = refl
 
 letter_squeeze : 115 ≡ letter 0
-unfolding is_absorb if◌then◌else◌
+unfolding is_absorb when◌then◌else◌
 letter_squeeze = refl
 
 abbrev TopBit : ℕ → Type 0
@@ -99,7 +99,7 @@ up_to_push s w x = rw calls_push (simp append_assoc)
 
 -- the word of a top bit and a length
 word_text : (t v : ℕ) → TopBit t → v ≤ 2147483647 → call_text (t + v) ≡ 32 ∷ 40 ∷ letter t ∷ 32 ∷ (decimal v ++ (41 ∷ []))
-unfolding call_text is_absorb length_of if◌then◌else◌
+unfolding call_text is_absorb length_of when◌then◌else◌
 word_text t v top u =
     ⊎_elim
     (λ e. let low : (2147483648 + v) % 2147483648 ≡ v = omega arith in

@@ -6,7 +6,7 @@ use Prim.Native.Nat.{ℕ, zero, suc, ◌+◌, ◌*◌, ◌/◌, ◌%◌, ◌<◌
 use native.Mathlib.Omega.{arith}
 use borrow.Author.Tests.{lt-ltb, ltb-true, ltb-false, le-leb, leb-true, leb-false, ne_eqb, eqb-true, eqb-false}
 use lib.Dec.{ltb, leb, eqb}
-use Rattle.basics.specs.Logic.{if◌then◌else◌}
+use Rattle.basics.specs.Logic.{when◌then◌else◌}
 use Rattle.basics.specs.Lists.{Below}
 use Rattle.basics.proofs.Cases.{cases}
 use Rattle.basics.proofs.Below.{below_head, below_tail}
@@ -29,35 +29,35 @@ unfolding run
 run_one m s w b l move e = ap (λ (x : Move). run (state_after x s w) l) e
 
 head_run : run fresh head_text ≡ at Domain [] []
-unfolding run move_of head_at expected if◌then◌else◌
+unfolding run move_of head_at expected when◌then◌else◌
 head_run = refl
 
 middle_run : (m : Mode) (s : List ℕ) → move_of m 41 ≡ To (Middle 1) → run (at m s []) middle_text ≡ at Calls s []
-unfolding run move_of middle_at expected if◌then◌else◌
+unfolding run move_of middle_at expected when◌then◌else◌
 middle_run m s e = run_one m s [] 41 (32 ∷ 40 ∷ 99 ∷ 97 ∷ 108 ∷ 108 ∷ 115 ∷ []) (To (Middle 1)) e
 
 domain_closes : move_of Domain 41 ≡ To (Middle 1)
-unfolding move_of expected if◌then◌else◌
+unfolding move_of expected when◌then◌else◌
 domain_closes = refl
 
 more_closes : move_of More 41 ≡ To (Middle 1)
-unfolding move_of if◌then◌else◌
+unfolding move_of when◌then◌else◌
 more_closes = refl
 
 domain_space : move_of Domain 32 ≡ To First
-unfolding move_of if◌then◌else◌
+unfolding move_of when◌then◌else◌
 domain_space = refl
 
 first_digit : (d : ℕ) → d < 16 → move_of First (hex_digit d) ≡ To (Half d)
-unfolding move_of if◌then◌else◌
+unfolding move_of when◌then◌else◌
 first_digit d h = simp (hex_printed d h, lt-ltb d 16 h)
 
 more_digit : (d : ℕ) → d < 16 → move_of More (hex_digit d) ≡ To (Half d)
-unfolding move_of if◌then◌else◌
+unfolding move_of when◌then◌else◌
 more_digit d h = simp (ne_eqb (hex_digit d) 41 (hex_no_bracket d h), hex_printed d h, lt-ltb d 16 h)
 
 second_digit : (high d : ℕ) → high < 16 → d < 16 → move_of (Half high) (hex_digit d) ≡ Byte (high * 16 + d)
-unfolding move_of if◌then◌else◌
+unfolding move_of when◌then◌else◌
 second_digit high d g h = simp (hex_printed d h, lt-ltb d 16 h, lt-ltb high 16 g)
 
 -- a pair, where one may begin
@@ -86,15 +86,15 @@ separator_run (b ∷ s) h =
     ∙ more_run (b ∷ []) s (below_tail 256 b s h)
 
 start_digit : (t v : ℕ) → 0 < v → v < 10 → move_of (Start t) (v + 48) ≡ To (Length t v)
-unfolding move_of if◌then◌else◌
+unfolding move_of when◌then◌else◌
 start_digit t v g h = simp (ne_eqb (v + 48) 48 (omega arith), decimal_printed v h, lt-ltb v 10 h)
 
 length_digit : (t v d : ℕ) → d < 10 → v * 10 + d ≤ 2147483647 → move_of (Length t v) (d + 48) ≡ To (Length t (v * 10 + d))
-unfolding move_of if◌then◌else◌
+unfolding move_of when◌then◌else◌
 length_digit t v d h fits = simp (ne_eqb (d + 48) 41 (omega arith), decimal_printed d h, lt-ltb d 10 h, le-leb (v * 10 + d) 2147483647 fits)
 
 length_closes : (t v : ℕ) → t + v < 4294967296 → move_of (Length t v) 41 ≡ Word (t + v)
-unfolding move_of if◌then◌else◌
+unfolding move_of when◌then◌else◌
 length_closes t v h = simp (lt-ltb (t + v) 4294967296 h)
 
 -- the digits of a length other than 0, by induction on a bound of it
@@ -116,7 +116,7 @@ digits_run (suc k) t v s w p q u =
 -- a length and the bracket behind it
 length_run : (t v : ℕ) (s w : List ℕ) → v ≤ 2147483647 → t + v < 4294967296
     → run (at (Start t) s w) (decimal v ++ (41 ∷ [])) ≡ at Calls s (w ++ ((t + v) ∷ []))
-unfolding run move_of if◌then◌else◌
+unfolding run move_of when◌then◌else◌
 length_run t v s w u f =
     cases (eqb v 0)
     (λ e. let z : v ≡ 0 = eqb-true v 0 e in
@@ -128,21 +128,21 @@ length_run t v s w u f =
     ∙ run_one (Length t v) s w 41 [] _ (length_closes t v f))
 
 kind_a : move_of Kind 97 ≡ To (Space 2147483648)
-unfolding move_of if◌then◌else◌
+unfolding move_of when◌then◌else◌
 kind_a = refl
 
 kind_s : move_of Kind 115 ≡ To (Space 0)
-unfolding move_of expected if◌then◌else◌
+unfolding move_of expected when◌then◌else◌
 kind_s = refl
 
 -- a call of the kind that a letter gives
 kind_run : (letter t v : ℕ) (s w : List ℕ) → move_of Kind letter ≡ To (Space t) → v ≤ 2147483647 → t + v < 4294967296
     → run (at Calls s w) (32 ∷ 40 ∷ letter ∷ 32 ∷ (decimal v ++ (41 ∷ []))) ≡ at Calls s (w ++ ((t + v) ∷ []))
-unfolding run move_of expected if◌then◌else◌
+unfolding run move_of expected when◌then◌else◌
 kind_run letter t v s w e u f = run_one Kind s w letter (32 ∷ (decimal v ++ (41 ∷ []))) _ e ∙ length_run t v s w u f
 
 call_run : (x : ℕ) (s w : List ℕ) → x < 4294967296 → run (at Calls s w) (call_text x) ≡ at Calls s (w ++ (x ∷ []))
-unfolding call_text is_absorb length_of if◌then◌else◌
+unfolding call_text is_absorb length_of when◌then◌else◌
 call_run x s w h =
     cases (leb 2147483648 x)
     (λ e. let top : 2147483648 ≤ x = leb-true 2147483648 x e in
@@ -155,7 +155,7 @@ call_run x s w h =
     ∙ ap (λ (y : ℕ). at Calls s (w ++ (y ∷ []))) whole))
 
 calls_run : (s w ws : List ℕ) → Below 4294967296 ws → run (at Calls s w) (calls_text ws ++ end_text) ≡ at End s (w ++ ws)
-unfolding calls_text run move_of expected if◌then◌else◌
+unfolding calls_text run move_of expected when◌then◌else◌
 calls_run s w [] h = rw append-nil
 calls_run s w (x ∷ ws) h =
     ap (run (at Calls s w)) (append_assoc (call_text x) (calls_text ws) end_text)

@@ -8,7 +8,7 @@ use native.Mathlib.Omega.{arith}
 use borrow.Author.Tests.{lt-ltb, le-ltb, ltb-true, ltb-false}
 use lib.Dec.{ltb}
 use lib.ListN.{length}
-use Rattle.basics.specs.Logic.{if◌then◌else◌}
+use Rattle.basics.specs.Logic.{when◌then◌else◌}
 use Rattle.basics.specs.Lists.{Below}
 use Rattle.basics.proofs.Cases.{cases}
 use Rattle.card_grammar.specs.Text.{card_text}
@@ -65,11 +65,11 @@ at_end m s w s' w' e =
 module _ (line : List ℕ) where
   -- by a line's length, and where it leaves the machine
   pub long_none : 2048 < length line → card_of line ≡ none
-  unfolding card_of if◌then◌else◌
+  unfolding card_of when◌then◌else◌
   long_none h = rw lt-ltb
 
   short_read : length line ≤ 2048 → card_of line ≡ card_at (run fresh line)
-  unfolding card_of if◌then◌else◌
+  unfolding card_of when◌then◌else◌
   short_read h = rw le-ltb
 
   pub ended : (s w : List ℕ) → length line ≤ 2048 → run fresh line ≡ at End s w → card_of line ≡ card s w

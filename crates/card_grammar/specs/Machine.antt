@@ -1,7 +1,7 @@
 -- The machine that reads a line byte by byte, whose code is the crate card_machine. `card_of` is computed by it, and fixed by theorems whatever
 -- the machine.
 use Rattle.std.specs.Prelude.{List, [], ◌∷◌, ◌++◌, ℕ, ◌+◌, ◌-◌, ◌*◌, ltb, leb, eqb, get_or}
-use Rattle.basics.specs.Logic.{if◌then◌else◌}
+use Rattle.basics.specs.Logic.{when◌then◌else◌}
 use Rattle.card_grammar.specs.Text.{head_text, middle_text}
 use Rattle.card_grammar.specs.Grammar.{Reading, card, none}
 use Rattle.card_grammar.specs.declared.machine.Mode.{Mode}
@@ -19,38 +19,38 @@ middle_at k = get_or middle_text k 0
 -- the value of a digit, or 16 (10) for a byte that is none
 unfoldable pub hex_value : ℕ → ℕ
 hex_value b =
-    if ltb b 48 then 16
-    else if leb b 57 then b - 48
-    else if ltb b 97 then 16
-    else if leb b 102 then b - 97 + 10
+    when ltb b 48 then 16
+    else when leb b 57 then b - 48
+    else when ltb b 97 then 16
+    else when leb b 102 then b - 97 + 10
     else 16
 
 unfoldable pub decimal_value : ℕ → ℕ
-decimal_value b = if ltb b 48 then 10 else if leb b 57 then b - 48 else 10
+decimal_value b = when ltb b 48 then 10 else when leb b 57 then b - 48 else 10
 
 unfoldable pub expected : ℕ → ℕ → Mode → Move
-expected b wanted next = if eqb b wanted then To next else To Dead
+expected b wanted next = when eqb b wanted then To next else To Dead
 
 -- What a byte does. In every mode that a line leads to, the digit h is below 16 and the word t + v below 2^32: the program tests both to show
 -- that they fit a byte and a word, so the tests stand here too.
 unfoldable pub move_of : Mode → ℕ → Move
-move_of (Head k) b = if ltb k 12 then expected b (head_at k) (Head (k + 1)) else expected b (head_at k) Domain
-move_of Domain b = if eqb b 32 then To First else expected b 41 (Middle 1)
-move_of First b = if ltb (hex_value b) 16 then To (Half (hex_value b)) else To Dead
-move_of (Half h) b = if ltb (hex_value b) 16 then (if ltb h 16 then Byte (h * 16 + hex_value b) else To Dead) else To Dead
-move_of More b = if eqb b 41 then To (Middle 1) else if ltb (hex_value b) 16 then To (Half (hex_value b)) else To Dead
-move_of (Middle k) b = if ltb k 7 then expected b (middle_at k) (Middle (k + 1)) else expected b (middle_at k) Calls
-move_of Calls b = if eqb b 32 then To Open else expected b 41 Close
+move_of (Head k) b = when ltb k 12 then expected b (head_at k) (Head (k + 1)) else expected b (head_at k) Domain
+move_of Domain b = when eqb b 32 then To First else expected b 41 (Middle 1)
+move_of First b = when ltb (hex_value b) 16 then To (Half (hex_value b)) else To Dead
+move_of (Half h) b = when ltb (hex_value b) 16 then (when ltb h 16 then Byte (h * 16 + hex_value b) else To Dead) else To Dead
+move_of More b = when eqb b 41 then To (Middle 1) else when ltb (hex_value b) 16 then To (Half (hex_value b)) else To Dead
+move_of (Middle k) b = when ltb k 7 then expected b (middle_at k) (Middle (k + 1)) else expected b (middle_at k) Calls
+move_of Calls b = when eqb b 32 then To Open else expected b 41 Close
 move_of Open b = expected b 40 Kind
-move_of Kind b = if eqb b 97 then To (Space 2147483648) else expected b 115 (Space 0)
+move_of Kind b = when eqb b 97 then To (Space 2147483648) else expected b 115 (Space 0)
 move_of (Space t) b = expected b 32 (Start t)
 move_of (Start t) b =
-    if eqb b 48 then To (Zero t) else if ltb (decimal_value b) 10 then To (Length t (decimal_value b)) else To Dead
-move_of (Zero t) b = if eqb b 41 then Word t else To Dead
+    when eqb b 48 then To (Zero t) else when ltb (decimal_value b) 10 then To (Length t (decimal_value b)) else To Dead
+move_of (Zero t) b = when eqb b 41 then Word t else To Dead
 move_of (Length t v) b =
-    if eqb b 41 then (if ltb (t + v) 4294967296 then Word (t + v) else To Dead)
-    else if ltb (decimal_value b) 10 then
-    (if leb (v * 10 + decimal_value b) 2147483647 then To (Length t (v * 10 + decimal_value b)) else To Dead)
+    when eqb b 41 then (when ltb (t + v) 4294967296 then Word (t + v) else To Dead)
+    else when ltb (decimal_value b) 10 then
+    (when leb (v * 10 + decimal_value b) 2147483647 then To (Length t (v * 10 + decimal_value b)) else To Dead)
     else To Dead
 move_of Close b = expected b 41 End
 move_of End b = To Dead

@@ -2,7 +2,7 @@
 use Rattle.std.specs.Prelude.{true, false, List, [], ◌∷◌, ◌++◌, ℕ, zero, suc, ◌+◌, ◌/◌, ◌%◌, ltb}
 use Prim.Native.Char.{code}
 use Prim.Native.String.{String}
-use Rattle.basics.specs.Logic.{if◌then◌else◌}
+use Rattle.basics.specs.Logic.{when◌then◌else◌}
 use Rattle.words.specs.Words.{is_absorb, length_of}
 
 -- a text's bytes
@@ -21,7 +21,7 @@ end_text = ascii "))"
 
 -- a digit, "lower-case": 0 to 9 are the bytes 48 to 57, a to f the bytes 97 to 102
 unfoldable pub hex_digit : ℕ → ℕ
-hex_digit d = if ltb d 10 then d + 48 else d + 87
+hex_digit d = when ltb d 10 then d + 48 else d + 87
 
 -- bytes "in lower-case hexadecimal pairs", the high digit first
 unfoldable pub hex : List ℕ → List ℕ
@@ -44,7 +44,7 @@ decimal n = decimal_up_to n n
 
 -- a call: " (a 3)" for ABSORB of 3 elements, " (s 3)" for SQUEEZE
 unfoldable pub call_text : ℕ → List ℕ
-call_text w = ascii " (" ++ ((if is_absorb w then code "a" else code "s") ∷ (ascii " " ++ (decimal (length_of w) ++ ascii ")")))
+call_text w = ascii " (" ++ ((when is_absorb w then code "a" else code "s") ∷ (ascii " " ++ (decimal (length_of w) ++ ascii ")")))
 
 -- "(calls) if none": what follows "(calls"
 unfoldable pub calls_text : List ℕ → List ℕ

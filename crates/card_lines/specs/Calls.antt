@@ -1,7 +1,7 @@
 -- Calls of `feed` and of `answer_lines` in turn, each on the line in progress that the one before it left. Document 01 leaves it to the program
 -- how input and output are cut; what is common to every choice is `output`.
 use Rattle.std.specs.Prelude.{List, [], ◌∷◌, ◌++◌, ℕ, zero, suc, ◌+◌, ◌-◌, ltb, length, drop}
-use Rattle.basics.specs.Logic.{if◌then◌else◌}
+use Rattle.basics.specs.Logic.{when◌then◌else◌}
 use Rattle.card.specs.Answer.{longest_answer}
 use Rattle.card_lines.specs.Stream.{writes, takes, line_after, fed, last_answer}
 use Rattle.card_lines.specs.declared.Fed.{Fed}
@@ -44,7 +44,7 @@ unfoldable pub feedings : ℕ → ℕ → Held → List ℕ → List (List ℕ)
 feedings zero room h rest = []
 feedings (suc k) room h [] = []
 feedings (suc k) room h (b ∷ bs) =
-    if ltb room longest_answer then [] else
+    when ltb room longest_answer then [] else
     (b ∷ bs) ∷ feedings k (room - length (writes h.line h.held (b ∷ bs))) (leaves h (b ∷ bs)) (drop (length (takes (b ∷ bs))) (b ∷ bs))
 
 -- what it begins with, and its calls of `feed`
@@ -100,11 +100,11 @@ kept_after s piece = record { line = answered_line s.line s.last piece; last = a
 unfoldable pub piece_text : ℕ → Kept → List ℕ → List ℕ
 piece_text zero s piece = []
 piece_text (suc k) s piece =
-    if ltb s.last.used (length piece) then answered_text s.line s.last piece ++ piece_text k (kept_after s piece) piece else []
+    when ltb s.last.used (length piece) then answered_text s.line s.last piece ++ piece_text k (kept_after s piece) piece else []
 
 unfoldable pub piece_kept : ℕ → Kept → List ℕ → Kept
 piece_kept zero s piece = s
-piece_kept (suc k) s piece = if ltb s.last.used (length piece) then piece_kept k (kept_after s piece) piece else s
+piece_kept (suc k) s piece = when ltb s.last.used (length piece) then piece_kept k (kept_after s piece) piece else s
 
 -- the same for piece after piece, and behind them what `end` writes
 unfoldable pub text_of_pieces : Kept → List (List ℕ) → List ℕ

@@ -1,6 +1,6 @@
 -- The lines of an input, and the output. From document 01, "Cards".
 use Rattle.std.specs.Prelude.{List, [], ◌∷◌, ◌++◌, ℕ, eqb}
-use Rattle.basics.specs.Logic.{if◌then◌else◌}
+use Rattle.basics.specs.Logic.{when◌then◌else◌}
 use Rattle.card.specs.Answer.{answer, newline, with_newline}
 
 -- a byte before the first of some lines; it is a line of its own if there is none
@@ -11,7 +11,7 @@ before b (l ∷ ls) = (b ∷ l) ∷ ls
 -- the lines: each ends at a newline, the last one also at the end of the input, "the last newline may be missing"
 unfoldable pub lines : List ℕ → List (List ℕ)
 lines [] = []
-lines (b ∷ input) = if eqb b newline then [] ∷ lines input else before b (lines input)
+lines (b ∷ input) = when eqb b newline then [] ∷ lines input else before b (lines input)
 
 -- answers with a newline behind each
 unfoldable pub answers : List (List ℕ) → List ℕ

@@ -8,7 +8,7 @@ use borrow.Author.Tests.{ltb-true, ltb-false}
 use lib.Dec.{ltb}
 use lib.ListN.{length, take, set, replicate, length-append, length-take}
 use lib.Seq.{take_all, take-nil, take-append-le}
-use Rattle.basics.specs.Logic.{if◌then◌else◌}
+use Rattle.basics.specs.Logic.{when◌then◌else◌}
 use Rattle.basics.specs.Lists.{zero_padded}
 use Rattle.basics.proofs.Cases.{cases, if_true, if_false}
 use Rattle.basics.proofs.Zeros.{push_number}
@@ -45,7 +45,7 @@ module _ {n count : ℕ} {xs array : List ℕ} (x : ℕ) (k : Kept n xs count ar
       record { counted = k.counted ∙ ap length (sym same); numbers = k.numbers ∙ ap (zero_padded n) (sym same) }
 
   -- a number more: in the next place, or in none if all are used
-  pub kept_more : Kept n (xs ++ (x ∷ [])) (if ltb count n then count + 1 else count) (if ltb count n then set array count x else array)
+  pub kept_more : Kept n (xs ++ (x ∷ [])) (when ltb count n then count + 1 else count) (when ltb count n then set array count x else array)
   kept_more =
       cases (ltb count n)
       (λ e. rw (if_true (ltb count n) (count + 1) count e, if_true (ltb count n) (set array count x) array e) (kept_room (ltb-true count n e)))

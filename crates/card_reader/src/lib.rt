@@ -2,7 +2,7 @@
 #![tactic(auto)]
 
 ghost use Rattle.std.specs.Prelude.{◌≡◌, ◌+◌, ◌≤◌, ltb, length, set};
-ghost use Rattle.basics.specs.Logic.{if◌then◌else◌};
+ghost use Rattle.basics.specs.Logic.{when◌then◌else◌};
 ghost use Rattle.card_grammar.specs.Grammar.{none};
 ghost use Rattle.card_grammar.specs.Card.{card_of};
 ghost use Rattle.card_reader.specs.Reading.{reading};
@@ -37,8 +37,8 @@ fn no_card() -> Card
 
 // Keeps a byte in the next place, if there is one, and gives how many are kept.
 fn keep_byte(separator: &mut [u8; 257], count: usize, value: u8) -> usize
-    ensures { (result ≡ (if ltb count 257 then count + 1 else count)) ×
-        (separator.new ≡ (if ltb count 257 then set separator.old count value else separator.old)) }
+    ensures { (result ≡ (when ltb count 257 then count + 1 else count)) ×
+        (separator.new ≡ (when ltb count 257 then set separator.old count value else separator.old)) }
 {
     if count < 257 {
         separator[count] = value;
@@ -49,8 +49,8 @@ fn keep_byte(separator: &mut [u8; 257], count: usize, value: u8) -> usize
 
 // The same for a word.
 fn keep_word(words: &mut [u32; 65], count: usize, word: u32) -> usize
-    ensures { (result ≡ (if ltb count 65 then count + 1 else count)) ×
-        (words.new ≡ (if ltb count 65 then set words.old count word else words.old)) }
+    ensures { (result ≡ (when ltb count 65 then count + 1 else count)) ×
+        (words.new ≡ (when ltb count 65 then set words.old count word else words.old)) }
 {
     if count < 65 {
         words[count] = word;

@@ -3,7 +3,7 @@
 -- whole input.
 use Rattle.std.specs.Prelude.{◌≡◌, refl, List, [], ◌∷◌, ◌++◌, ◌≢◌, ℕ, suc, ◌≤◌, ◌<◌, ltb, eqb, length, take}
 use Rattle.std.proofs.Common.{sym, ap, ap₂, ◌∙◌, ne_eqb, lit≤}
-use Rattle.basics.specs.Logic.{if◌then◌else◌, ◌and◌, ◌or◌, same, all, any}
+use Rattle.basics.specs.Logic.{when◌then◌else◌, ◌and◌, ◌or◌, same, all, any}
 use Rattle.basics.specs.Digits.{digits}
 use Rattle.basics.specs.Lists.{sum, Below, placed, joined}
 use Rattle.basics.specs.Numbers.{accepted, not_card}
@@ -83,12 +83,12 @@ answer_to_long_line = answer_long
 pub cards_mean_field_1 : (line separator ws : List ℕ) → CardOf line separator ws
     → let o = opening ws separator in
     let number = (start 1 1 o).number in
-    answer line ≡ (if eqb number accepted then ok_text (tag_string 1 o) (full_permutations ws) else no_text number)
+    answer line ≡ (when eqb number accepted then ok_text (tag_string 1 o) (full_permutations ws) else no_text number)
 unfolding card_answer
 cards_mean_field_1 line separator ws c =
     let o = opening ws separator in
     answer_to_card line separator ws c
-    ∙ ap (λ (n : ℕ). if eqb n accepted then ok_text (tag_string 1 o) (full_permutations ws) else no_text n) (sym (known_field_at_start 1 1 o fields_by_number.0 forms_by_number.0))
+    ∙ ap (λ (n : ℕ). when eqb n accepted then ok_text (tag_string 1 o) (full_permutations ws) else no_text n) (sym (known_field_at_start 1 1 o fields_by_number.0 forms_by_number.0))
 
 -- "tag string .. permutations of a full session": what a card is answered with is the tag string and the count of every finished session of
 -- its words and separator, in either field, of form 1.
@@ -133,7 +133,7 @@ pub lines_end_at_newlines :
     × ((input : List ℕ) → lines (10 ∷ input) ≡ [] ∷ lines input)
     × ((b : ℕ) → b ≢ 10 → lines (b ∷ []) ≡ (b ∷ []) ∷ [])
     × ((b : ℕ) (input line : List ℕ) (others : List (List ℕ)) → b ≢ 10 → lines input ≡ line ∷ others → lines (b ∷ input) ≡ (b ∷ line) ∷ others)
-unfolding lines before if◌then◌else◌
+unfolding lines before when◌then◌else◌
 lines_end_at_newlines = (
   refl,
   λ input. refl,
@@ -163,8 +163,8 @@ pub call_after_call : (k : ℕ) (line : List ℕ) (last : Fed) (piece : List ℕ
     → let next = kept_of (answered_line line last piece) (answered_fed line last piece) in
     (piece_text 0 (kept_of line last) piece ≡ []) × (piece_kept 0 (kept_of line last) piece ≡ kept_of line last)
     × (piece_text (suc k) (kept_of line last) piece
-    ≡ (if ltb last.used (length piece) then answered_text line last piece ++ piece_text k next piece else []))
-    × (piece_kept (suc k) (kept_of line last) piece ≡ (if ltb last.used (length piece) then piece_kept k next piece else kept_of line last))
+    ≡ (when ltb last.used (length piece) then answered_text line last piece ++ piece_text k next piece else []))
+    × (piece_kept (suc k) (kept_of line last) piece ≡ (when ltb last.used (length piece) then piece_kept k next piece else kept_of line last))
 unfolding piece_text piece_kept kept_after
 call_after_call k line last piece = (refl, refl, refl, refl)
 
@@ -210,28 +210,28 @@ line3 : List ℕ
 line3 = ascii "(card (domain) (calls (a 0)))"
 
 card1 : CardOf line1 (0x41 ∷ 0x42 ∷ []) (0x80000003 ∷ 0x80000003 ∷ 3 ∷ [])
-unfolding line1 all ◌and◌ hex_digit hex separator_text decimal_up_to decimal call_text calls_text card_text is_absorb length_of if◌then◌else◌
+unfolding line1 all ◌and◌ hex_digit hex separator_text decimal_up_to decimal call_text calls_text card_text is_absorb length_of when◌then◌else◌
 card1 = record { short = lit≤ tt; bytes = refl; words = refl; text = refl }
 
 card2 : CardOf line2 [] (1 ∷ [])
-unfolding line2 all ◌and◌ hex_digit hex separator_text decimal_up_to decimal call_text calls_text card_text is_absorb length_of if◌then◌else◌
+unfolding line2 all ◌and◌ hex_digit hex separator_text decimal_up_to decimal call_text calls_text card_text is_absorb length_of when◌then◌else◌
 card2 = record { short = lit≤ tt; bytes = refl; words = refl; text = refl }
 
 card3 : CardOf line3 [] (0x80000000 ∷ [])
-unfolding line3 all ◌and◌ hex_digit hex separator_text decimal_up_to decimal call_text calls_text card_text is_absorb length_of if◌then◌else◌
+unfolding line3 all ◌and◌ hex_digit hex separator_text decimal_up_to decimal call_text calls_text card_text is_absorb length_of when◌then◌else◌
 card3 = record { short = lit≤ tt; bytes = refl; words = refl; text = refl }
 
 answer1 : answer line1 ≡ ascii "(ok 80000006000000034142 1)"
 unfolding card_answer ok_text opening_number opening_rows word_rows first_number tag_string string_of tail_of word_bytes digits merged_words phases merge join phase_of word_of is_absorb length_of
-    full_permutations permutations_at phase_permutations block_count sum hex_digit hex decimal_up_to decimal if◌then◌else◌ ◌or◌ same any
+    full_permutations permutations_at phase_permutations block_count sum hex_digit hex decimal_up_to decimal when◌then◌else◌ ◌or◌ same any
 answer1 = answer_to_card _ _ _ card1 ∙ refl
 
 answer2 : answer line2 ≡ ascii "(no 3)"
-unfolding card_answer no_text opening_number opening_rows word_rows first_number is_absorb length_of decimal_up_to decimal if◌then◌else◌ ◌or◌ any
+unfolding card_answer no_text opening_number opening_rows word_rows first_number is_absorb length_of decimal_up_to decimal when◌then◌else◌ ◌or◌ any
 answer2 = answer_to_card _ _ _ card2 ∙ refl
 
 answer3 : answer line3 ≡ ascii "(no 2)"
-unfolding card_answer no_text opening_number opening_rows word_rows first_number is_absorb length_of decimal_up_to decimal if◌then◌else◌ ◌or◌ any
+unfolding card_answer no_text opening_number opening_rows word_rows first_number is_absorb length_of decimal_up_to decimal when◌then◌else◌ ◌or◌ any
 answer3 = answer_to_card _ _ _ card3 ∙ refl
 
 three_lines : (a b c : List ℕ) → answer line1 ≡ a → answer line2 ≡ b → answer line3 ≡ c
@@ -244,7 +244,7 @@ three_lines a b c e f g =
 -- "Whole input and output"
 pub whole_example : output (ascii "(card (domain 4142) (calls (a 3) (a 3) (s 3)))\n(card (domain) (calls (s 1)))\n(card (domain) (calls (a 0)))\n")
     ≡ ascii "(ok 80000006000000034142 1)\n(no 3)\n(no 2)\n"
-unfolding output lines before line1 line2 line3 if◌then◌else◌ with_newline
+unfolding output lines before line1 line2 line3 when◌then◌else◌ with_newline
 whole_example = three_lines _ _ _ answer1 answer2 answer3
 
 -- the same input in pieces, the first cut inside its second line, the second empty, the third cut before its last newline

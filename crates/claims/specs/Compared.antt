@@ -1,7 +1,7 @@
 -- What the third demand compares, so that it says something: which lists of calls there are, what they absorb and squeeze, and what blocks are.
 use Rattle.std.specs.Prelude.{◌≡◌, refl, true, false, List, [], ◌∷◌, ◌++◌, ◌≢◌, ◌⊎◌, ℕ, suc, eqb, length, take, drop}
 use Rattle.std.proofs.Common.{sym, ◌∙◌, eq-eqb, ne_eqb}
-use Rattle.basics.specs.Logic.{if◌then◌else◌, same, all}
+use Rattle.basics.specs.Logic.{when◌then◌else◌, same, all}
 use Rattle.basics.specs.Lists.{zero_padded}
 use Rattle.basics.specs.Numbers.{accepted, element_not_reduced}
 use Rattle.basics.proofs.Cases.{if_true, if_false}
@@ -108,7 +108,7 @@ all_is_squeezed = all_squeezed
 
 -- These lengths for the pattern ABSORB 8, SQUEEZE 8, ABSORB 1, SQUEEZE 2: 9 and 10.
 pub lengths_of_a_pattern : let ps = phases (0x80000008 ∷ 8 ∷ 0x80000001 ∷ 2 ∷ []) in (absorb_length ps ≡ 9) × (squeeze_length ps ≡ 10)
-unfolding phases merge join phase_of is_absorb length_of absorb_length squeeze_length if◌then◌else◌ same
+unfolding phases merge join phase_of is_absorb length_of absorb_length squeeze_length when◌then◌else◌ same
 lengths_of_a_pattern = (refl, refl)
 
 -- ---- blocks
@@ -118,7 +118,7 @@ lengths_of_a_pattern = (refl, refl)
 pub blocks_in_turn : (a : Phase) (ps : List Phase) (n : ℕ) (xs : List ℕ)
     → (blocks [] xs ≡ [])
     × (blocks (a ∷ ps) xs
-    ≡ (if a.absorbs then eights (block_count a.elements) (take a.elements xs) ++ blocks ps (drop a.elements xs) else blocks ps xs))
+    ≡ (when a.absorbs then eights (block_count a.elements) (take a.elements xs) ++ blocks ps (drop a.elements xs) else blocks ps xs))
     × (eights 0 xs ≡ [])
     × (eights (suc n) xs ≡ zero_padded 8 (take 8 xs) ∷ eights n (drop 8 xs))
 unfolding blocks eights
@@ -139,5 +139,5 @@ blocks_hold_the_absorbed a = blocks_held (pattern_of a) (absorbed_of a) (all_abs
 -- Nine elements are two blocks; and those of another phase begin a block of their own.
 pub nine_are_two_blocks : blocks (phases (0x80000009 ∷ 1 ∷ 0x80000001 ∷ 1 ∷ [])) (1 ∷ 2 ∷ 3 ∷ 4 ∷ 5 ∷ 6 ∷ 7 ∷ 8 ∷ 9 ∷ 10 ∷ [])
     ≡ (1 ∷ 2 ∷ 3 ∷ 4 ∷ 5 ∷ 6 ∷ 7 ∷ 8 ∷ []) ∷ (9 ∷ 0 ∷ 0 ∷ 0 ∷ 0 ∷ 0 ∷ 0 ∷ 0 ∷ []) ∷ (10 ∷ 0 ∷ 0 ∷ 0 ∷ 0 ∷ 0 ∷ 0 ∷ 0 ∷ []) ∷ []
-unfolding phases merge join phase_of is_absorb length_of blocks eights block_count if◌then◌else◌ same
+unfolding phases merge join phase_of is_absorb length_of blocks eights block_count when◌then◌else◌ same
 nine_are_two_blocks = refl

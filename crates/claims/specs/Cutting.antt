@@ -1,7 +1,7 @@
 -- Words cut into calls that a pattern may declare. `cut_answer` is what the contracts of `cutting::cut` and of its export cite. Theorems about every limit
 -- come first; a declared call's is 16,777,216.
 use Rattle.std.specs.Prelude.{◌≡◌, refl, true, false, List, [], ◌∷◌, ◌≢◌, ℕ, ◌-◌, ◌≤◌, ◌<◌, ltb, eqb, length, replicate}
-use Rattle.basics.specs.Logic.{if◌then◌else◌, any}
+use Rattle.basics.specs.Logic.{when◌then◌else◌, any}
 use Rattle.basics.specs.Lists.{Below}
 use Rattle.basics.specs.Numbers.{accepted}
 use Rattle.basics.specs.Refusals.{first_number}
@@ -83,5 +83,5 @@ pub cut_by_hand :
     × (◌≡◌ {A = ℕ} (cut_number (replicate 65 7)) 1)
     × (cut_answer (0x81000001 ∷ []) ≡ record { number = 0; words = 0x81000000 ∷ 0x80000001 ∷ replicate 62 0; count = 2 })
     × (cut_answer (0xffffffff ∷ []) ≡ record { number = 1; words = replicate 64 0; count = 0 })
-unfolding cut_answer answer_with with_words given cut_words cut_call cut_length rest_of cut_number first_number phase_of word_of is_absorb length_of if◌then◌else◌
+unfolding cut_answer answer_with with_words given cut_words cut_call cut_length rest_of cut_number first_number phase_of word_of is_absorb length_of when◌then◌else◌
 cut_by_hand = (refl, refl, refl, refl, refl, refl, refl, refl, refl, refl)

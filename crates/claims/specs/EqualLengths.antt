@@ -4,7 +4,7 @@ use Rattle.std.specs.Prelude.{◌≡◌, ◌≢◌, List, [], ◌∷◌, true, l
 use Rattle.std.proofs.Math.Path.{refl}
 use Rattle.std.proofs.Common.{sym, ap, ap₂, ◌∙◌, arith, lt-ltb}
 use Prim.Native.Nat.{ℕ, zero, suc}
-use Rattle.basics.specs.Logic.{if◌then◌else◌, ◌and◌, ◌or◌, same, all, any}
+use Rattle.basics.specs.Logic.{when◌then◌else◌, ◌and◌, ◌or◌, same, all, any}
 use Rattle.basics.proofs.Cases.{and_both}
 use Rattle.basics.specs.Digits.{digits}
 use Rattle.basics.specs.Refusals.{first_number}
@@ -39,19 +39,19 @@ module _ (field : ℕ) (known : is_field field ≡ true) where
   zeros (suc n) = and_both _ _ (lt-ltb 0 _ (positive (field_of field))) (zeros n)
 
   short_session : (a : Run) × (a.field ≡ field) × (a.form ≡ 1) × (a.opening ≡ opening two_words eight_bytes) × (absorbed_of a ≡ 0 ∷ [])
-  unfolding two_words eight_bytes opening_number opening_rows word_rows first_number phases merge join phase_of is_absorb length_of absorb_length if◌then◌else◌ ◌and◌ ◌or◌ same any
+  unfolding two_words eight_bytes opening_number opening_rows word_rows first_number phases merge join phase_of is_absorb length_of absorb_length when◌then◌else◌ ◌and◌ ◌or◌ same any
   short_session = finishable field 1 (opening two_words eight_bytes) (0 ∷ []) (accepted_start field 1 (opening two_words eight_bytes) known forms_by_number.0 refl) refl (zeros 1)
 
   long_session : (a : Run) × (a.field ≡ field) × (a.form ≡ 1) × (a.opening ≡ opening four_words []) × (absorbed_of a ≡ 0 ∷ 0 ∷ 0 ∷ [])
-  unfolding four_words opening_number opening_rows word_rows first_number phases merge join phase_of is_absorb length_of absorb_length if◌then◌else◌ ◌and◌ ◌or◌ same any
+  unfolding four_words opening_number opening_rows word_rows first_number phases merge join phase_of is_absorb length_of absorb_length when◌then◌else◌ ◌and◌ ◌or◌ same any
   long_session = finishable field 1 (opening four_words []) (0 ∷ 0 ∷ 0 ∷ []) (accepted_start field 1 (opening four_words []) known forms_by_number.0 refl) refl (zeros 3)
 
 same_string : tag_string 1 (opening two_words eight_bytes) ≡ tag_string 1 (opening four_words [])
-unfolding two_words eight_bytes four_words tag_string string_of tail_of word_bytes digits merged_words word_of phases merge join phase_of is_absorb length_of if◌then◌else◌ same
+unfolding two_words eight_bytes four_words tag_string string_of tail_of word_bytes digits merged_words word_of phases merge join phase_of is_absorb length_of when◌then◌else◌ same
 same_string = refl
 
 other_phases : phases two_words ≢ phases four_words
-unfolding two_words four_words phases merge join phase_of is_absorb length_of if◌then◌else◌ same
+unfolding two_words four_words phases merge join phase_of is_absorb length_of when◌then◌else◌ same
 other_phases e = let q : ◌≡◌ {A = ℕ} 2 4 = ap (λ (ps : List Phase). length ps) e in omega arith
 
 -- "Hence equal lengths in the third demand.": in each field there are two finished sessions of form 1, with separators of different length, whose

@@ -2,7 +2,7 @@
 -- field number. What the generator does with one is in `Primitives`.
 use Rattle.std.specs.Prelude.{◌≡◌, refl, true, false, not, List, ◌≢◌, ℕ, suc, ◌+◌, ◌-◌, ◌*◌, ◌%◌, ◌^◌, ◌≤◌, ◌<◌, length, get_or, set, replicate}
 use Rattle.std.proofs.Common.{ap, ◌∙◌, mul_comm, mod-lt, mod-eq_of_lt, arith, eq-eqb, ne_eqb, ltb-true, lt-ltb, le-ltb}
-use Rattle.basics.specs.Logic.{if◌then◌else◌, ◌or◌, all}
+use Rattle.basics.specs.Logic.{when◌then◌else◌, ◌or◌, all}
 use Rattle.basics.specs.Lists.{sum, Below}
 use Rattle.basics.specs.Numbers.{accepted, record_not_sound, element_not_reduced, field_unknown}
 use Rattle.basics.proofs.Cases.{if_true, if_false, or_neither, and_stop}
@@ -39,7 +39,7 @@ use Rattle.runs.proofs.EnclosedCalls.{not_sound_refused}
 
 -- "a field number, 1 for today's and 2 for this one"
 pub fields_by_number : (is_field 1 ≡ true) × (is_field 2 ≡ true) × (field_of 1 ≡ BabyBear) × (field_of 2 ≡ KoalaBear)
-unfolding is_field field_of ◌or◌ if◌then◌else◌
+unfolding is_field field_of ◌or◌ when◌then◌else◌
 fields_by_number = (refl, refl, refl, refl)
 
 -- "field number neither 1 nor 2": no other number names a field.
@@ -277,5 +277,5 @@ permutation_by_field field s = (
 
 -- 2013265921, which is p in field 1, is an element in field 2 and none in field 1.
 pub element_of_field_2_alone : (is_element (field_of 1) 2013265921 ≡ false) × (is_element (field_of 2) 2013265921 ≡ true)
-unfolding field_of if◌then◌else◌
+unfolding field_of when◌then◌else◌
 element_of_field_2_alone = (refl, refl)

@@ -3,7 +3,7 @@
 use Rattle.std.specs.Prelude.{◌≡◌, refl, true, false, List, [], ◌∷◌, ◌++◌, ◌≢◌, ℕ, ◌+◌, ◌-◌, ◌*◌, ◌/◌, ◌%◌, ◌<◌, length, get_or, take, drop, replicate}
 use Rattle.std.proofs.Common.{ap, ◌∙◌, append-nil, zero-add, arith, eq-eqb, ne_eqb, length-take-le, drop_at}
 use Rattle.std.proofs.Math.Nat.{div-div-eq-div-mul}
-use Rattle.basics.specs.Logic.{if◌then◌else◌, ◌and◌, ◌or◌, same, all, any}
+use Rattle.basics.specs.Logic.{when◌then◌else◌, ◌and◌, ◌or◌, same, all, any}
 use Rattle.basics.specs.Lists.{tabulate, placed}
 use Rattle.basics.specs.Digits.{digits, number, number_after}
 use Rattle.basics.specs.Numbers.{accepted, record_not_sound, form_unknown}
@@ -51,7 +51,7 @@ no_third_form n first second = or_neither _ _ (ne_eqb n 1 first) (ne_eqb n 2 sec
 pub tag_strings_by_form : (o : Opening)
     → (tag_string 1 o ≡ word_bytes (merged_words o.words) ++ o.separator)
     × (tag_string 2 o ≡ word_bytes (merged_words o.words) ++ o.separator ++ digits 256 4 (length o.separator))
-unfolding tag_string string_of tail_of if◌then◌else◌
+unfolding tag_string string_of tail_of when◌then◌else◌
 tag_strings_by_form o = (append-nil (word_bytes (merged_words o.words) ++ o.separator), refl)
 
 -- The same, with the four bytes of the length by division.
@@ -60,7 +60,7 @@ pub tag_strings_byte_by_byte : (o : Opening)
     × (let n = length o.separator in
     tag_string 2 o
     ≡ word_bytes (merged_words o.words) ++ o.separator ++ (n / 16777216 % 256 ∷ n / 65536 % 256 ∷ n / 256 % 256 ∷ n % 256 ∷ []))
-unfolding tag_string string_of tail_of digits if◌then◌else◌
+unfolding tag_string string_of tail_of digits when◌then◌else◌
 tag_strings_byte_by_byte o = (
   append-nil (word_bytes (merged_words o.words) ++ o.separator),
   rw (div-div-eq-div-mul (length o.separator) 256 256, div-div-eq-div-mul (length o.separator) 65536 256) refl,
@@ -137,7 +137,7 @@ unknown_form_at_reading form s n e =
 -- "Reading form 2 goes by the string's last four bytes and ignores any length given.": all that reading gives is the same with every length.
 pub length_given_is_ignored : (s : List ℕ) (n m : ℕ)
     → (read_words 2 s n ≡ read_words 2 s m) × (read_separator 2 s n ≡ read_separator 2 s m) × (separator_start 2 s n ≡ separator_start 2 s m)
-unfolding read_words read_separator separator_start read_number read_rows length_in if◌then◌else◌
+unfolding read_words read_separator separator_start read_number read_rows length_in when◌then◌else◌
 length_given_is_ignored s n m = (refl, refl, refl)
 
 -- "the separator comes back as that part of the string itself": from its place on, so many bytes; accepted, it ends where the string ends, and in form 2
@@ -170,12 +170,12 @@ pub buffers_for_b1 :
     × (◌≡◌ {A = ℕ} (written 2 o (replicate 13 7)).number 12) × (◌≡◌ {A = ℕ} (written 2 o (replicate 14 7)).number 0)
     × (buffer_after 2 o (replicate 16 7) ≡ 0x80 ∷ 0 ∷ 0 ∷ 6 ∷ 0 ∷ 0 ∷ 0 ∷ 3 ∷ 0x41 ∷ 0x42 ∷ 0 ∷ 0 ∷ 0 ∷ 2 ∷ 7 ∷ 7 ∷ [])
 unfolding written written_with write_number write_rows buffer_rows buffer_after buffer_with given placed opening_rows word_rows first_number is_form tag_string string_of tail_of word_bytes digits merged_words phases merge join
-    phase_of word_of is_absorb length_of if◌then◌else◌ ◌and◌ ◌or◌ any same
+    phase_of word_of is_absorb length_of when◌then◌else◌ ◌and◌ ◌or◌ any same
 buffers_for_b1 = (refl, refl, refl, refl, refl)
 
 -- A separator of 256 bytes, the longest: its length is 00 00 01 00.
 pub longest_separator : drop 260 (tag_string 2 (opening (0x80000001 ∷ []) (replicate 256 7))) ≡ 0 ∷ 0 ∷ 1 ∷ 0 ∷ []
-unfolding tag_string string_of tail_of word_bytes digits merged_words phases merge join phase_of word_of is_absorb length_of if◌then◌else◌
+unfolding tag_string string_of tail_of word_bytes digits merged_words phases merge join phase_of word_of is_absorb length_of when◌then◌else◌
 longest_separator = refl
 
 -- Strings of form 2 with the empty separator, and with 41 42, which begins at place 4.
@@ -186,7 +186,7 @@ pub strings_that_read :
     × (◌≡◌ {A = ℕ} (separator_start 2 (0x80 ∷ 0 ∷ 0 ∷ 1 ∷ 0x41 ∷ 0x42 ∷ 0 ∷ 0 ∷ 0 ∷ 2 ∷ []) 9) 4)
     × (words_read 2 (0x80 ∷ 0 ∷ 0 ∷ 1 ∷ 0x41 ∷ 0x42 ∷ 0 ∷ 0 ∷ 0 ∷ 2 ∷ []) 9 ≡ 0x80000001 ∷ [])
 unfolding read_words answer_with with_words given read_separator separator_start separator_part read_number read_rows body_rows body_of length_in tail_missing is_form sound_bytes words_part words_of word_at
-    first_number sound_words alternate is_absorb length_of number number_after tabulate if◌then◌else◌ ◌and◌ ◌or◌ same all
+    first_number sound_words alternate is_absorb length_of number number_after tabulate when◌then◌else◌ ◌and◌ ◌or◌ same all
 strings_that_read = (refl, refl, refl, refl, refl)
 
 -- "a string under four bytes, or one whose tail names more bytes than precede it, gets 13, and a tail above 256 gets 6 before that": three bytes; a tail that
@@ -199,5 +199,5 @@ pub strings_refused :
     × (◌≡◌ {A = ℕ} (read_words 2 (0xff ∷ 0xff ∷ 0xff ∷ 0xff ∷ []) 0).number 6)
     × (◌≡◌ {A = ℕ} (read_words 2 (0 ∷ 0 ∷ 0 ∷ 0 ∷ []) 0).number 13)
 unfolding read_words answer_with with_words given read_number read_rows body_rows body_of length_in tail_missing is_form sound_bytes words_part words_of word_at first_number sound_words alternate is_absorb length_of number number_after tabulate
-    if◌then◌else◌ ◌and◌ ◌or◌ same all
+    when◌then◌else◌ ◌and◌ ◌or◌ same all
 strings_refused = (refl, refl, refl, refl, refl, refl)

@@ -2,7 +2,7 @@
 -- with number 0. Rows are counted from 1: `row t k` is row k, and `row_count t` the last one's number, a row cut short included.
 use Rattle.std.specs.Prelude.{◌≡◌, refl, true, false, List, [], ◌∷◌, ◌++◌, map, ◌≢◌, ◌↔◌, ℕ, zero, suc, ◌+◌, ◌-◌, ◌*◌, ◌≤◌, ◌<◌, length}
 use Rattle.std.proofs.Common.{ap, ◌∙◌, zero-add, le_trans, not-suc-le-zero, leb-true, le-leb, eq-eqb, ne_eqb, lit≤}
-use Rattle.basics.specs.Logic.{if◌then◌else◌, ◌and◌, ◌or◌, all, any}
+use Rattle.basics.specs.Logic.{when◌then◌else◌, ◌and◌, ◌or◌, all, any}
 use Rattle.basics.specs.Lists.{Below}
 use Rattle.basics.specs.Digits.{number, number_after}
 use Rattle.basics.specs.Numbers.{accepted, owners_row_invalid, owners_gap, separator_too_short}
@@ -119,14 +119,14 @@ accepted_tables_are_whole t e = not_cut t e
 
 -- "The empty table is a gap."
 pub empty_table_is_a_gap : checked (table_of []) ≡ record { number = owners_gap; place = 0 }
-unfolding table_of rows_of row_count is_free any if◌then◌else◌
+unfolding table_of rows_of row_count is_free any when◌then◌else◌
 empty_table_is_a_gap =
     (gap_answer (table_of []) 0).1
     ((λ k h l. absurd (not-suc-le-zero (le_trans h l))), (lit≤ tt, refl, λ m h. absurd (not-suc-le-zero h)))
 
 -- Accepted tables exist: one row that owns every number,
 pub table_of_one_row : checked (table_of (0 ∷ 0 ∷ 0 ∷ 0 ∷ 255 ∷ 255 ∷ 255 ∷ 255 ∷ 0 ∷ 7 ∷ [])) ≡ record { number = accepted; place = 0 }
-unfolding row_of rows_of table_of row_count row at_fault least_from first_fault gap number number_after if◌then◌else◌ ◌and◌ ◌or◌
+unfolding row_of rows_of table_of row_count row at_fault least_from first_fault gap number number_after when◌then◌else◌ ◌and◌ ◌or◌
 table_of_one_row = accepted_by_pass (table_of (0 ∷ 0 ∷ 0 ∷ 0 ∷ 255 ∷ 255 ∷ 255 ∷ 255 ∷ 0 ∷ 7 ∷ [])) (lit≤ tt) refl
 
 -- and 128 rows of 33,554,432 numbers each, row k of line k - 1.
@@ -136,7 +136,7 @@ even_rows i (suc n) = record { first = i * 33554432; last = i * 33554432 + 33554
 
 pub table_of_128_rows : (length (table_bytes (even_rows 0 128)) ≡ 1280)
     × (◌≡◌ {A = Checked} (checked (table_of (table_bytes (even_rows 0 128)))) (record { number = accepted; place = 0 }))
-unfolding even_rows all row_count row at_fault least_from first_fault gap if◌then◌else◌ ◌and◌ ◌or◌
+unfolding even_rows all row_count row at_fault least_from first_fault gap when◌then◌else◌ ◌and◌ ◌or◌
 table_of_128_rows = (
   length_table (even_rows 0 128),
   ap checked (table_read (even_rows 0 128) refl refl refl)
@@ -148,11 +148,11 @@ unfoldable pub two_rows : List ℕ
 two_rows = 0 ∷ 0 ∷ 0 ∷ 0 ∷ 1 ∷ 2 ∷ 3 ∷ 3 ∷ 5 ∷ 6 ∷ 1 ∷ 2 ∷ 3 ∷ 4 ∷ 255 ∷ 255 ∷ 255 ∷ 255 ∷ 7 ∷ 8 ∷ []
 
 pub table_of_two_rows : checked (table_of two_rows) ≡ record { number = accepted; place = 0 }
-unfolding two_rows row_of rows_of table_of row_count row at_fault least_from first_fault gap number number_after if◌then◌else◌ ◌and◌ ◌or◌
+unfolding two_rows row_of rows_of table_of row_count row at_fault least_from first_fault gap number number_after when◌then◌else◌ ◌and◌ ◌or◌
 table_of_two_rows = accepted_by_pass (table_of two_rows) (lit≤ tt) refl
 
 pub two_rows_asked : asked (table_of two_rows) (1 ∷ 2 ∷ 3 ∷ 3 ∷ 9 ∷ []) ≡ record { number = accepted; place = 0; line = 1286 }
-unfolding two_rows row_of rows_of table_of number number_after if◌then◌else◌ ◌and◌ holds line_of separator_number
+unfolding two_rows row_of rows_of table_of number number_after when◌then◌else◌ ◌and◌ holds line_of separator_number
 two_rows_asked =
     asked_line (table_of two_rows) (1 ∷ 2 ∷ 3 ∷ 3 ∷ 9 ∷ []) (ap (λ (c : Checked). c.number) table_of_two_rows) (lit≤ tt)
 

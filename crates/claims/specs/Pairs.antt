@@ -8,7 +8,7 @@ use Rattle.std.proofs.Common.{ap₂, ◌∙◌, true≢false, arith}
 use Rattle.std.proofs.Math.Bool.{not}
 use borrow.Author.Tests.{le-leb, eq-eqb, ne_eqb, eqb-true, ltb-false, le-ltb, not-false}
 use Rattle.std.proofs.lemmas.List.{length-map}
-use Rattle.basics.specs.Logic.{if◌then◌else◌, ◌and◌, ◌or◌, same, all, any}
+use Rattle.basics.specs.Logic.{when◌then◌else◌, ◌and◌, ◌or◌, same, all, any}
 use Rattle.basics.specs.Digits.{number, number_after}
 use Rattle.basics.specs.Lists.{tabulate, sum}
 use Rattle.counters.specs.Permutations.{block_count, phase_permutations, permutations_at, full_permutations}
@@ -53,7 +53,7 @@ pair_rows field o =
 unfoldable pub pair_start : ℕ → Opening → Answer
 pair_start field o =
     let number = first_number (pair_rows field o) in
-    if eqb number accepted then giving accepted (start_record field 1 o) else giving number wiped
+    when eqb number accepted then giving accepted (start_record field 1 o) else giving number wiped
 
 -- a sound record by the rules of pairs: "its words are 2 to 64, even in number"
 unfoldable pub pair_sound : Session → Bool
@@ -61,7 +61,7 @@ pair_sound r = sound r and leb 2 r.count and eqb (r.count % 2) 0
 
 -- a call by the rules of pairs: an "open record not sound" gets 8 and is left; else nothing looks at the number of words
 unfoldable pub pair_answered : Session → Call → Answer
-pair_answered r c = if eqb r.status opened and not (pair_sound r) then giving record_not_sound r else answered r c
+pair_answered r c = when eqb r.status opened and not (pair_sound r) then giving record_not_sound r else answered r c
 
 -- what a call gives: its number and the record that it leaves, and the elements that it writes
 pub record Outcome : Type 0 where
@@ -71,7 +71,7 @@ pub record Outcome : Type 0 where
 -- the elements that a call writes on a record, by its answer: "A refused SQUEEZE writes no element."
 unfoldable pub writes_by : Answer → Session → Call → List ℕ
 writes_by a r (ABSORB xs) = []
-writes_by a r (SQUEEZE n) = if eqb a.number accepted then squeezed_all r n else []
+writes_by a r (SQUEEZE n) = when eqb a.number accepted then squeezed_all r n else []
 writes_by a r FINISH = []
 
 -- what a list of calls gives by some rules, call by call: "each later one gets it as the call before left it"
@@ -273,10 +273,10 @@ pub examples_read :
     × (◌≡◌ {A = ℕ} (read_number 1 (0 ∷ 0 ∷ 0 ∷ 1 ∷ []) 0) 13)
     × (◌≡◌ {A = ℕ} (read_number 1 [] 0) 13)
 unfolding read_number read_rows body_rows body_of length_in tail_missing is_form sound_bytes words_part words_of word_at first_number sound_words alternate is_absorb length_of number number_after tabulate
-    if◌then◌else◌ ◌and◌ ◌or◌ same all
+    when◌then◌else◌ ◌and◌ ◌or◌ same all
 examples_read = (refl, refl, refl)
 
 -- The last block of a session that ends by absorbing is absorbed and not permuted: 8 elements take no permutation, and 9 take one.
 pub last_block_stays : (full_permutations (0x80000008 ∷ []) ≡ 0) × (full_permutations (0x80000009 ∷ []) ≡ 1)
-unfolding full_permutations permutations_at phase_permutations block_count sum merged_words phases merge join phase_of word_of is_absorb length_of if◌then◌else◌
+unfolding full_permutations permutations_at phase_permutations block_count sum merged_words phases merge join phase_of word_of is_absorb length_of when◌then◌else◌
 last_block_stays = (refl, refl)

@@ -3,7 +3,7 @@
 use Rattle.std.specs.Prelude.{◌≡◌, refl, not, List, [], ◌∷◌, ◌++◌, ◌≢◌, ℕ, suc, ◌-◌, ◌*◌, ◌≤◌, ◌<◌, ltb, eqb, length, get_or, take, replicate}
 use Rattle.std.proofs.Common.{sym, ◌∙◌, arith, ne_eqb}
 use Rattle.std.proofs.lemmas.Bool.{eqb-false}
-use Rattle.basics.specs.Logic.{if◌then◌else◌, ◌or◌, any}
+use Rattle.basics.specs.Logic.{when◌then◌else◌, ◌or◌, any}
 use Rattle.basics.specs.Numbers.{accepted, word_count_out_of_range, word_length_zero, call_too_long, first_word_squeeze}
 use Rattle.basics.specs.Refusals.{◌gets◌⨾◌, first_number}
 use Rattle.words.specs.Words.{is_absorb, length_of}
@@ -77,7 +77,7 @@ number_1_over_64 [] h = absurd (omega arith)
 number_1_over_64 (w ∷ ws) h = held_over (w ∷ ws) h
 
 rank_of_19 : rank 19 ≡ 5
-unfolding rank if◌then◌else◌
+unfolding rank when◌then◌else◌
 rank_of_19 = refl
 
 -- The order in which numbers count: 19 "after 2 and before 3", the others as they rise; and where one is 0, the other counts.
@@ -130,5 +130,5 @@ pub later_words_at_fault :
     × (◌≡◌ {A = ℕ} (pass_number (3 ∷ 0x81000001 ∷ 0x80000000 ∷ [])) 2)
     × (◌≡◌ {A = ℕ} (pass_number (replicate 64 3)) 3)
     × (◌≡◌ {A = ℕ} (pass_number (replicate 65 3)) 1)
-unfolding pass_number word_rows is_absorb length_of first_number if◌then◌else◌ ◌or◌ any
+unfolding pass_number word_rows is_absorb length_of first_number when◌then◌else◌ ◌or◌ any
 later_words_at_fault = (refl, refl, refl, refl, refl)

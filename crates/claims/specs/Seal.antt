@@ -4,7 +4,7 @@ use Rattle.std.specs.Prelude.{◌≡◌, refl, true, false, ◌≢◌, ℕ, ◌+
 use Rattle.std.proofs.Common.{sym, ap, ◌∙◌}
 use mathlib.Core.List.{List, [], ◌∷◌, ◌++◌, zip_with}
 use Rattle.std.proofs.lemmas.List.{length-replicate}
-use Rattle.basics.specs.Logic.{if◌then◌else◌, ◌and◌, ◌or◌, all, any}
+use Rattle.basics.specs.Logic.{when◌then◌else◌, ◌and◌, ◌or◌, all, any}
 use Rattle.basics.specs.Lists.{total}
 use Rattle.basics.specs.Numbers.{accepted}
 use Rattle.basics.specs.Refusals.{first_number}
@@ -46,7 +46,7 @@ words_of_a_note ns e = (words_count ns, words_merged ns (lengths_sound ns e))
 -- Block by block: SQUEEZE and ABSORB of its length, before those of the next; the mark's SQUEEZE is last.
 pub words_block_by_block : (seal_words [] ≡ 0x80000010 ∷ 8 ∷ [])
     × ((n : ℕ) (ns : List ℕ) → seal_words (n ∷ ns) ≡ 0x80000010 ∷ n ∷ (0x80000000 + n) ∷ drop 1 (seal_words ns))
-unfolding seal_words block_words word_of if◌then◌else◌
+unfolding seal_words block_words word_of when◌then◌else◌
 words_block_by_block = (refl, λ n ns. refl)
 
 -- By hand: the words of blocks of 3 and 5 elements, how many 31 blocks need, and which lengths are sound.
@@ -60,7 +60,7 @@ pub words_by_hand :
     × (sound_lengths (9 ∷ 0 ∷ []) ≡ false)
     × (sound_lengths (9 ∷ 16777217 ∷ []) ≡ false)
     × (blocks_of (1 ∷ 3 ∷ 2 ∷ []) (1 ∷ 2 ∷ 3 ∷ 4 ∷ 5 ∷ 6 ∷ []) ≡ (1 ∷ []) ∷ (2 ∷ 3 ∷ 4 ∷ []) ∷ (5 ∷ 6 ∷ []) ∷ [])
-unfolding seal_words block_words word_of if◌then◌else◌ sound_lengths all ◌and◌ blocks_of
+unfolding seal_words block_words word_of when◌then◌else◌ sound_lengths all ◌and◌ blocks_of
 words_by_hand = (refl, refl, refl, refl, refl, refl, refl, refl, refl)
 
 -- "added to it": element by element, in the field.
@@ -168,7 +168,7 @@ elements_are f key nonce text = refl
 -- A note that is sealed, so that nothing here is said of none.
 pub a_note_is_sealed :
     (seal_note (context 2 (replicate 8 2130706432) (replicate 8 0) (99 ∷ []) (3 ∷ 2 ∷ [])) (10 ∷ 20 ∷ 30 ∷ 400 ∷ 500 ∷ []) (replicate 13 7)).number ≡ 0
-unfolding seal_note seal_rows note_rows first_number if◌then◌else◌ sound_lengths all ◌and◌ ◌or◌ are_elements is_field field_of total
+unfolding seal_note seal_rows note_rows first_number when◌then◌else◌ sound_lengths all ◌and◌ ◌or◌ are_elements is_field field_of total
 a_note_is_sealed = refl
 
 -- "20: .. after START's own 18 and 6, before 10": the number that sealing gives, by the first condition that holds, and that it leaves the buffer with each.

@@ -2,7 +2,7 @@
 -- and count. The definitions are those that the contracts of `session`, `tag` and `tag_reader` cite; here their figures are written out.
 use Rattle.std.specs.Prelude.{◌≡◌, refl, true, false, not, List, [], ◌∷◌, ◌++◌, ◌≢◌, ℕ, suc, ◌+◌, ◌-◌, ◌%◌, ◌<◌, leb, ltb, eqb, length, get_or, take, drop, replicate}
 use Rattle.std.proofs.Common.{sym, ap, ◌∙◌, mod-eq_of_lt, arith, eq-eqb, ne_eqb}
-use Rattle.basics.specs.Logic.{if◌then◌else◌, ◌and◌, ◌or◌, same, all, any}
+use Rattle.basics.specs.Logic.{when◌then◌else◌, ◌and◌, ◌or◌, same, all, any}
 use Rattle.basics.specs.Digits.{number}
 use Rattle.basics.specs.Numbers.{accepted}
 use Rattle.basics.specs.Refusals.{Row, ◌gets◌⨾◌, first_number}
@@ -35,7 +35,7 @@ use Rattle.session.proofs.SoundRecord.{parts}
 -- A table of refusals gives the number of its first row that applies, whatever the numbers are, and 0 where none does.
 pub rows_in_order : (n : ℕ) (rows : List Row)
     → (first_number [] ≡ 0) × (first_number (true gets n ⨾ rows) ≡ n) × (first_number (false gets n ⨾ rows) ≡ first_number rows)
-unfolding first_number if◌then◌else◌
+unfolding first_number when◌then◌else◌
 rows_in_order n rows = (refl, refl, refl)
 
 -- An answer is its number and the record that is left, whatever they are.
@@ -53,7 +53,7 @@ pub absorb_row_by_row : (r : Session) (xs : List ℕ)
     not (in_pattern r.words r.count r.phase r.done true (length xs)) gets 9 ⨾
     not (all (is_element (field_of r.field)) xs) gets 10 ⨾
     []) in
-    absorb r xs ≡ giving n (if eqb n 0 then absorb_all r xs else if eqb n 9 or eqb n 11 then wiped else r)
+    absorb r xs ≡ giving n (when eqb n 0 then absorb_all r xs else when eqb n 9 or eqb n 11 then wiped else r)
 unfolding absorb answer_of wipes absorb_rows call_rows record_rows
 absorb_row_by_row r xs = refl
 
@@ -65,7 +65,7 @@ pub squeeze_row_by_row : (r : Session) (k : ℕ)
     eqb k 0 gets 0 ⨾
     not (in_pattern r.words r.count r.phase r.done false k) gets 9 ⨾
     []) in
-    squeeze r k ≡ giving n (if eqb n 0 then squeeze_all r k else if eqb n 9 or eqb n 11 then wiped else r)
+    squeeze r k ≡ giving n (when eqb n 0 then squeeze_all r k else when eqb n 9 or eqb n 11 then wiped else r)
 unfolding squeeze answer_of wipes call_rows record_rows
 squeeze_row_by_row r k = refl
 
@@ -80,7 +80,7 @@ pub absorb_by_figures : (r : Session) (xs : List ℕ)
     not (ltb r.phase r.count and is_absorb word and leb (r.done + length xs) (length_of word)) gets 9 ⨾
     not (all (is_element (field_of r.field)) xs) gets 10 ⨾
     []) in
-    absorb r xs ≡ giving n (if eqb n 0 then absorb_all r xs else if eqb n 9 or eqb n 11 then wiped else r)
+    absorb r xs ≡ giving n (when eqb n 0 then absorb_all r xs else when eqb n 9 or eqb n 11 then wiped else r)
 unfolding absorb answer_of wipes absorb_rows call_rows record_rows in_pattern same
 absorb_by_figures r xs = refl
 
@@ -93,7 +93,7 @@ pub squeeze_by_figures : (r : Session) (k : ℕ)
     eqb k 0 gets 0 ⨾
     not (ltb r.phase r.count and not (is_absorb word) and leb (r.done + k) (length_of word)) gets 9 ⨾
     []) in
-    squeeze r k ≡ giving n (if eqb n 0 then squeeze_all r k else if eqb n 9 or eqb n 11 then wiped else r)
+    squeeze r k ≡ giving n (when eqb n 0 then squeeze_all r k else when eqb n 9 or eqb n 11 then wiped else r)
 unfolding squeeze answer_of wipes call_rows record_rows in_pattern same
 squeeze_by_figures r k = refl
 
@@ -107,13 +107,13 @@ what_squeezing_leaves r buffer = (λ refused. if_false _ _ _ (ne_eqb _ _ refused
 -- "Length 0 on an open sound record is accepted and changes nothing."
 pub empty_calls_change_nothing : (r : Session) → r.status ≡ 1 → sound r ≡ true
     → (absorb r [] ≡ giving 0 r) × (squeeze r 0 ≡ giving 0 r) × (squeezed_all r 0 ≡ [])
-unfolding absorb squeeze answer_of absorb_rows call_rows record_rows first_number absorb_all squeeze_all squeezed_all if◌then◌else◌
+unfolding absorb squeeze answer_of absorb_rows call_rows record_rows first_number absorb_all squeeze_all squeezed_all when◌then◌else◌
 empty_calls_change_nothing r opens e = (rw (eq-eqb _ _ opens, e) refl, rw (eq-eqb _ _ opens, e) refl, refl)
 
 -- "FINISH checks 7, 8, 11."
 pub finish_row_by_row : (r : Session)
     → let n = first_number (not (eqb r.status 1) gets 7 ⨾ not (sound r) gets 8 ⨾ not (eqb r.phase r.count) gets 11 ⨾ []) in
-    finish r ≡ giving n (if eqb n 0 then wiped else if eqb n 9 or eqb n 11 then wiped else r)
+    finish r ≡ giving n (when eqb n 0 then wiped else when eqb n 9 or eqb n 11 then wiped else r)
 unfolding finish answer_of wipes finish_rows record_rows
 finish_row_by_row r = refl
 
@@ -132,7 +132,7 @@ pub start_row_by_row : (field form : ℕ) (ws separator : List ℕ)
     []) in
     let merged = merged_words ws in
     start field form (opening ws separator)
-    ≡ (if eqb n 0 then
+    ≡ (when eqb n 0 then
     giving 0
     (record {
       status = 1;
@@ -183,7 +183,7 @@ what_writing_leaves form o buffer =
 -- "Reading checks 6 (the length given), then 13", in form 1.
 pub reading_row_by_row : (s : List ℕ) (n : ℕ)
     → read_number 1 s n ≡ first_number (ltb 256 n gets 6 ⨾ ltb (length s) n gets 13 ⨾ not (sound_bytes (words_part s n)) gets 13 ⨾ [])
-unfolding read_number read_rows body_rows body_of length_in tail_missing is_form first_number if◌then◌else◌ ◌and◌ ◌or◌
+unfolding read_number read_rows body_rows body_of length_in tail_missing is_form first_number when◌then◌else◌ ◌and◌ ◌or◌
 reading_row_by_row s n = refl
 
 -- "Reading form 2 goes by the string's last four bytes and ignores any length given."; "In form 2 a string under four bytes, or one whose tail names
@@ -194,7 +194,7 @@ pub reading_form_2_row_by_row : (s : List ℕ) (n : ℕ)
     read_number 2 s n
     ≡ first_number
     (ltb (length s) 4 gets 13 ⨾ ltb 256 named gets 6 ⨾ ltb (length before) named gets 13 ⨾ not (sound_bytes (words_part before named)) gets 13 ⨾ [])
-unfolding read_number read_rows body_rows body_of length_in tail_missing is_form first_number if◌then◌else◌ ◌and◌ ◌or◌
+unfolding read_number read_rows body_rows body_of length_in tail_missing is_form first_number when◌then◌else◌ ◌and◌ ◌or◌
 reading_form_2_row_by_row s n = refl
 
 -- "the number comes with the words", which stand in 64 places with zeros behind them; "Refused, it gives 64 zero words and count 0.", and the separator is
@@ -304,5 +304,5 @@ positions_of_sound_records r e = let s = parts r e in (s.absorbs_at, s.squeezes_
 pub positions_behind_a_last_absorb :
     (positions_at (0x80000008 ∷ []) 1 0 ≡ record { absorb = 8; squeeze = 8 })
     × (positions_at (0x80000009 ∷ []) 1 0 ≡ record { absorb = 1; squeeze = 8 })
-unfolding positions_at positions_after in_last_block is_absorb length_of if◌then◌else◌
+unfolding positions_at positions_after in_last_block is_absorb length_of when◌then◌else◌
 positions_behind_a_last_absorb = (refl, refl)

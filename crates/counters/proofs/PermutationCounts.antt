@@ -8,7 +8,7 @@ use borrow.Author.Tests.{leb-true, leb-false}
 use lib.Dec.{leb}
 use lib.ListN.{length, get_or, take, get_or-eq_default}
 use lib.Seq.{get_or-take}
-use Rattle.basics.specs.Logic.{if◌then◌else◌}
+use Rattle.basics.specs.Logic.{when◌then◌else◌}
 use Rattle.basics.specs.Lists.{sum}
 use Rattle.basics.proofs.Cases.{by, cases}
 use Rattle.basics.proofs.Sums.{sum_same}
@@ -22,7 +22,7 @@ whole_phase ws k = phase_permutations (get_or ws k 0) (length_of (get_or ws k 0)
 
 -- a phase with no element done
 pub none_done : (word : ℕ) → phase_permutations word 0 ≡ 0
-unfolding phase_permutations block_count if◌then◌else◌
+unfolding phase_permutations block_count when◌then◌else◌
 none_done word = by (λ (n : ℕ). n ≡ 0) (is_absorb word) _ _ (λ _. refl) λ _. refl
 
 pub phase_bound : (word d : ℕ) → phase_permutations word d ≤ (d + 7) / 8
@@ -40,7 +40,7 @@ sum_bound ws (suc k) =
     omega (arith, sum_bound ws k, phase_bound word (length_of word), length_below word)
 
 behind_last : (ws : List ℕ) (k : ℕ) → length ws ≤ k → whole_phase ws k ≡ 0
-unfolding phase_permutations block_count is_absorb length_of if◌then◌else◌
+unfolding phase_permutations block_count is_absorb length_of when◌then◌else◌
 behind_last ws k h = ap (λ (w : ℕ). phase_permutations w (length_of w)) (get_or-eq_default ws 0 h)
 
 -- a sum over phases may stop at the last word

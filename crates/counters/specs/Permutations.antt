@@ -1,7 +1,7 @@
 -- How many permutations a pattern takes. From document 01, "Session steps" and "Cards". Words are those of the merged pattern, where nothing
 -- else is said.
 use Rattle.std.specs.Prelude.{List, ℕ, ◌+◌, ◌-◌, ◌/◌, eqb, length, get_or}
-use Rattle.basics.specs.Logic.{if◌then◌else◌}
+use Rattle.basics.specs.Logic.{when◌then◌else◌}
 use Rattle.basics.specs.Lists.{sum}
 use Rattle.words.specs.Words.{is_absorb, length_of}
 use Rattle.pattern.specs.Pattern.{merged_words}
@@ -12,7 +12,7 @@ block_count n = (n + 7) / 8
 
 -- "Permutations for d elements done in a phase: absorb, 0 if d = 0, else ceil(d/8) − 1; squeeze, ceil(d/8)."
 unfoldable pub phase_permutations : ℕ → ℕ → ℕ
-phase_permutations word d = if is_absorb word then (if eqb d 0 then 0 else block_count d - 1) else block_count d
+phase_permutations word d = when is_absorb word then (when eqb d 0 then 0 else block_count d - 1) else block_count d
 
 -- "Their sum over phases is the count.": of all elements of the phases before, and of those done in this one
 unfoldable pub permutations_at : List ℕ → ℕ → ℕ → ℕ

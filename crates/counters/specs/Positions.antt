@@ -1,6 +1,6 @@
 -- The positions that the steps give at a place of a pattern. From document 01, "Session steps". Words are those of the merged pattern.
 use Rattle.std.specs.Prelude.{List, ℕ, zero, suc, ◌+◌, ◌%◌, get_or}
-use Rattle.basics.specs.Logic.{if◌then◌else◌}
+use Rattle.basics.specs.Logic.{when◌then◌else◌}
 use Rattle.basics.specs.Figures.{rate}
 use Rattle.words.specs.Words.{is_absorb, length_of}
 use Rattle.counters.specs.declared.positions.Positions.{Positions}
@@ -14,7 +14,7 @@ in_last_block n = (n + 7) % rate + 1
 -- begins with a permutation, the absorb position is 0 from its first element on
 unfoldable pub positions_after : ℕ → ℕ → Positions
 positions_after word d =
-    if is_absorb word then record { absorb = in_last_block d; squeeze = rate } else record { absorb = 0; squeeze = in_last_block d }
+    when is_absorb word then record { absorb = in_last_block d; squeeze = rate } else record { absorb = 0; squeeze = in_last_block d }
 
 -- the positions at a place: what the last element done left, of this phase or of the one before, and 0 at the start
 unfoldable pub positions_at : List ℕ → ℕ → ℕ → Positions

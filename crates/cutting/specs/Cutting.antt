@@ -1,7 +1,7 @@
 -- Longer words cut into calls that a pattern may declare. From document 02, P4: "what it reads is written again by cutting longer words into calls
 -- of 16,777,216 and any rest, where 64 calls suffice."
 use Rattle.std.specs.Prelude.{List, [], ◌∷◌, ◌++◌, map, ℕ, ◌/◌, ◌%◌, leb, ltb, eqb, length, replicate}
-use Rattle.basics.specs.Logic.{if◌then◌else◌}
+use Rattle.basics.specs.Logic.{when◌then◌else◌}
 use Rattle.basics.specs.Numbers.{word_count_out_of_range}
 use Rattle.basics.specs.Refusals.{◌gets◌⨾◌, first_number}
 use Rattle.words.specs.Words.{Phase, phase_of, word_of}
@@ -11,11 +11,11 @@ use Rattle.pattern.specs.declared.WordList.{WordList}
 
 -- "any rest": nothing, where there is none
 unfoldable pub rest_of : ℕ → List ℕ
-rest_of n = if eqb n 0 then [] else n ∷ []
+rest_of n = when eqb n 0 then [] else n ∷ []
 
 -- a length within the limit stays, 0 too; a longer one becomes lengths of the limit "and any rest"
 unfoldable pub cut_length : ℕ → ℕ → List ℕ
-cut_length limit n = if leb n limit then n ∷ [] else replicate (n / limit) limit ++ rest_of (n % limit)
+cut_length limit n = when leb n limit then n ∷ [] else replicate (n / limit) limit ++ rest_of (n % limit)
 
 -- a call, cut into calls of its kind
 unfoldable pub cut_call : ℕ → Phase → List Phase

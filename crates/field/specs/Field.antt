@@ -1,7 +1,7 @@
 -- The two fields, and the figures in which their permutations differ. Document 01: "p = 2013265921 = 15 × 2^27 + 1. All arithmetic on elements
 -- is modulo p, results from 0 to p − 1."; document 02: "2130706433 = 2^31 − 2^24 + 1". They are the fields known as BabyBear and KoalaBear.
 use Rattle.std.specs.Prelude.{Bool, ℕ, eqb}
-use Rattle.basics.specs.Logic.{if◌then◌else◌, ◌or◌}
+use Rattle.basics.specs.Logic.{when◌then◌else◌, ◌or◌}
 use Rattle.basics.specs.Lists.{is_below}
 use Rattle.field.specs.declared.Field.{Field}
 use Rattle.field.specs.declared.Field.TheVariants.{BabyBear, KoalaBear}
@@ -27,7 +27,7 @@ is_field number = eqb number 1 or eqb number 2
 
 -- the field that a number names. For a number that names none it is BabyBear, which is used nowhere: `is_field` is asked first.
 unfoldable pub field_of : ℕ → Field
-field_of number = if eqb number 2 then KoalaBear else BabyBear
+field_of number = when eqb number 2 then KoalaBear else BabyBear
 
 -- document 00: "An element is a whole number from 0 to 2013265920."; "p and element .. mean those of the field that the record or the call names"
 abbrev pub is_element : Field → ℕ → Bool

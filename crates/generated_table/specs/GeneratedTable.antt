@@ -1,7 +1,7 @@
 -- The tables of round constants are what the generator gives: the generator on numbers is run to the end for each field.
 use Rattle.std.specs.Prelude.{◌≡◌, refl, false, not, List, [], ◌++◌, ℕ, ◌*◌, ◌^◌, ◌<◌, get_or, take, drop, replicate}
 use Rattle.std.proofs.Common.{◌∙◌, ap, lit<}
-use Rattle.basics.specs.Logic.{if◌then◌else◌, ◌or◌}
+use Rattle.basics.specs.Logic.{when◌then◌else◌, ◌or◌}
 use Rattle.basics.specs.Lists.{tabulate, sum}
 use Rattle.basics.specs.Digits.{digits, number, number_after}
 use Rattle.basics.specs.Numbers.{accepted, field_unknown}
@@ -44,11 +44,11 @@ first_bound KoalaBear = lit< tt
 
 -- the first constants of all 130,992 pairs
 baby_bear_computed : take (constant_count BabyBear) (run (modulus BabyBear) 130992 (after 160 baby_bear_first) 0 0) ≡ baby_bear_constants
-unfolding run after step next emitted value_after size_after baby_bear_first register_number first_register digits sum if◌then◌else◌ baby_bear_constants
+unfolding run after step next emitted value_after size_after baby_bear_first register_number first_register digits sum when◌then◌else◌ baby_bear_constants
 baby_bear_computed = refl
 
 koala_bear_computed : take (constant_count KoalaBear) (run (modulus KoalaBear) 130992 (after 160 koala_bear_first) 0 0) ≡ koala_bear_constants
-unfolding run after step next emitted value_after size_after koala_bear_first register_number first_register digits sum if◌then◌else◌ koala_bear_constants
+unfolding run after step next emitted value_after size_after koala_bear_first register_number first_register digits sum when◌then◌else◌ koala_bear_constants
 koala_bear_computed = refl
 
 computed : (f : Field) → take (constant_count f) (run (modulus f) 130992 (after 160 (first f)) 0 0) ≡ constants f
@@ -71,12 +71,12 @@ table_generated = table_found
 
 -- "whose list has 744 places in either field": 696 constants and 48 zeros for field 1
 pub field_1_generated : generation 1 ≡ record { number = accepted; constants = baby_bear_constants ++ replicate 48 0; count = 696 }
-unfolding generation with_constants is_field field_of ◌or◌ if◌then◌else◌ constants baby_bear_constants
+unfolding generation with_constants is_field field_of ◌or◌ when◌then◌else◌ constants baby_bear_constants
 field_1_generated = ap (with_constants accepted) (table_generated BabyBear)
 
 -- 744 for field 2
 pub field_2_generated : generation 2 ≡ record { number = accepted; constants = koala_bear_constants; count = 744 }
-unfolding generation with_constants is_field field_of ◌or◌ if◌then◌else◌ constants koala_bear_constants
+unfolding generation with_constants is_field field_of ◌or◌ when◌then◌else◌ constants koala_bear_constants
 field_2_generated = ap (with_constants accepted) (table_generated KoalaBear)
 
 -- "18: field number neither 1 nor 2 .. in the generator, whose list .. then holds zeros, none found"

@@ -10,7 +10,7 @@ use Rattle.std.proofs.lemmas.Bool.{eqb-false}
 use Rattle.std.proofs.Math.ListN.{length}
 use Rattle.std.proofs.Math.Seq.{append_snoc}
 use Rattle.std.proofs.Math.Pow.{high}
-use Rattle.basics.specs.Logic.{if◌then◌else◌}
+use Rattle.basics.specs.Logic.{when◌then◌else◌}
 use Rattle.basics.specs.Lists.{tabulate}
 use Rattle.basics.specs.Digits.{number, number_after}
 use Rattle.basics.proofs.Fill.{tabulate_at, tabulate_cons, tabulate_same}
@@ -85,13 +85,13 @@ dropped (suc i) n h count =
 -- ---- the generator on numbers: value and size are the number that the bits held write, and how many they are
 
 unfoldable pub emitted : ℕ → ℕ → ℕ → ℕ → List ℕ
-emitted m first size value = if eqb first 1 then if eqb size 30 then if ltb value m then value ∷ [] else [] else [] else []
+emitted m first size value = when eqb first 1 then when eqb size 30 then when ltb value m then value ∷ [] else [] else [] else []
 
 unfoldable pub value_after : ℕ → ℕ → ℕ → ℕ → ℕ
-value_after first size value longer = if eqb first 1 then if eqb size 30 then 0 else longer else value
+value_after first size value longer = when eqb first 1 then when eqb size 30 then 0 else longer else value
 
 unfoldable pub size_after : ℕ → ℕ → ℕ
-size_after first size = if eqb first 1 then if eqb size 30 then 0 else size + 1 else size
+size_after first size = when eqb first 1 then when eqb size 30 then 0 else size + 1 else size
 
 unfoldable pub run : ℕ → ℕ → ℕ → ℕ → ℕ → List ℕ
 run m zero n value size = []
@@ -103,7 +103,7 @@ run m (suc pairs) n value size =
 -- one pair of new bits, of which the first decides
 pair_is : (pairs n : ℕ) → n < 2 ^ 80
     → output_bits (new_bits (suc pairs * 2) (bits_of n))
-    ≡ (if eqb (next n) 1 then next (step n) ∷ [] else []) ++ output_bits (new_bits (pairs * 2) (bits_of (step (step n))))
+    ≡ (when eqb (next n) 1 then next (step n) ∷ [] else []) ++ output_bits (new_bits (pairs * 2) (bits_of (step (step n))))
 unfolding output_bits
 pair_is pairs n h =
     let size : suc pairs * 2 - 2 ≡ pairs * 2 = omega arith in
@@ -117,14 +117,14 @@ module _ (m first second : ℕ) (held rest : List ℕ) (short : length held < 31
 
   Turn : Type 0
   Turn =
-      kept m (candidates (held ++ ((if eqb first 1 then second ∷ [] else []) ++ rest)))
+      kept m (candidates (held ++ ((when eqb first 1 then second ∷ [] else []) ++ rest)))
       ≡ emitted m first (length held) longer ++ after-pair (value_after first (length held) (number 2 held) longer) (size_after first (length held))
 
   one_longer : length (held ++ (second ∷ [])) ≡ length held + 1
   one_longer = length-append held (second ∷ [])
 
   turn_by : (a b : Bool) → eqb first 1 ≡ a → eqb (length held) 30 ≡ b → Turn
-  unfolding Turn longer emitted value_after size_after if◌then◌else◌ kept number number_after
+  unfolding Turn longer emitted value_after size_after when◌then◌else◌ kept number number_after
   turn_by true true e₁ e₂ =
       let whole : length (held ++ (second ∷ [])) ≡ 31 = rw one_longer (ap (λ (n : ℕ). n + 1) (eqb-true _ _ e₂)) in
       rw (e₁, e₂, ← append_snoc held second rest, candidate_whole (held ++ (second ∷ [])) rest whole, number_append 2 held second, same [] (lit< tt))

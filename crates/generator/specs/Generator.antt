@@ -1,6 +1,6 @@
 -- Poseidon's Grain generator of round constants (document 01, "Field and permutation"), on lists of bits.
 use Rattle.std.specs.Prelude.{not, List, [], ◌∷◌, ◌++◌, ℕ, zero, suc, ◌+◌, ◌*◌, ◌/◌, ◌%◌, eqb, ltb, length, get_or, take, drop, replicate}
-use Rattle.basics.specs.Logic.{if◌then◌else◌}
+use Rattle.basics.specs.Logic.{when◌then◌else◌}
 use Rattle.basics.specs.Lists.{zero_padded}
 use Rattle.basics.specs.Digits.{digits, number}
 use Rattle.basics.specs.Numbers.{accepted, field_unknown}
@@ -31,7 +31,7 @@ new_bits (suc n) r = next_bit r ∷ new_bits n (shifted r)
 unfoldable pub output_bits : List ℕ → List ℕ
 output_bits [] = []
 output_bits (first ∷ []) = []
-output_bits (first ∷ second ∷ bits) = (if eqb first 1 then second ∷ [] else []) ++ output_bits bits
+output_bits (first ∷ second ∷ bits) = (when eqb first 1 then second ∷ [] else []) ++ output_bits bits
 
 -- "31 output bits, first highest, make a candidate": the first n candidates
 unfoldable pub first_candidates : ℕ → List ℕ → List ℕ
@@ -45,7 +45,7 @@ candidates bits = first_candidates (length bits / 31) bits
 -- "one of p or more is dropped"
 unfoldable pub kept : ℕ → List ℕ → List ℕ
 kept modulus [] = []
-kept modulus (candidate ∷ rest) = (if ltb candidate modulus then candidate ∷ [] else []) ++ kept modulus rest
+kept modulus (candidate ∷ rest) = (when ltb candidate modulus then candidate ∷ [] else []) ++ kept modulus rest
 
 -- "The first 160 new bits are dropped." "It stops at 696 constants or 262,144 new bits, dropped ones included", here at any number
 -- wanted and any limit: the constants found among the first limit new bits from a register on, at most wanted of them
@@ -66,4 +66,4 @@ with_constants number constants = record { number = number; constants = zero_pad
 
 -- "18: field number neither 1 nor 2 .. in the generator, whose list .. then holds zeros, none found"
 unfoldable pub generation : ℕ → Generated
-generation field = if not (is_field field) then with_constants field_unknown [] else with_constants accepted (generated (field_of field))
+generation field = when not (is_field field) then with_constants field_unknown [] else with_constants accepted (generated (field_of field))

@@ -1,6 +1,6 @@
 -- Fields of hexadecimal digits in a text.
 use Rattle.std.specs.Prelude.{Bool, not, List, [], ◌∷◌, ℕ, zero, suc, ◌+◌, ◌*◌, ◌/◌, ◌%◌, ltb, length, get_or, drop}
-use Rattle.basics.specs.Logic.{if◌then◌else◌, ◌and◌}
+use Rattle.basics.specs.Logic.{when◌then◌else◌, ◌and◌}
 use Rattle.basics.specs.Lists.{tabulate, zero_padded}
 use Rattle.basics.specs.Digits.{number}
 use Rattle.hex_fields.specs.declared.Field.{Field}
@@ -11,7 +11,7 @@ max_bytes = 2048
 
 -- the number that a digit writes: the codes of 0 to 9 are 48 to 57, those of A to F 65 to 70, those of a to f 97 to 102
 unfoldable pub digit_value : ℕ → ℕ
-digit_value code = if ltb code 58 then code % 16 else (code % 16 + 9) % 16
+digit_value code = when ltb code 58 then code % 16 else (code % 16 + 9) % 16
 
 -- the byte that two digits write
 unfoldable pub pair_byte : ℕ → ℕ → ℕ
@@ -26,7 +26,7 @@ unfoldable pub field_bytes : ℕ → List ℕ → List ℕ
 field_bytes zero text = []
 field_bytes (suc n) [] = []
 field_bytes (suc n) (code ∷ []) = []
-field_bytes (suc n) (high ∷ (low ∷ rest)) = if is_end high then [] else pair_byte high low ∷ field_bytes n rest
+field_bytes (suc n) (high ∷ (low ∷ rest)) = when is_end high then [] else pair_byte high low ∷ field_bytes n rest
 
 -- two bytes of a field stand at a place
 unfoldable pub is_pair : List ℕ → ℕ → Bool
@@ -34,7 +34,7 @@ is_pair text at = ltb (at + 1) (length text) and not (is_end (get_or text at 0))
 
 -- the place behind the byte that ends a field; behind the text, where none does, the place itself
 unfoldable pub place_behind : List ℕ → ℕ → ℕ
-place_behind text end = if ltb end (length text) then end + 1 else end
+place_behind text end = when ltb end (length text) then end + 1 else end
 
 -- the field that writes bytes, at a place
 unfoldable pub field_of : List ℕ → ℕ → List ℕ → Field

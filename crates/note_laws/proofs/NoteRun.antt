@@ -9,7 +9,7 @@ use native.Mathlib.Omega.{arith}
 use borrow.Author.Tests.{eq-eqb}
 use lib.ListN.{length, replicate, length-replicate, length-append, take}
 use lib.Seq.{take_all}
-use Rattle.basics.specs.Logic.{if◌then◌else◌, all}
+use Rattle.basics.specs.Logic.{when◌then◌else◌, all}
 use Rattle.basics.specs.Lists.{Below, joined, total}
 use Rattle.basics.specs.Numbers.{accepted}
 use Rattle.basics.specs.Refusals.{first_number}

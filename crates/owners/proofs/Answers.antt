@@ -9,7 +9,7 @@ use native.Mathlib.Omega.{arith}
 use borrow.Author.Tests.{ltb-true, ltb-false, lt-ltb, le-ltb, le-leb, lt-leb, ne_eqb}
 use lib.Dec.{ltb}
 use lib.ListN.{length}
-use Rattle.basics.specs.Logic.{if◌then◌else◌, ◌and◌, all}
+use Rattle.basics.specs.Logic.{when◌then◌else◌, ◌and◌, all}
 use Rattle.basics.specs.Numbers.{accepted, owners_row_invalid, owners_gap, separator_too_short}
 use Rattle.basics.specs.Refusals.{first_number}
 use Rattle.basics.proofs.Cases.{cases, if_true, if_false}
@@ -40,7 +40,7 @@ module _ (t : Table) where
     number_fault = if_true _ _ _ (le-leb _ _ h)
 
     pub checked_fault : checked t ≡ record { number = owners_row_invalid; place = first_fault t }
-    unfolding checked place_of if◌then◌else◌
+    unfolding checked place_of when◌then◌else◌
     checked_fault = rw number_fault
 
   -- no row at fault, and a gap
@@ -50,7 +50,7 @@ module _ (t : Table) where
     number_gap = if_false _ _ _ (lt-leb _ _ h) ∙ if_true _ _ _ (lt-ltb _ _ l)
 
     pub checked_gap : checked t ≡ record { number = owners_gap; place = least_free t }
-    unfolding checked place_of if◌then◌else◌
+    unfolding checked place_of when◌then◌else◌
     checked_gap = rw number_gap
 
   -- neither
@@ -60,7 +60,7 @@ module _ (t : Table) where
     number_accepted = if_false _ _ _ (lt-leb _ _ h) ∙ if_false _ _ _ (le-ltb _ _ l)
 
     pub checked_accepted : checked t ≡ record { number = accepted; place = 0 }
-    unfolding checked place_of if◌then◌else◌
+    unfolding checked place_of when◌then◌else◌
     checked_accepted = rw number_accepted
 
 every_row_refuses : (t : Table) → all refusing (check_rows t) ≡ true
@@ -83,15 +83,15 @@ module _ (t : Table) (separator : List ℕ) where
         (if_false _ _ _ (ne_eqb _ _ n)))
 
   module _ (e : (checked t).number ≡ accepted) where
-    behind_table : first_number (ask_rows t separator) ≡ (if ltb (length separator) 4 then separator_too_short else accepted)
+    behind_table : first_number (ask_rows t separator) ≡ (when ltb (length separator) 4 then separator_too_short else accepted)
     unfolding ask_rows first_number checked
     behind_table = behind (check_rows t) _ (accepted_none (check_rows t) (every_row_refuses t) e)
 
     pub asked_short : length separator < 4 → asked t separator ≡ record { number = separator_too_short; place = 0; line = 0 }
-    unfolding asked place_of if◌then◌else◌
+    unfolding asked place_of when◌then◌else◌
     asked_short h = rw (behind_table ∙ if_true _ _ _ (lt-ltb _ _ h))
 
     pub asked_line : 4 ≤ length separator
         → asked t separator ≡ record { number = accepted; place = 0; line = line_of (separator_number separator) t.rows }
-    unfolding asked place_of if◌then◌else◌
+    unfolding asked place_of when◌then◌else◌
     asked_line h = rw (behind_table ∙ if_false _ _ _ (le-ltb _ _ h))

@@ -10,7 +10,7 @@ use borrow.Author.Tests.{ltb-true, ltb-false, leb-true, leb-false, le-leb, lt-le
 use lib.Dec.{leb, ltb, eqb}
 use lib.ListN.{length, get_or, drop, drop_of_length-le}
 use lib.Seq.{drop-cons}
-use Rattle.basics.specs.Logic.{if◌then◌else◌, ◌or◌, any}
+use Rattle.basics.specs.Logic.{when◌then◌else◌, ◌or◌, any}
 use Rattle.basics.proofs.Cases.{by, cases, if_true, if_false, and_both, and_step, and_stop, or_left, or_right, or_neither}
 use Rattle.owners.specs.Owners.{Table, row, row_count, at_fault, first_fault, holds, is_free, number_count, least_free}
 use Rattle.owners.specs.declared.OwnerRow.{OwnerRow}
@@ -26,7 +26,7 @@ pub data Rising : ℕ → List OwnerRow → Type 0 where
 -- the end of the rows that follow each other without a gap, from a number on
 unfoldable pub gap : ℕ → List OwnerRow → ℕ
 gap free [] = free
-gap free (r ∷ rs) = if eqb r.first free then gap (suc r.last) rs else free
+gap free (r ∷ rs) = when eqb r.first free then gap (suc r.last) rs else free
 
 module _ (n : ℕ) (r : OwnerRow) where
   pub holds_between : r.first ≤ n → n ≤ r.last → holds n r ≡ true

@@ -10,7 +10,7 @@ use borrow.Author.Tests.{eq-eqb, ne_eqb}
 use lib.Dec.{eqb}
 use lib.ListN.{length, get_or, take, drop}
 use lib.Seq.{drop-drop}
-use Rattle.basics.specs.Logic.{if◌then◌else◌}
+use Rattle.basics.specs.Logic.{when◌then◌else◌}
 use Rattle.basics.specs.Digits.{number}
 use Rattle.basics.proofs.Cases.{if_true, if_false}
 use Rattle.basics.proofs.Parts.{two_bytes}
@@ -71,14 +71,14 @@ module _ (bytes : List ℕ) where
   unfolding row_count table_of
   count_whole e =
       let long = length_rows (length bytes / 10) bytes in
-      let none : ◌≡◌ {A = ℕ} (if not (eqb (length bytes % 10) 0) then 1 else 0) 0 = if_false _ _ _ (ap not (eq-eqb _ 0 e)) in
+      let none : ◌≡◌ {A = ℕ} (when not (eqb (length bytes % 10) 0) then 1 else 0) 0 = if_false _ _ _ (ap not (eq-eqb _ 0 e)) in
       omega arith
 
   pub count_cut : (length bytes % 10 ≡ 0 → ⊥) → row_count (table_of bytes) ≡ length bytes / 10 + 1
   unfolding row_count table_of
   count_cut n =
       let long = length_rows (length bytes / 10) bytes in
-      let one : ◌≡◌ {A = ℕ} (if not (eqb (length bytes % 10) 0) then 1 else 0) 1 = if_true _ _ _ (ap not (ne_eqb _ 0 n)) in
+      let one : ◌≡◌ {A = ℕ} (when not (eqb (length bytes % 10) 0) then 1 else 0) 1 = if_true _ _ _ (ap not (ne_eqb _ 0 n)) in
       omega arith
 
 pub rows_within : (t : Table) → length t.rows ≤ row_count t

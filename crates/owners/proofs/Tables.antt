@@ -4,7 +4,7 @@ use mathlib.Core.Path.{◌≡◌, sym, ap, ◌∙◌, subst}
 use mathlib.Core.Bool.{true, false, not, true≢false}
 use mathlib.Core.List.{List, [], ◌∷◌}
 use mathlib.Core.Logic.{◌↔◌}
-use Rattle.basics.specs.Logic.{if◌then◌else◌}
+use Rattle.basics.specs.Logic.{when◌then◌else◌}
 use Prim.Native.Nat.{ℕ, suc, ◌+◌, ◌-◌, ◌≤◌, ◌<◌, zero-le}
 use native.Mathlib.Nat.{le_refl, le_antisymm}
 use native.Mathlib.Omega.{arith}
@@ -201,7 +201,7 @@ module _ (t : Table) where
     not_cut =
         cases
         t.cut_short
-        (λ c. absurd (let more : ◌≡◌ {A = ℕ} (if t.cut_short then 1 else 0) 1 = if_true _ _ _ c in omega (arith, all_whole)))
+        (λ c. absurd (let more : ◌≡◌ {A = ℕ} (when t.cut_short then 1 else 0) 1 = if_true _ _ _ c in omega (arith, all_whole)))
         (λ c. c)
 
     pub at_most_128 : row_count t ≤ 128

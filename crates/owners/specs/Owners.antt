@@ -1,6 +1,6 @@
 -- Who owns which separators: a table of rows, checked and asked. From document 02, P1.
 use Rattle.std.specs.Prelude.{Bool, not, List, [], ◌∷◌, ◌++◌, ℕ, zero, suc, ◌+◌, ◌-◌, ◌/◌, ◌%◌, ◌^◌, leb, ltb, eqb, length, get_or, take, drop}
-use Rattle.basics.specs.Logic.{if◌then◌else◌, ◌and◌, ◌or◌, any}
+use Rattle.basics.specs.Logic.{when◌then◌else◌, ◌and◌, ◌or◌, any}
 use Rattle.basics.specs.Digits.{number}
 use Rattle.basics.specs.Numbers.{accepted, owners_row_invalid, owners_gap, separator_too_short}
 use Rattle.basics.specs.Refusals.{Row, ◌gets◌⨾◌, first_number}
@@ -33,7 +33,7 @@ table_of bytes = record { rows = rows_of (length bytes / 10) bytes; cut_short = 
 
 -- how many rows a table has, one cut short included
 unfoldable pub row_count : Table → ℕ
-row_count t = length t.rows + (if t.cut_short then 1 else 0)
+row_count t = length t.rows + (when t.cut_short then 1 else 0)
 
 -- row k, counted from 1; where there is no whole row k, and so of one cut short, zeros stand for it
 unfoldable pub row : Table → ℕ → OwnerRow
@@ -54,7 +54,7 @@ at_fault t k =
 -- the least that passes a test, of n numbers from k on; k + n where none does
 unfoldable pub least_from : (ℕ → Bool) → ℕ → ℕ → ℕ
 least_from test k zero = k
-least_from test k (suc n) = if test k then k else least_from test (suc k) n
+least_from test k (suc n) = when test k then k else least_from test (suc k) n
 
 -- "the first such row's number, counted from 1"; one more than there are rows where none is at fault
 unfoldable pub first_fault : Table → ℕ
@@ -85,7 +85,7 @@ check_rows t =
 
 -- what comes with a number: with 15 the first row at fault, with 16 the least number that no row holds, otherwise 0
 unfoldable pub place_of : ℕ → Table → ℕ
-place_of n t = if eqb n owners_row_invalid then first_fault t else if eqb n owners_gap then least_free t else 0
+place_of n t = when eqb n owners_row_invalid then first_fault t else when eqb n owners_gap then least_free t else 0
 
 -- the answer to a table that is checked
 unfoldable pub checked : Table → Checked
@@ -102,14 +102,14 @@ ask_rows t separator = check_rows t ++ (ltb (length separator) 4 gets separator_
 -- "the one line whose row holds the number": that of the first row which does, and 0 where none does
 unfoldable pub line_of : ℕ → List OwnerRow → ℕ
 line_of n [] = 0
-line_of n (r ∷ rs) = if holds n r then r.line else line_of n rs
+line_of n (r ∷ rs) = when holds n r then r.line else line_of n rs
 
 -- the answer to a table that is asked for a separator; where it is not accepted, the line is 0
 unfoldable pub asked : Table → List ℕ → Asked
 asked t separator =
     let n = first_number (ask_rows t separator) in
-    record { number = n; place = place_of n t; line = if eqb n accepted then line_of (separator_number separator) t.rows else 0 }
+    record { number = n; place = place_of n t; line = when eqb n accepted then line_of (separator_number separator) t.rows else 0 }
 
 -- what C gets beside an answer's number: with 0 the line, otherwise the place
 unfoldable pub value_of : Asked → ℕ
-value_of a = if eqb a.number accepted then a.line else a.place
+value_of a = when eqb a.number accepted then a.line else a.place

@@ -9,7 +9,7 @@ use native.Mathlib.Omega.{arith}
 use borrow.Author.Tests.{lt-ltb, le-ltb, eqb-true, ne_eqb}
 use lib.Dec.{eqb}
 use lib.ListN.{length}
-use Rattle.basics.specs.Logic.{if◌then◌else◌, ◌or◌}
+use Rattle.basics.specs.Logic.{when◌then◌else◌, ◌or◌}
 use Rattle.basics.specs.Numbers.{accepted, word_count_out_of_range}
 use Rattle.basics.specs.Refusals.{◌gets◌⨾◌, first_number}
 use Rattle.basics.proofs.Cases.{cases, if_true, if_false}
@@ -23,7 +23,7 @@ use Rattle.pattern.proofs.PassStep.{numbers, pass_number_law}
 -- the first of all numbers is the earlier of what the pass holds and what is left for the end
 by_ending : (a b c d f : Bool)
     → first_number (a gets 1 ⨾ b gets 2 ⨾ c gets 19 ⨾ d gets 3 ⨾ f gets 6 ⨾ []) ≡ earlier (numbers a b c d) (first_number (f gets 6 ⨾ []))
-unfolding numbers first_number earlier rank if◌then◌else◌
+unfolding numbers first_number earlier rank when◌then◌else◌
 by_ending true b c d true = refl
 by_ending true b c d false = refl
 by_ending false true c d true = refl
@@ -50,7 +50,7 @@ module _ (a b : ℕ) (some : a ≢ 0) (other : b ≢ 0) where
   earlier_right h = if_false _ _ _ (ne_eqb a 0 some) ∙ if_false _ _ _ (ne_eqb b 0 other) ∙ if_true _ _ _ (lt-ltb (rank b) (rank a) h)
 
 pub earlier_of_none : (a : ℕ) → (earlier a 0 ≡ a) × (earlier 0 a ≡ a)
-unfolding earlier if◌then◌else◌
+unfolding earlier when◌then◌else◌
 earlier_of_none a = (cases (eqb a 0) (λ e. if_true _ _ _ e ∙ sym (eqb-true a 0 e)) (λ e. if_false _ _ _ e), refl)
 
 module _ (separator : List ℕ) where

@@ -5,16 +5,16 @@ use mathlib.Core.Bool.{false}
 use mathlib.Core.List.{List, []}
 use Prim.Native.Nat.{ℕ}
 use lib.Dec.{eqb}
-use Rattle.basics.specs.Logic.{if◌then◌else◌}
+use Rattle.basics.specs.Logic.{when◌then◌else◌}
 use Rattle.basics.specs.Numbers.{accepted}
 use Rattle.pattern.specs.Opening.{given, with_words, answer_with}
 
 pub given_accepted : (n : ℕ) (xs : List ℕ) → n ≡ accepted → given n xs ≡ xs
-unfolding given if◌then◌else◌
+unfolding given when◌then◌else◌
 given_accepted n xs e = rw e
 
 pub given_refused : (n : ℕ) (xs : List ℕ) → eqb n accepted ≡ false → given n xs ≡ []
-unfolding given if◌then◌else◌
+unfolding given when◌then◌else◌
 given_refused n xs e = rw e
 
 pub answer_accepted : (n : ℕ) (ws : List ℕ) → n ≡ accepted → answer_with n ws ≡ with_words accepted ws

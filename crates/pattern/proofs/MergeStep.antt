@@ -9,7 +9,7 @@ use native.Mathlib.Omega.{arith}
 use borrow.Author.Tests.{ltb-false}
 use lib.ListN.{length, get_or, set, length-append, length-map}
 use lib.Seq.{take_all, get_or_at, set_at}
-use Rattle.basics.specs.Logic.{if◌then◌else◌, same, any}
+use Rattle.basics.specs.Logic.{when◌then◌else◌, same, any}
 use Rattle.basics.proofs.Cases.{by, if_true, if_false, or_false, any_append}
 use Rattle.words.specs.Words.{is_absorb, length_of, Phase, phase_of, word_of}
 use Rattle.pattern.specs.Pattern.{join, merge, phases, merged_words, too_long}
@@ -21,7 +21,7 @@ both a b = record { absorbs = a.absorbs; elements = a.elements + b.elements }
 
 -- two calls, merged
 unfoldable pub pair : Phase → Phase → List Phase
-pair a b = if same a.absorbs b.absorbs then both a b ∷ [] else a ∷ b ∷ []
+pair a b = when same a.absorbs b.absorbs then both a b ∷ [] else a ∷ b ∷ []
 
 -- a call behind a merged pattern
 unfoldable pub add_last : List Phase → Phase → List Phase
@@ -34,7 +34,7 @@ abbrev call : Bool → ℕ → Phase
 call k n = record { absorbs = k; elements = n }
 
 join_pair : (i j k : Bool) (l m n : ℕ) → join (call i l) (pair (call j m) (call k n)) ≡ add_last (join (call i l) (call j m ∷ [])) (call k n)
-unfolding join pair add_last same if◌then◌else◌
+unfolding join pair add_last same when◌then◌else◌
 join_pair true true true l m n = ap (λ (s : ℕ). call true s ∷ []) (sym (add_assoc l m n))
 join_pair true true false l m n = refl
 join_pair true false true l m n = refl
@@ -50,7 +50,7 @@ unfolding join pair add_last
 join_add_last a [] c = refl
 join_add_last a (b ∷ []) c = join_pair a.absorbs b.absorbs c.absorbs a.elements b.elements c.elements
 join_add_last a (b ∷ d ∷ ps) c =
-    by (λ (l : List Phase). l ≡ add_last (if same a.absorbs b.absorbs then both a b ∷ d ∷ ps else a ∷ b ∷ d ∷ ps) c) _ _ _
+    by (λ (l : List Phase). l ≡ add_last (when same a.absorbs b.absorbs then both a b ∷ d ∷ ps else a ∷ b ∷ d ∷ ps) c) _ _ _
     (λ e. sym (ap (λ (l : List Phase). add_last l c) (if_true _ _ _ e)))
     λ e. sym (ap (λ (l : List Phase). add_last l c) (if_false _ _ _ e))
 

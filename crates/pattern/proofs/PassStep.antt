@@ -11,7 +11,7 @@ use borrow.Author.Tests.{ltb-false, lt-ltb, le-ltb, leb-true, leb-false, le-leb,
 use lib.Dec.{leb, ltb, eqb}
 use lib.ListN.{length, get_or, take, replicate, length-append}
 use lib.Seq.{length-take-le, take_all, take-suc, append_snoc}
-use Rattle.basics.specs.Logic.{if◌then◌else◌, ◌and◌, ◌or◌, any}
+use Rattle.basics.specs.Logic.{when◌then◌else◌, ◌and◌, ◌or◌, any}
 use Rattle.basics.specs.Numbers.{accepted, word_count_out_of_range, word_length_zero, call_too_long, first_word_squeeze}
 use Rattle.basics.specs.Refusals.{◌gets◌⨾◌, first_number}
 use Rattle.basics.proofs.Cases.{cases, if_true, if_false, any_append}
@@ -56,7 +56,7 @@ unfolding pass_number word_rows numbers ◌or◌
 pass_number_law w ws = rw (ne_eqb (suc (length ws)) 0 (λ e. omega arith))
 
 none_held : accepted ≡ number_of []
-unfolding numbers first_number any if◌then◌else◌
+unfolding numbers first_number any when◌then◌else◌
 none_held = refl
 
 -- the number that is held, before the first word too
@@ -69,7 +69,7 @@ held_number (w ∷ ws) = pass_number_law w ws
 
 -- the first of all conditions is the earlier of the first of some and the first of the others
 both_conditions : (a b c d e f g h : Bool) → earlier (numbers a b c d) (numbers e f g h) ≡ numbers (a or e) (b or f) (c or g) (d or h)
-unfolding numbers first_number earlier rank if◌then◌else◌ ◌or◌
+unfolding numbers first_number earlier rank when◌then◌else◌ ◌or◌
 both_conditions true b c d true f g h = refl
 both_conditions true b c d false true g h = refl
 both_conditions true b c d false false true h = refl
@@ -168,7 +168,7 @@ number_more ws w =
 
 -- no number: none of the conditions holds
 none_holds : (a b c d : Bool) → numbers a b c d ≡ accepted → (a ≡ false) × (b ≡ false) × (c ≡ false)
-unfolding numbers first_number if◌then◌else◌
+unfolding numbers first_number when◌then◌else◌
 none_holds true b c d e = absurd (omega arith)
 none_holds false true c d e = absurd (omega arith)
 none_holds false false true d e = absurd (omega arith)
@@ -310,7 +310,7 @@ module _ (ws list : List ℕ) (number count : ℕ) (h : holding number list coun
 -- ---- the pass, word by word
 
 pub begins : holding accepted (replicate 64 0) 0 ≡ held_after []
-unfolding holding held_after with_words if◌then◌else◌
+unfolding holding held_after with_words when◌then◌else◌
 begins = refl
 
 held_some : (ws : List ℕ) (w : ℕ) → held_after (ws ++ (w ∷ [])) ≡ passed (ws ++ (w ∷ []))

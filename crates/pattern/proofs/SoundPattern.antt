@@ -11,7 +11,7 @@ use borrow.Author.Tests.{leb-true, le-leb}
 use lib.Dec.{eqb}
 use lib.ListN.{length, get_or, take}
 use lib.Seq.{get_or-take, length-take-le}
-use Rattle.basics.specs.Logic.{if◌then◌else◌, same, all}
+use Rattle.basics.specs.Logic.{when◌then◌else◌, same, all}
 use Rattle.basics.proofs.Cases.{cases, and_left, and_right, and_both, same_self, same_true, all_at}
 use Rattle.words.specs.Words.{is_absorb, length_of}
 use Rattle.pattern.specs.Pattern.{alternate, sound_words}
@@ -51,13 +51,13 @@ kind_at : Bool → ℕ → Bool
 kind_at k zero = k
 kind_at k (suc i) = kind_at (not k) i
 
-kind_at_even : (k : Bool) (i : ℕ) → kind_at k i ≡ (if eqb (i % 2) 0 then k else not k)
-unfolding kind_at if◌then◌else◌
+kind_at_even : (k : Bool) (i : ℕ) → kind_at k i ≡ (when eqb (i % 2) 0 then k else not k)
+unfolding kind_at when◌then◌else◌
 kind_at_even k zero = refl
 kind_at_even true (suc zero) = refl
 kind_at_even false (suc zero) = refl
-kind_at_even true (suc (suc i)) = let e : suc (suc i) % 2 ≡ i % 2 = omega arith in kind_at_even true i ∙ sym (ap (λ (n : ℕ). if eqb n 0 then true else false) e)
-kind_at_even false (suc (suc i)) = let e : suc (suc i) % 2 ≡ i % 2 = omega arith in kind_at_even false i ∙ sym (ap (λ (n : ℕ). if eqb n 0 then false else true) e)
+kind_at_even true (suc (suc i)) = let e : suc (suc i) % 2 ≡ i % 2 = omega arith in kind_at_even true i ∙ sym (ap (λ (n : ℕ). when eqb n 0 then true else false) e)
+kind_at_even false (suc (suc i)) = let e : suc (suc i) % 2 ≡ i % 2 = omega arith in kind_at_even false i ∙ sym (ap (λ (n : ℕ). when eqb n 0 then false else true) e)
 
 alternate_at : (k : Bool) (ws : List ℕ) → alternate k ws ≡ true → (i : ℕ) → i < length ws → is_absorb (get_or ws i 0) ≡ kind_at k i
 unfolding alternate kind_at
@@ -77,7 +77,7 @@ all_long [] h = refl
 all_long (w ∷ ws) h = and_both _ _ (le-leb 1 (length_of w) (h zero (omega arith))) (all_long ws (λ i l. h (suc i) (omega arith)))
 
 even_kind : (i : ℕ) → kind_at true i ≡ eqb (i % 2) 0
-unfolding if◌then◌else◌
+unfolding when◌then◌else◌
 even_kind i = kind_at_even true i ∙ cases (eqb (i % 2) 0) (λ e. rw e) (λ e. rw e)
 
 pub sound_words_law : (ws : List ℕ)

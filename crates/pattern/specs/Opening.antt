@@ -1,7 +1,7 @@
 -- What a tag string is made from, and the start check of document 01, "Calls turned away": "START checks 1 to 6 in number order, whichever word is
 -- at fault"; and of document 02: P4 adds 19 "after 2 and before 3" and takes 5 away, P6 takes 4 away.
 use Rattle.std.specs.Prelude.{not, List, [], ◌++◌, ℕ, ltb, eqb, length, get_or}
-use Rattle.basics.specs.Logic.{if◌then◌else◌, ◌or◌, any}
+use Rattle.basics.specs.Logic.{when◌then◌else◌, ◌or◌, any}
 use Rattle.basics.specs.Lists.{zero_padded}
 use Rattle.basics.specs.Numbers.{accepted, word_count_out_of_range, word_length_zero, call_too_long, first_word_squeeze, separator_too_long}
 use Rattle.basics.specs.Refusals.{Row, ◌gets◌⨾◌, first_number}
@@ -46,7 +46,7 @@ opening_number o = first_number (opening_rows o)
 
 -- what comes with a number: nothing if the call is refused
 unfoldable pub given : ℕ → List ℕ → List ℕ
-given number xs = if eqb number accepted then xs else []
+given number xs = when eqb number accepted then xs else []
 
 -- a number with words: 64 places, unused ones 0, and how many are used
 unfoldable pub with_words : ℕ → List ℕ → WordList

@@ -1,7 +1,7 @@
 -- START's pass over the declared words: what it holds after each word. From document 02, P2, P4 and P6. Private contracts cite
 -- these, and no public one.
 use Rattle.std.specs.Prelude.{not, List, [], ◌∷◌, ◌++◌, ℕ, suc, ◌+◌, ◌*◌, leb, ltb, eqb, take}
-use Rattle.basics.specs.Logic.{if◌then◌else◌, ◌and◌}
+use Rattle.basics.specs.Logic.{when◌then◌else◌, ◌and◌}
 use Rattle.basics.specs.Numbers.{accepted, word_count_out_of_range, word_length_zero, call_too_long, first_word_squeeze, separator_too_long}
 use Rattle.basics.specs.Refusals.{◌gets◌⨾◌, first_number}
 use Rattle.words.specs.Words.{is_absorb, length_of}
@@ -34,11 +34,11 @@ earned n w =
 
 -- where a number stands in the order of checking: as its double does among doubles, and 19 "after 2 and before 3"
 unfoldable pub rank : ℕ → ℕ
-rank n = if eqb n call_too_long then 2 * word_length_zero + 1 else 2 * n
+rank n = when eqb n call_too_long then 2 * word_length_zero + 1 else 2 * n
 
 -- the one of two numbers that is checked first, where 0 is none
 unfoldable pub earlier : ℕ → ℕ → ℕ
-earlier a b = if eqb a accepted then b else if eqb b accepted then a else if ltb (rank b) (rank a) then b else a
+earlier a b = when eqb a accepted then b else when eqb b accepted then a else when ltb (rank b) (rank a) then b else a
 
 -- one word more behind n words: a number that is held stays, unless the word earns an earlier one; while there is none, the word is merged behind
 -- the merged words, which is as merging all of them

@@ -1,6 +1,6 @@
 -- Patterns (SAFE's IO patterns): merging, and sound lists of words. From document 01, "Tags" and "Session steps".
 use Rattle.std.specs.Prelude.{Bool, true, not, List, [], ◌∷◌, map, ℕ, ◌+◌, leb, ltb, eqb, length, take, drop}
-use Rattle.basics.specs.Logic.{if◌then◌else◌, ◌and◌, same, all}
+use Rattle.basics.specs.Logic.{when◌then◌else◌, ◌and◌, same, all}
 use Rattle.words.specs.Words.{max_length, is_absorb, length_of, Phase, phase_of, word_of}
 
 -- the longest pattern, in words
@@ -11,7 +11,7 @@ max_words = 64
 unfoldable pub join : Phase → List Phase → List Phase
 join a [] = a ∷ []
 join a (b ∷ bs) =
-    if same a.absorbs b.absorbs then record { absorbs = a.absorbs; elements = a.elements + b.elements } ∷ bs
+    when same a.absorbs b.absorbs then record { absorbs = a.absorbs; elements = a.elements + b.elements } ∷ bs
     else a ∷ b ∷ bs
 
 -- a pattern, merged from its last call to its first

@@ -1,6 +1,6 @@
 -- Definitions that no public contract cites: what private functions of the crate take and give.
 use Rattle.std.specs.Prelude.{◌≡◌, List, ℕ, eqb, replicate}
-use Rattle.basics.specs.Logic.{if◌then◌else◌}
+use Rattle.basics.specs.Logic.{when◌then◌else◌}
 use Rattle.basics.specs.Numbers.{accepted}
 use Rattle.pattern.specs.Pattern.{max_words, merged_words}
 use Rattle.pattern.specs.Opening.{with_words}
@@ -13,4 +13,4 @@ pub record Holds (ws list : List ℕ) (count : ℕ) : Type 0 where
 -- what a number, a list of 64 places and a count hold together: where the number is 0 the list's words, otherwise none
 unfoldable pub holding : ℕ → List ℕ → ℕ → WordList
 holding number list count =
-    record { number = number; words = if eqb number accepted then list else replicate max_words 0; count = count }
+    record { number = number; words = when eqb number accepted then list else replicate max_words 0; count = count }

@@ -3,7 +3,7 @@ use Rattle.std.specs.Prelude.{◌≡◌, refl, List, [], ◌∷◌, ◌++◌, �
 use Rattle.std.proofs.Common.{◌∙◌, arith, lt-ltb, le-ltb}
 use Prim.Native.Char.{Char, code}
 use Prim.Native.String.{String}
-use Rattle.basics.specs.Logic.{if◌then◌else◌, ◌or◌, same, any}
+use Rattle.basics.specs.Logic.{when◌then◌else◌, ◌or◌, same, any}
 use Rattle.basics.specs.Lists.{sum}
 use Rattle.basics.specs.Digits.{digits}
 use Rattle.basics.specs.Refusals.{first_number}
@@ -54,7 +54,7 @@ decimal_by_rule n = (decimal_small n, decimal_more n)
 -- Calls, cards and answers, with their letters as bytes.
 pub text_by_rule : (w b n : ℕ) (ws s string : List ℕ)
     → (calls_text [] ≡ []) × (calls_text (w ∷ ws) ≡ call_text w ++ calls_text ws)
-    × (call_text w ≡ 32 ∷ 40 ∷ (if is_absorb w then 97 else 115) ∷ 32 ∷ (decimal (length_of w) ++ (41 ∷ [])))
+    × (call_text w ≡ 32 ∷ 40 ∷ (when is_absorb w then 97 else 115) ∷ 32 ∷ (decimal (length_of w) ++ (41 ∷ [])))
     × (card_text s ws ≡ head_text ++ separator_text s ++ middle_text ++ calls_text ws ++ end_text)
     × (ok_text string n ≡ 40 ∷ 111 ∷ 107 ∷ 32 ∷ (hex string ++ (32 ∷ (decimal n ++ (41 ∷ [])))))
     × (no_text n ≡ 40 ∷ 110 ∷ 111 ∷ 32 ∷ (decimal n ++ (41 ∷ [])))
@@ -73,19 +73,19 @@ pub digits_by_hand :
     (hex (0x01 ∷ 0x23 ∷ 0x45 ∷ 0x67 ∷ 0x89 ∷ 0xab ∷ 0xcd ∷ 0xef ∷ []) ≡ ascii "0123456789abcdef")
     × (decimal 1234567890 ≡ ascii "1234567890")
     × (decimal 0 ≡ ascii "0")
-unfolding hex hex_digit decimal decimal_up_to if◌then◌else◌
+unfolding hex hex_digit decimal decimal_up_to when◌then◌else◌
 digits_by_hand = (refl, refl, refl)
 
 -- "separator in lower-case hexadecimal pairs, (domain) if empty"; "lengths decimal"; "(calls) if none"
 pub text_of_a_card :
     (card_text (0xab ∷ 0x0f ∷ []) (0x80000078 ∷ 2147483647 ∷ []) ≡ ascii "(card (domain ab0f) (calls (a 120) (s 2147483647)))")
     × (card_text [] [] ≡ ascii "(card (domain) (calls))")
-unfolding card_text separator_text hex hex_digit calls_text call_text decimal decimal_up_to is_absorb length_of if◌then◌else◌
+unfolding card_text separator_text hex hex_digit calls_text call_text decimal decimal_up_to is_absorb length_of when◌then◌else◌
 text_of_a_card = (refl, refl)
 
 -- An empty line is a line, a carriage return ends none, and "the last newline may be missing".
 pub lines_by_hand : lines (10 ∷ 13 ∷ 10 ∷ 97 ∷ []) ≡ [] ∷ (13 ∷ []) ∷ (97 ∷ []) ∷ []
-unfolding lines before if◌then◌else◌
+unfolding lines before when◌then◌else◌
 lines_by_hand = refl
 
 -- Digits a to f, numbers of two digits, an empty line, and a last line without its newline.
@@ -94,7 +94,7 @@ pub output_of_unlike_digits :
     ≡ ascii "(ok 8000000a0000000babcdef 3)\n(no 14)\n(no 19)\n(no 14)\n(ok 8000005a00000001ff 12)\n"
 unfolding output lines before answers with_newline answer reading_answer card_answer ok_text no_text card_of head_at middle_at hex_value decimal_value expected move_of run card_at
     opening_number opening_rows word_rows first_number tag_string string_of tail_of word_bytes digits merged_words phases merge join phase_of word_of is_absorb length_of
-    full_permutations permutations_at phase_permutations block_count sum hex_digit hex decimal_up_to decimal if◌then◌else◌ ◌or◌ same any
+    full_permutations permutations_at phase_permutations block_count sum hex_digit hex decimal_up_to decimal when◌then◌else◌ ◌or◌ same any
 output_of_unlike_digits = refl
 
 -- The numbers with which a caller begins.

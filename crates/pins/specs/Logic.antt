@@ -1,14 +1,14 @@
 -- Choices, tests, and lists by index: rules for every input.
 use Rattle.std.specs.Prelude.{◌≡◌, refl, Bool, true, false, List, [], ◌∷◌, ◌↔◌, ℕ, suc, ◌+◌, ◌<◌, length, get_or}
 use Rattle.std.proofs.Common.{arith}
-use Rattle.basics.specs.Logic.{if◌then◌else◌, ◌and◌, ◌or◌, same, all, any}
+use Rattle.basics.specs.Logic.{when◌then◌else◌, ◌and◌, ◌or◌, same, all, any}
 use Rattle.basics.specs.Lists.{tabulate, sum}
 use Rattle.basics.proofs.Cases.{and_both, all_at, any_at, any_some}
 use Rattle.basics.proofs.Fill.{length_tabulate, tabulate_at}
 
 -- Each choice and test, in every case.
-pub choices : (A : Type 0) (x y : A) → ((if true then x else y) ≡ x) × ((if false then x else y) ≡ y)
-unfolding if◌then◌else◌
+pub choices : (A : Type 0) (x y : A) → ((when true then x else y) ≡ x) × ((when false then x else y) ≡ y)
+unfolding when◌then◌else◌
 choices A x y = (refl, refl)
 
 pub tests :

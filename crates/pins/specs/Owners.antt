@@ -1,7 +1,7 @@
 -- Tables of owners.
 use Rattle.std.specs.Prelude.{◌≡◌, refl, List, [], ◌∷◌, ℕ, ◌+◌, ◌-◌, ◌/◌, ◌%◌, length, get_or}
 use Rattle.std.proofs.Math.Nat.{div-div-eq-div-mul}
-use Rattle.basics.specs.Logic.{if◌then◌else◌}
+use Rattle.basics.specs.Logic.{when◌then◌else◌}
 use Rattle.basics.specs.Digits.{digits}
 use Rattle.owners.specs.Owners.{Table, row_count, row}
 use Rattle.owners.specs.Bytes.{row_bytes, table_bytes}
@@ -9,7 +9,7 @@ use Rattle.owners.specs.declared.OwnerRow.{OwnerRow}
 
 -- Rows are counted from 1, one cut short included.
 pub rows_of_a_table : (t : Table) (k : ℕ)
-    → (row_count t ≡ length t.rows + (if t.cut_short then 1 else 0))
+    → (row_count t ≡ length t.rows + (when t.cut_short then 1 else 0))
     × (row t k ≡ get_or t.rows (k - 1) (record { first = 0; last = 0; line = 0 }))
 unfolding row_count row
 rows_of_a_table t k = (refl, refl)

@@ -1,6 +1,6 @@
 -- Places inside a phase, of which `done` elements are done.
 use Rattle.std.specs.Prelude.{◌≡◌, refl, true, false, List, [], ◌∷◌, ℕ}
-use Rattle.basics.specs.Logic.{if◌then◌else◌, ◌and◌, same}
+use Rattle.basics.specs.Logic.{when◌then◌else◌, ◌and◌, same}
 use Rattle.basics.specs.Lists.{sum}
 use Rattle.words.specs.Words.{is_absorb, length_of}
 use Rattle.progress.specs.Place.{in_pattern, next_place}
@@ -14,7 +14,7 @@ pub within_a_phase :
     × (◌≡◌ {A = ℕ} (permutations_at ws 1 17) 5)
     × (positions_at ws 0 17 ≡ record { absorb = 1; squeeze = 8 })
     × (positions_at ws 1 19 ≡ record { absorb = 0; squeeze = 3 })
-unfolding permutations_at phase_permutations block_count positions_at positions_after in_last_block is_absorb length_of sum if◌then◌else◌
+unfolding permutations_at phase_permutations block_count positions_at positions_after in_last_block is_absorb length_of sum when◌then◌else◌
 within_a_phase = (refl, refl, refl, refl)
 
 -- Of ABSORB 3, SQUEEZE 2: "When a phase's last element is done, the phase number (from 0) rises by one and elements done is 0."
@@ -24,7 +24,7 @@ pub places_in_turn :
     × (next_place ws 0 1 ≡ record { phase = 0; done = 2 })
     × (next_place ws 0 2 ≡ record { phase = 1; done = 0 })
     × (next_place ws 1 1 ≡ record { phase = 2; done = 0 })
-unfolding next_place length_of if◌then◌else◌
+unfolding next_place length_of when◌then◌else◌
 places_in_turn = (refl, refl, refl, refl)
 
 -- Of ABSORB 2147483647, the longest phase: calls up to its end lie in it, whatever their length.

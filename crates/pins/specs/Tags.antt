@@ -2,7 +2,7 @@
 use Rattle.std.specs.Prelude.{◌≡◌, refl, List, [], ◌∷◌, ◌++◌, ℕ, ◌+◌, ◌-◌, ◌*◌, ◌/◌, ◌%◌, leb, length, replicate}
 use Rattle.std.proofs.Common.{zero-add}
 use Rattle.std.proofs.Math.Nat.{div-div-eq-div-mul}
-use Rattle.basics.specs.Logic.{if◌then◌else◌}
+use Rattle.basics.specs.Logic.{when◌then◌else◌}
 use Rattle.basics.specs.Lists.{tabulate}
 use Rattle.basics.specs.Digits.{digits, number, number_after}
 use Rattle.words.specs.Words.{is_absorb, length_of}
@@ -29,7 +29,7 @@ pub strings_by_form : (ws separator : List ℕ)
     → let n = length separator in
     (string_of 1 ws separator ≡ word_bytes ws ++ separator ++ [])
     × (string_of 2 ws separator ≡ word_bytes ws ++ separator ++ (n / 16777216 % 256 ∷ n / 65536 % 256 ∷ n / 256 % 256 ∷ n % 256 ∷ []))
-unfolding string_of tail_of digits if◌then◌else◌
+unfolding string_of tail_of digits when◌then◌else◌
 strings_by_form ws separator =
     (refl, rw (div-div-eq-div-mul (length separator) 256 256, div-div-eq-div-mul (length separator) 65536 256) refl)
 

@@ -10,7 +10,7 @@ use borrow.Author.Tests.{lt-ltb, eqb-true, eqb-false}
 use lib.Dec.{ltb, eqb}
 use lib.ListN.{length, get_or, set, length-set}
 use lib.Seq.{get_or-set_same, get_or-set_other}
-use Rattle.basics.specs.Logic.{if◌then◌else◌}
+use Rattle.basics.specs.Logic.{when◌then◌else◌}
 use Rattle.basics.specs.Lists.{tabulate, sum, is_below, Below}
 use Rattle.basics.proofs.Below.{below_at, below_tabulate, below_larger}
 use Rattle.basics.proofs.Cases.{by, cases, all_set}
@@ -73,7 +73,7 @@ module _ (F : Parameters) where
   all_alike s t a = reflexive_all _ _ (raised_all s t a) (length_tabulate 24 _)
 
   raised : (r : ℕ) (s t : List ℕ) → Alike s t → Alike (raise F r s) (raise F r t)
-  unfolding raise if◌then◌else◌
+  unfolding raise when◌then◌else◌
   raised r s t a =
       cases (ltb r 4)
       (λ e. rw e (all_alike s t a))

@@ -8,7 +8,7 @@ use native.Mathlib.Omega.{arith}
 use borrow.Author.Tests.{lt-ltb, le-ltb}
 use lib.ListN.{length, get_or, set}
 use lib.Seq.{get_or-set_same, get_or-set_other}
-use Rattle.basics.specs.Logic.{if◌then◌else◌}
+use Rattle.basics.specs.Logic.{when◌then◌else◌}
 use Rattle.basics.specs.Lists.{sum, tabulate}
 use Rattle.basics.proofs.Fill.{tabulate_at, length_tabulate}
 use Rattle.poseidon.specs.Permutation.{Parameters, matrix, multiply, raise, raise_all, raise_first, add_constants, round, rounds, permutation}
@@ -54,15 +54,15 @@ module _ (F : Parameters) where
       mul_congruent (reflexive (matrix F i j)) (transitive (raised_at (add_constants F r z) j l) (pow_congruent F.power (added_at r z j l)))))
 
   raise_partial : (s : ℕ) (w : List ℕ) → s < F.partial_rounds → raise F (4 + s) w ≡ raise_first F w
-  unfolding raise if◌then◌else◌
+  unfolding raise when◌then◌else◌
   raise_partial s w h = simp (le-ltb (4 + s) 4 (omega arith), lt-ltb (4 + s) (4 + F.partial_rounds) (omega arith))
 
   raise_early : (r : ℕ) (w : List ℕ) → r < 4 → raise F r w ≡ raise_all F w
-  unfolding raise if◌then◌else◌
+  unfolding raise when◌then◌else◌
   raise_early r w h = simp (lt-ltb r 4 h)
 
   raise_late : (r : ℕ) (w : List ℕ) → 4 + F.partial_rounds ≤ r → raise F r w ≡ raise_all F w
-  unfolding raise if◌then◌else◌
+  unfolding raise when◌then◌else◌
   raise_late r w h = simp (le-ltb r 4 (omega arith), le-ltb r (4 + F.partial_rounds) h)
 
   partial_at : (s : ℕ) (z : List ℕ) (i : ℕ) → s < F.partial_rounds → i < 24

@@ -1,6 +1,6 @@
 -- The Poseidon permutation, as document 01 fixes it under "Field and permutation", and document 02 for a second field. A state is a list of 24 numbers.
 use Rattle.std.specs.Prelude.{not, List, ℕ, zero, suc, ◌+◌, ◌*◌, ◌%◌, ◌^◌, ltb, get_or, set}
-use Rattle.basics.specs.Logic.{if◌then◌else◌, all}
+use Rattle.basics.specs.Logic.{when◌then◌else◌, all}
 use Rattle.basics.specs.Lists.{tabulate, sum}
 use Rattle.basics.specs.Numbers.{accepted, element_not_reduced, field_unknown}
 use Rattle.field.specs.Field.{modulus, power, partial_rounds, is_field, field_of, is_element}
@@ -32,7 +32,7 @@ raise_first F s = set s 0 (get_or s 0 0 ^ F.power % F.modulus)
 
 -- "4 full, 21 partial, 4 full": what the round r raises
 unfoldable pub raise : Parameters → ℕ → List ℕ → List ℕ
-raise F r s = if ltb r 4 then raise_all F s else if ltb r (4 + F.partial_rounds) then raise_first F s else raise_all F s
+raise F r s = when ltb r 4 then raise_all F s else when ltb r (4 + F.partial_rounds) then raise_first F s else raise_all F s
 
 -- "the matrix whose entry at row i, column j is the inverse of i + j + 24"
 unfoldable pub matrix : Parameters → ℕ → ℕ → ℕ
@@ -63,6 +63,6 @@ parameters f = record { modulus = modulus f; power = power f; partial_rounds = p
 -- "18: field number neither 1 nor 2 .. before 10 in the bare permutation, which gives its input back"; 10 is for "an element of p or more"
 unfoldable pub permuted : ℕ → List ℕ → Permuted
 permuted field s =
-    if not (is_field field) then record { number = field_unknown; state = s }
-    else if not (all (is_element (field_of field)) s) then record { number = element_not_reduced; state = s }
+    when not (is_field field) then record { number = field_unknown; state = s }
+    else when not (all (is_element (field_of field)) s) then record { number = element_not_reduced; state = s }
     else record { number = accepted; state = permutation (parameters (field_of field)) s }

@@ -10,7 +10,7 @@ use native.Mathlib.Omega.{arith}
 use borrow.Author.Tests.{ltb-true, ltb-false, leb-true, leb-false, eqb-true, eqb-false, lt-ltb, le-ltb, le-leb, lt-leb}
 use lib.Dec.{leb, ltb}
 use lib.ListN.{get_or}
-use Rattle.basics.specs.Logic.{if◌then◌else◌, same}
+use Rattle.basics.specs.Logic.{when◌then◌else◌, same}
 use Rattle.basics.proofs.Cases.{by, cases, if_true, if_false, and_left, and_right, and_both, and_step, and_stop, same_self, same_true}
 use Rattle.words.specs.Words.{is_absorb, length_of}
 use Rattle.progress.specs.Place.{phase_length, in_pattern, next_place, place_after}
@@ -105,7 +105,7 @@ module _ (ws : List ℕ) (count phase done : ℕ) where
 
       module _ (left : done < phase_length ws phase) where
         inside : place_after ws count phase done n
-            ≡ (if ltb (done + n) (phase_length ws phase) then record { phase = phase; done = done + n } else record { phase = suc phase; done = 0 })
+            ≡ (when ltb (done + n) (phase_length ws phase) then record { phase = phase; done = done + n } else record { phase = suc phase; done = 0 })
         unfolding place_after
         inside = if_true _ _ _ (and_both _ _ (lt-ltb phase count early) (lt-ltb done (phase_length ws phase) left))
 

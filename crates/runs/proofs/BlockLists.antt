@@ -10,7 +10,7 @@ use borrow.Author.Tests.{eq-eqb, ltb-true, ltb-false}
 use lib.Dec.{eqb, ltb}
 use lib.ListN.{length, take, drop, replicate, length-append, length-drop, length-take, length-replicate, take-append-drop}
 use lib.Seq.{take_all, take_at, drop_at, take-append-add, length-take-le}
-use Rattle.basics.specs.Logic.{if◌then◌else◌, all}
+use Rattle.basics.specs.Logic.{when◌then◌else◌, all}
 use Rattle.basics.specs.Lists.{zero_padded, joined}
 use Rattle.basics.proofs.Cases.{cases, by, and_both, all_both, if_true, if_false}
 use Rattle.words.specs.Words.{Phase}
@@ -114,10 +114,10 @@ blocks_held (a ∷ ps) xs h =
     let count = block_count n in
     let first = eights count (take n xs) in
     let later = blocks ps (drop n xs) in
-    let size : length xs ≡ (if a.absorbs then n else 0) + absorb_length ps = h in
+    let size : length xs ≡ (when a.absorbs then n else 0) + absorb_length ps = h in
     cases a.absorbs
     (λ k.
-    let some : (if a.absorbs then n else 0) ≡ n = if_true _ _ _ k in
+    let some : (when a.absorbs then n else 0) ≡ n = if_true _ _ _ k in
     let shorter = length-drop n xs in
     if_true _ _ _ k
     ∙ ap (λ (bs : List (List ℕ)). take n (joined (take count bs)) ++ held_by ps (drop count bs)) (if_true _ _ _ k)
@@ -127,7 +127,7 @@ blocks_held (a ∷ ps) xs h =
     ∙ ap₂ (λ (front back : List ℕ). front ++ back) (phase_held n xs (omega arith)) (blocks_held ps (drop n xs) (omega arith))
     ∙ take-append-drop n xs)
     λ k.
-    let none : (if a.absorbs then n else 0) ≡ 0 = if_false _ _ _ k in
+    let none : (when a.absorbs then n else 0) ≡ 0 = if_false _ _ _ k in
     if_false _ _ _ k
     ∙ ap (held_by ps) (if_false _ _ _ k)
     ∙ blocks_held ps xs (omega arith)

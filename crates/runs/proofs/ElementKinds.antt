@@ -10,7 +10,7 @@ use borrow.Author.Tests.{eqb-true}
 use lib.Dec.{eqb}
 use lib.ListN.{length, get_or, drop, replicate, length-append, length-replicate}
 use lib.Seq.{drop_at, drop-nil}
-use Rattle.basics.specs.Logic.{if◌then◌else◌, all}
+use Rattle.basics.specs.Logic.{when◌then◌else◌, all}
 use Rattle.basics.proofs.Cases.{and_left, and_right}
 use Rattle.words.specs.Words.{is_absorb, length_of, Phase, phase_of}
 use Rattle.sponge.specs.declared.Sponge.{Sponge}
@@ -36,8 +36,8 @@ to_absorb [] = 0
 to_absorb (true ∷ ks) = suc (to_absorb ks)
 to_absorb (false ∷ ks) = to_absorb ks
 
-absorb_phase : (n : ℕ) (k : Bool) (ks : List Bool) → to_absorb (replicate n k ++ ks) ≡ (if k then n else 0) + to_absorb ks
-unfolding to_absorb if◌then◌else◌
+absorb_phase : (n : ℕ) (k : Bool) (ks : List Bool) → to_absorb (replicate n k ++ ks) ≡ (when k then n else 0) + to_absorb ks
+unfolding to_absorb when◌then◌else◌
 absorb_phase zero true ks = omega arith
 absorb_phase zero false ks = omega arith
 absorb_phase (suc n) true ks = omega (arith, absorb_phase n true ks)
@@ -47,11 +47,11 @@ pub absorb_length_law : (ps : List Phase) → to_absorb (kinds ps) ≡ absorb_le
 unfolding kinds to_absorb absorb_length
 absorb_length_law [] = refl
 absorb_length_law (a ∷ ps) =
-    absorb_phase a.elements a.absorbs (kinds ps) ∙ ap (λ (n : ℕ). (if a.absorbs then a.elements else 0) + n) (absorb_length_law ps)
+    absorb_phase a.elements a.absorbs (kinds ps) ∙ ap (λ (n : ℕ). (when a.absorbs then a.elements else 0) + n) (absorb_length_law ps)
 
 -- the others are squeezed
-either_kind : (k : Bool) (n : ℕ) → (if k then n else 0) + (if k then 0 else n) ≡ n
-unfolding if◌then◌else◌
+either_kind : (k : Bool) (n : ℕ) → (when k then n else 0) + (when k then 0 else n) ≡ n
+unfolding when◌then◌else◌
 either_kind true n = omega arith
 either_kind false n = omega arith
 

@@ -10,7 +10,7 @@ use borrow.Author.Tests.{eqb-true, eqb-false, eq-eqb}
 use lib.Dec.{eqb}
 use lib.ListN.{length, take}
 use lib.Seq.{length-take-le}
-use Rattle.basics.specs.Logic.{if◌then◌else◌, ◌and◌, ◌or◌, all}
+use Rattle.basics.specs.Logic.{when◌then◌else◌, ◌and◌, ◌or◌, all}
 use Rattle.basics.specs.Numbers.{accepted, record_not_sound, call_not_in_pattern, element_not_reduced}
 use Rattle.basics.specs.Refusals.{first_number}
 use Rattle.basics.proofs.Cases.{by, cases, if_true, if_false}
@@ -86,7 +86,7 @@ module _ (r : Session) (s : OpenSound r) where
       λ f. inr (call_outside r absorbs n s (eqb-false n 0 z) f)
 
   wiped_by_9 : (next : Session) (n : ℕ) → n ≡ call_not_in_pattern → (answer_of n r next).session ≡ wiped
-  unfolding answer_of giving wipes if◌then◌else◌ ◌or◌
+  unfolding answer_of giving wipes when◌then◌else◌ ◌or◌
   wiped_by_9 next n e = rw e refl
 
   -- the numbers of calls behind which FINISH is accepted
@@ -117,7 +117,7 @@ module _ (r : Session) (s : OpenSound r) where
 
     -- FINISH wipes it, accepted or not
     finish_wipes : (finish r).session ≡ wiped
-    unfolding finish answer_of giving wipes if◌then◌else◌ ◌or◌
+    unfolding finish answer_of giving wipes when◌then◌else◌ ◌or◌
     finish_wipes =
         cases (eqb r.phase r.count)
         (λ e. rw (finish_passes r s (eqb-true _ _ e)) refl)
@@ -183,7 +183,7 @@ module _ (field form : ℕ) (o : Opening) (e : (start field form o).number ≡ a
       }
 
   turned_away : (x : ℕ) → is_element (field_of field) x ≡ false → absorb opened_record (x ∷ []) ≡ giving element_not_reduced opened_record
-  unfolding absorb answer_of wipes if◌then◌else◌ ◌or◌ all ◌and◌
+  unfolding absorb answer_of wipes when◌then◌else◌ ◌or◌ all ◌and◌
   turned_away x h = rw (absorb_unreduced opened_record (x ∷ []) absorbs_first (rw (start_field field form o e, h) refl)) refl
 
 pub refused_first : (a : Run) (x : ℕ) → is_element (field_of a.field) x ≡ false

@@ -10,7 +10,7 @@ use borrow.Author.Tests.{ltb-true, ltb-false, eq-eqb}
 use lib.Dec.{ltb, eqb}
 use lib.ListN.{length}
 use lib.Seq.{take_all}
-use Rattle.basics.specs.Logic.{if◌then◌else◌, all}
+use Rattle.basics.specs.Logic.{when◌then◌else◌, all}
 use Rattle.basics.specs.Numbers.{accepted}
 use Rattle.basics.proofs.Cases.{cases, and_left, and_right, and_both}
 use Rattle.field.specs.Field.{field_of, is_element}
@@ -87,7 +87,7 @@ module _ (r : Session) (o : eqb r.status opened ≡ true) (s : Sound r) where
 finishing : (ks : List Bool) (xs : List ℕ) (r : Session) → eqb r.status opened ≡ true → Sound r → to_do r ≡ ks
     → length xs ≡ to_absorb ks → all (is_element (field_in r)) xs ≡ true
     → ((finish (left_by r (calls_for ks xs))).number ≡ accepted) × (absorbed r (calls_for ks xs ++ (FINISH ∷ [])) ≡ xs)
-unfolding calls_for to_absorb left_by left answered absorbed absorbed_in accepts giving if◌then◌else◌ absorb_one squeeze_one moved all
+unfolding calls_for to_absorb left_by left answered absorbed absorbed_in accepts giving when◌then◌else◌ absorb_one squeeze_one moved all
 finishing [] xs r o s e l b =
     (ap (λ (a : Answer). a.number) (finish_accepted r (ended r o s e)), take_all 0 xs (omega arith))
 finishing (true ∷ ks) [] r o s e l b = absurd (omega arith)
@@ -99,7 +99,7 @@ finishing (true ∷ ks) (x ∷ xs) r o s e l b =
     (suc_inj l) (and_right _ _ b) in
     let rest = calls_for ks xs ++ (FINISH ∷ []) in (
       ap (λ (v : Answer). (finish (left_by v.session (calls_for ks xs))).number) a ∙ later.0,
-      ap (λ (v : Answer). (if eqb v.number accepted then x ∷ [] else []) ++ absorbed v.session rest) a
+      ap (λ (v : Answer). (when eqb v.number accepted then x ∷ [] else []) ++ absorbed v.session rest) a
           ∙ ap (λ (t : List ℕ). x ∷ t) later.1,
     )
 finishing (false ∷ ks) xs r o s e l b =

@@ -7,7 +7,7 @@ use native.Mathlib.Omega.{arith}
 use borrow.Author.Tests.{ltb-true, eqb-false, lt-ltb, not-true, not-false}
 use lib.Dec.{ltb, eqb}
 use lib.ListN.{get_or}
-use Rattle.basics.specs.Logic.{if◌then◌else◌, all}
+use Rattle.basics.specs.Logic.{when◌then◌else◌, all}
 use Rattle.basics.specs.Lists.{sum}
 use Rattle.basics.proofs.Cases.{by, if_true}
 use Rattle.field.specs.Field.{is_element}
@@ -52,11 +52,11 @@ module _ (r : Session) (s : Sound r) (h : r.phase < r.count) where
   within_next : (next_place_of r).phase ≤ r.count
   within_next = next_place_law r (λ (at : Place). at.phase ≤ r.count) (λ _. h) λ _. s.within
 
-  place_next : (if ltb (next_place_of r).phase r.count then ltb (next_place_of r).done (length_of (get_or r.words (next_place_of r).phase 0)) else eqb (next_place_of r).done 0)
+  place_next : (when ltb (next_place_of r).phase r.count then ltb (next_place_of r).done (length_of (get_or r.words (next_place_of r).phase 0)) else eqb (next_place_of r).done 0)
       ≡ true
   place_next =
       next_place_law r
-      (λ (at : Place). (if ltb at.phase r.count then ltb at.done (length_of (get_or r.words at.phase 0)) else eqb at.done 0) ≡ true)
+      (λ (at : Place). (when ltb at.phase r.count then ltb at.done (length_of (get_or r.words at.phase 0)) else eqb at.done 0) ≡ true)
       (λ _.
       by (λ (b : Bool). b ≡ true) _ _ _
       (λ l. lt-ltb 0 _ (word_long r.words r.count s.long s.pattern (suc r.phase) (ltb-true _ _ l)))

@@ -8,7 +8,7 @@ use native.Mathlib.Omega.{arith}
 use borrow.Author.Tests.{eqb-true, eqb-false, not-false}
 use lib.Dec.{eqb}
 use lib.ListN.{length}
-use Rattle.basics.specs.Logic.{if◌then◌else◌, ◌or◌, all}
+use Rattle.basics.specs.Logic.{when◌then◌else◌, ◌or◌, all}
 use Rattle.basics.specs.Numbers.{accepted, record_not_open, record_not_sound, call_not_in_pattern, element_not_reduced, pattern_not_done}
 use Rattle.basics.specs.Refusals.{first_number}
 use Rattle.basics.proofs.Cases.{by}
@@ -45,11 +45,11 @@ module _ (r : Session) where
     where
       -- the answer by its number: the record is left, wiped, or what the call makes of it
       leaves : (next : Session) (n : ℕ) → eqb n accepted ≡ false → wipes n ≡ false → Q (answer_of n r next)
-      unfolding answer_of if◌then◌else◌
+      unfolding answer_of when◌then◌else◌
       leaves next n e w = rw (e, w) (refused n e)
 
       wiping : (next : Session) (n : ℕ) → eqb n accepted ≡ false → wipes n ≡ true → Q (answer_of n r next)
-      unfolding answer_of if◌then◌else◌
+      unfolding answer_of when◌then◌else◌
       wiping next n e w = rw (e, w) (wipes-it n e)
 
       accepts : (next : Session) → Q (giving accepted next) → Q (answer_of accepted r next)

@@ -7,7 +7,7 @@ use Prim.Native.Nat.{ℕ, zero, suc, ◌+◌, ◌<◌}
 use native.Mathlib.Omega.{arith}
 use lib.Dec.{eqb}
 use lib.ListN.{length}
-use Rattle.basics.specs.Logic.{if◌then◌else◌, ◌or◌}
+use Rattle.basics.specs.Logic.{when◌then◌else◌, ◌or◌}
 use Rattle.basics.specs.Numbers.{accepted}
 use Rattle.basics.proofs.Cases.{if_true, if_false}
 use Rattle.sponge.specs.Sponge.{absorb_element, squeeze_element}
@@ -73,7 +73,7 @@ squeeze_all_law (suc n) r f p =
 
 -- a wiped record is refused every call, FINISH too
 wiped_stays : (cs : List Call) → left_by wiped cs ≡ wiped
-unfolding left_by left answered absorb squeeze finish absorb_rows call_rows finish_rows record_rows first_number answer_of wipes giving wiped if◌then◌else◌ ◌or◌
+unfolding left_by left answered absorb squeeze finish absorb_rows call_rows finish_rows record_rows first_number answer_of wipes giving wiped when◌then◌else◌ ◌or◌
 wiped_stays [] = refl
 wiped_stays (ABSORB xs ∷ cs) = wiped_stays cs
 wiped_stays (SQUEEZE n ∷ cs) = wiped_stays cs

@@ -1,7 +1,7 @@
 -- Lists of calls on one record. From document 01, "What the third demand compares": "Among the calls an ABSORB stands with its lent list, a
 -- SQUEEZE with its buffer's length."
 use Rattle.std.specs.Prelude.{Bool, List, [], ◌∷◌, ◌++◌, ℕ, eqb}
-use Rattle.basics.specs.Logic.{if◌then◌else◌}
+use Rattle.basics.specs.Logic.{when◌then◌else◌}
 use Rattle.basics.specs.Numbers.{accepted}
 use Rattle.session.specs.Record.{squeezed_all}
 use Rattle.session.specs.Calls.{absorb, squeeze, finish}
@@ -35,7 +35,7 @@ left_by r (c ∷ cs) = left_by (left r c) cs
 
 -- "Absorbed are the elements of the accepted ABSORB calls, in list order; a refused call adds none."
 unfoldable pub absorbed_in : Session → Call → List ℕ
-absorbed_in r (ABSORB xs) = if accepts r (ABSORB xs) then xs else []
+absorbed_in r (ABSORB xs) = when accepts r (ABSORB xs) then xs else []
 absorbed_in r (SQUEEZE n) = []
 absorbed_in r FINISH = []
 
@@ -47,7 +47,7 @@ absorbed r (c ∷ cs) = absorbed_in r c ++ absorbed (left r c) cs
 -- "Squeezed are the elements that the accepted SQUEEZE calls wrote, in list order."
 unfoldable pub squeezed_in : Session → Call → List ℕ
 squeezed_in r (ABSORB xs) = []
-squeezed_in r (SQUEEZE n) = if accepts r (SQUEEZE n) then squeezed_all r n else []
+squeezed_in r (SQUEEZE n) = when accepts r (SQUEEZE n) then squeezed_all r n else []
 squeezed_in r FINISH = []
 
 -- what a list of calls squeezes

@@ -2,7 +2,7 @@
 -- which state these words themselves. SHA3-256 of one tag string takes the checker about ten seconds, so that the computations stand in a crate of
 -- their own, which is not checked again when the samples change.
 use Rattle.std.specs.Prelude.{◌≡◌, refl, List, [], ◌∷◌, ℕ}
-use Rattle.basics.specs.Logic.{if◌then◌else◌, ◌and◌, ◌or◌, same, all, any}
+use Rattle.basics.specs.Logic.{when◌then◌else◌, ◌and◌, ◌or◌, same, all, any}
 use Rattle.basics.specs.Lists.{tabulate, sum}
 use Rattle.basics.specs.Digits.{digits, number, number_after}
 use Rattle.field.specs.Field.{is_field}
@@ -22,7 +22,7 @@ use Rattle.session.specs.declared.Session.{Session}
 -- the record that START gives to field 1, form 1, words and the empty separator; to unfold it is to unfold all that its computation goes through
 unfoldable started_record : List ℕ → Session
 unfolding start giving start_rows start_number start_record open_record tag_state is_field is_form
-    all any ◌and◌ ◌or◌ if◌then◌else◌ same tabulate sum digits number number_after
+    all any ◌and◌ ◌or◌ when◌then◌else◌ same tabulate sum digits number number_after
     is_absorb length_of phase_of word_of join merge phases merged_words word_rows opening_rows first_number word_bytes tail_of string_of tag_string word_at tag_elements
     hash.bytes hash.pad10*1 hash.padded hash.lane_at hash.add_block hash.absorb hash.byte_of hash.squeeze hash.sha3
     keccak.state keccak.rotate keccak.parity keccak.effect keccak.theta keccak.rho keccak.pi keccak.chi keccak.iota

@@ -2,7 +2,7 @@
 -- are computed beside it (`sample_records`).
 use Rattle.std.specs.Prelude.{◌≡◌, refl, Bool, true, false, not, List, [], ◌∷◌, ◌++◌, ℕ, ◌-◌, ◌*◌, ◌%◌, eqb, length, get_or, replicate}
 use Rattle.std.proofs.Common.{◌∙◌}
-use Rattle.basics.specs.Logic.{if◌then◌else◌, ◌and◌, ◌or◌, same, all, any}
+use Rattle.basics.specs.Logic.{when◌then◌else◌, ◌and◌, ◌or◌, same, all, any}
 use Rattle.basics.specs.Lists.{tabulate, sum}
 use Rattle.basics.specs.Digits.{digits, number, number_after}
 use Rattle.basics.specs.Numbers.{accepted, call_too_long}
@@ -162,7 +162,7 @@ samples = samples_with (started words4) (started words5) (started words6) (start
 computed : all (λ sample. sample) (samples_with record4 record5 record6 record7) ≡ true
 unfolding samples_with b1 b2 b2_in_form2 b3 b4 b5 b6 b7 b8 b8_in_field2 b9 b9_in_field2 b10 same_list full_permutations by_calls raised
     record4 record5 record6 record7 words4 words5 words6 words7 alternate sound_words sound_places
-    all any ◌and◌ ◌or◌ if◌then◌else◌ same tabulate sum digits number number_after
+    all any ◌and◌ ◌or◌ when◌then◌else◌ same tabulate sum digits number number_after
     is_absorb length_of phase_of word_of join merge phases merged_words word_rows opening_rows start_rows start_number is_field is_form first_number word_bytes tail_of string_of tag_string word_at tag_elements
     field_of parameters constants inverses baby_bear_constants baby_bear_inverses koala_bear_inverses
     add_constants raise_all raise_first raise matrix multiply rounds permutation
@@ -186,6 +186,6 @@ pub permutations_of_one_state : let s = tabulate 24 (λ k. k) in
     × (permutation (parameters KoalaBear) s
     ≡ 510806392 ∷ 1355501408 ∷ 1719995572 ∷ 2092411216 ∷ 1988116991 ∷ 488094167 ∷ 1203990344 ∷ 893373600 ∷ 1465575190 ∷ 1079286647 ∷ 1569729795 ∷ 1908110097 ∷
     566821531 ∷ 1378116955 ∷ 867914127 ∷ 1681584149 ∷ 2036892222 ∷ 1911071438 ∷ 892216489 ∷ 814670350 ∷ 1841195610 ∷ 593412065 ∷ 1128049343 ∷ 2112072181 ∷ [])
-unfolding permutation rounds add_constants raise raise_all raise_first multiply matrix parameters constants inverses tabulate sum if◌then◌else◌
+unfolding permutation rounds add_constants raise raise_all raise_first multiply matrix parameters constants inverses tabulate sum when◌then◌else◌
     baby_bear_constants koala_bear_constants baby_bear_inverses koala_bear_inverses
 permutations_of_one_state = (refl, refl)

@@ -11,7 +11,7 @@ use borrow.Author.Tests.{eqb-true, eq-eqb, ne_eqb}
 use lib.Dec.{eqb}
 use lib.ListN.{length, get_or, drop, drop_of_length-le}
 use lib.Seq.{drop-cons}
-use Rattle.basics.specs.Logic.{◌and◌, if◌then◌else◌}
+use Rattle.basics.specs.Logic.{◌and◌, when◌then◌else◌}
 use Rattle.basics.proofs.Cases.{by, cases, and_left, and_right, and_both, and_false}
 use Rattle.seal.specs.Seal.{is_mark}
 use Rattle.seal.specs.Steps.{difference_of}
@@ -24,7 +24,7 @@ difference_least x y = by (λ (d : ℕ). d ≤ 1) (eqb x y) 0 1 (λ _. omega ari
 pub compared : (n : ℕ) (xs ys : List ℕ) (i : ℕ) → i < length xs → i < length ys
     → (eqb n 0 and is_mark (drop i xs) (drop i ys))
     ≡ (eqb (n + difference_of (get_or xs i 0) (get_or ys i 0)) 0 and is_mark (drop (i + 1) xs) (drop (i + 1) ys))
-unfolding is_mark ◌and◌ if◌then◌else◌ difference_of
+unfolding is_mark ◌and◌ when◌then◌else◌ difference_of
 compared n xs ys i hx hy =
     cases (eqb (get_or xs i 0) (get_or ys i 0))
     (λ e. rw (add-one, drop-cons xs i 0, drop-cons ys i 0, e, add-zero n))

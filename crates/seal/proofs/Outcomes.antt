@@ -9,7 +9,7 @@ use native.Mathlib.Omega.{arith}
 use borrow.Author.Tests.{eqb-true, eqb-false, eq-eqb, ne_eqb}
 use lib.Dec.{eqb}
 use lib.ListN.{length, replicate}
-use Rattle.basics.specs.Logic.{if◌then◌else◌, ◌and◌, all}
+use Rattle.basics.specs.Logic.{when◌then◌else◌, ◌and◌, all}
 use Rattle.basics.specs.Lists.{joined, total}
 use Rattle.basics.specs.Numbers.{accepted, mark_differs}
 use Rattle.basics.specs.Refusals.{◌gets◌⨾◌, first_number}
@@ -30,7 +30,7 @@ module _ (c : Context) (plain buffer : List ℕ) where
   unfolding seal_note
   seal_refused z = ap (leaving _) (if_false _ _ _ (ne_eqb _ _ z))
 
-last_row : (b : Bool) → first_number (not b gets mark_differs ⨾ []) ≡ (if not b then mark_differs else accepted)
+last_row : (b : Bool) → first_number (not b gets mark_differs ⨾ []) ≡ (when not b then mark_differs else accepted)
 unfolding first_number
 last_row b = refl
 
@@ -44,7 +44,7 @@ module _ (c : Context) (text buffer : List ℕ) where
   refusing_rows = refl
 
   -- behind them that one counts
-  mark_row : first ≡ accepted → first_number (open_rows c text buffer) ≡ (if not (has_mark c text) then mark_differs else accepted)
+  mark_row : first ≡ accepted → first_number (open_rows c text buffer) ≡ (when not (has_mark c text) then mark_differs else accepted)
   unfolding open_rows
   mark_row e = behind (note_rows c text 8 (length buffer) 0) _ (accepted_none _ refusing_rows e) ∙ last_row (has_mark c text)
 

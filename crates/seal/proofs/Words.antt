@@ -7,16 +7,16 @@ use native.Mathlib.Numerals.{add-one}
 use native.Mathlib.Omega.{arith}
 use lib.ListN.{length, get_or, take, drop, set, length-set, drop_of_length-le}
 use lib.Seq.{drop-cons, take-suc-set}
-use Rattle.basics.specs.Logic.{if◌then◌else◌}
+use Rattle.basics.specs.Logic.{when◌then◌else◌}
 use Rattle.words.specs.Words.{word_of}
 use Rattle.seal.specs.Seal.{absorb_word, squeeze_word, block_words, seal_words}
 
 pub absorb_word_law : (n : ℕ) → absorb_word n ≡ 2147483648 + n
-unfolding word_of if◌then◌else◌
+unfolding word_of when◌then◌else◌
 absorb_word_law n = refl
 
 pub squeeze_word_law : (n : ℕ) → squeeze_word n ≡ n
-unfolding word_of if◌then◌else◌
+unfolding word_of when◌then◌else◌
 squeeze_word_law n = refl
 
 -- two elements behind the first k
@@ -33,7 +33,7 @@ module _ (ns words : List ℕ) (i : ℕ) (long : length words ≡ 64) where
 
   pub declare_more : Declared → i < length ns → length ns ≤ 31
       → take (2 * (i + 1) + 1) (set (set words (2 * i + 1) (get_or ns i 0)) (2 * i + 2) (2147483648 + get_or ns i 0)) ++ block_words (drop (i + 1) ns) ≡ seal_words ns
-  unfolding block_words word_of if◌then◌else◌
+  unfolding block_words word_of when◌then◌else◌
   declare_more d h few =
       let n = get_or ns i 0 in
       let k = 2 * i + 1 in
@@ -47,7 +47,7 @@ module _ (ns words : List ℕ) (i : ℕ) (long : length words ≡ 64) where
       ∙ d
 
   pub declare_last : Declared → length ns ≤ i → i ≤ 31 → take (2 * i + 2) (set words (2 * i + 1) 8) ≡ seal_words ns
-  unfolding block_words word_of if◌then◌else◌
+  unfolding block_words word_of when◌then◌else◌
   declare_last d h few =
       let next : 2 * i + 2 ≡ suc (2 * i + 1) = omega arith in
       ap (λ (m : ℕ). take m (set words (2 * i + 1) 8)) next

@@ -2,7 +2,7 @@
 -- those of Algorithm 7 are named.
 use Rattle.std.specs.Prelude.{Bool, true, false, not, ℕ, ◌+◌, ◌-◌, ◌%◌, leb, ltb, eqb, length, take, drop, replicate}
 use mathlib.Core.List.{List, [], ◌∷◌, ◌++◌, zip_with}
-use Rattle.basics.specs.Logic.{if◌then◌else◌, ◌and◌, all}
+use Rattle.basics.specs.Logic.{when◌then◌else◌, ◌and◌, all}
 use Rattle.basics.specs.Lists.{joined, total}
 use Rattle.basics.specs.Numbers.{accepted, separator_too_long, element_not_reduced, field_unknown, seal_length_invalid, mark_differs}
 use Rattle.basics.specs.Refusals.{Row, ◌gets◌⨾◌, first_number}
@@ -182,13 +182,13 @@ leaving number buffer = record { number = number; buffer = buffer }
 unfoldable pub seal_note : Context → List ℕ → List ℕ → Outcome
 seal_note c plain buffer =
     let number = first_number (seal_rows c plain buffer) in
-    leaving number (if eqb number accepted then sealed c plain else buffer)
+    leaving number (when eqb number accepted then sealed c plain else buffer)
 
 -- opening a text: "except that a wrong mark leaves zeros where the blocks would be"
 unfoldable pub open_note : Context → List ℕ → List ℕ → Outcome
 open_note c text buffer =
     let number = first_number (open_rows c text buffer) in
     leaving number
-    (if eqb number accepted then joined (unsealed c text)
-    else if eqb number mark_differs then replicate (total c.lengths) 0
+    (when eqb number accepted then joined (unsealed c text)
+    else when eqb number mark_differs then replicate (total c.lengths) 0
     else buffer)

@@ -1,6 +1,6 @@
 -- Definitions that no public contract cites: what private functions of the crate take and give.
 use Rattle.std.specs.Prelude.{◌≡◌, List, [], ◌∷◌, ℕ, eqb, length}
-use Rattle.basics.specs.Logic.{if◌then◌else◌}
+use Rattle.basics.specs.Logic.{when◌then◌else◌}
 use Rattle.basics.specs.Numbers.{accepted}
 use Rattle.session.specs.Calls.{squeeze}
 use Rattle.session.specs.declared.Session.{Session}
@@ -13,4 +13,4 @@ Squeezes r (plain ∷ blocks) = ((squeeze r (length plain)).number ≡ accepted)
 
 -- 1 where two elements differ, else 0
 unfoldable pub difference_of : ℕ → ℕ → ℕ
-difference_of x y = if eqb x y then 0 else 1
+difference_of x y = when eqb x y then 0 else 1

@@ -9,7 +9,7 @@ use native.Mathlib.Omega.{arith}
 use borrow.Author.Tests.{eqb-true, eqb-false, eq-eqb, ne_eqb, not-false}
 use lib.Dec.{eqb}
 use lib.ListN.{length}
-use Rattle.basics.specs.Logic.{if◌then◌else◌, ◌or◌, all}
+use Rattle.basics.specs.Logic.{when◌then◌else◌, ◌or◌, all}
 use Rattle.basics.specs.Numbers.{accepted, call_not_in_pattern, element_not_reduced, pattern_not_done}
 use Rattle.basics.specs.Refusals.{first_number}
 use Rattle.basics.proofs.Cases.{by, cases, if_true, if_false}
@@ -41,19 +41,19 @@ pub record Takes (r : Session) (absorbs : Bool) (n : ℕ) : Type 0 where
   pub fits : 0 < n → InPhase r absorbs n
 
 -- an empty list holds elements alone
-none_listed : (f : Field) → accepted ≡ (if not (all (is_element f) []) then element_not_reduced else accepted)
-unfolding all if◌then◌else◌
+none_listed : (f : Field) → accepted ≡ (when not (all (is_element f) []) then element_not_reduced else accepted)
+unfolding all when◌then◌else◌
 none_listed f = refl
 
 -- ---- the answer, by its number
 
 module _ (r next : Session) (n : ℕ) where
   pub answer_accepted : n ≡ accepted → answer_of n r next ≡ giving accepted next
-  unfolding answer_of if◌then◌else◌
+  unfolding answer_of when◌then◌else◌
   answer_accepted e = rw e refl
 
   pub wiped_answer : n ≡ pattern_not_done → answer_of n r next ≡ giving pattern_not_done wiped
-  unfolding answer_of wipes ◌or◌ if◌then◌else◌
+  unfolding answer_of wipes ◌or◌ when◌then◌else◌
   wiped_answer e = rw e refl
 
   pub answer_refused : n ≢ accepted → answer_of n r next ≡ refused_with n r
@@ -87,7 +87,7 @@ module _ (r : Session) where
       call_empty e = if_false _ _ _ (ap not s.opens) ∙ if_false _ _ _ (ap not s.sounds) ∙ if_true _ _ _ (eq-eqb n 0 e)
 
       module _ (z : n ≢ 0) where
-        to_pattern : first_number (call_rows absorbs n r) ≡ (if not fitting then call_not_in_pattern else accepted)
+        to_pattern : first_number (call_rows absorbs n r) ≡ (when not fitting then call_not_in_pattern else accepted)
         unfolding first_number call_rows record_rows
         to_pattern = if_false _ _ _ (ap not s.opens) ∙ if_false _ _ _ (ap not s.sounds) ∙ if_false _ _ _ (ne_eqb n 0 z)
 
@@ -125,7 +125,7 @@ module _ (r : Session) where
     absorb_refused z = refused_before (call_rows true (length xs) r) _ z
 
   to_elements : (xs : List ℕ) → Takes r true (length xs)
-      → first_number (absorb_rows r xs) ≡ (if not (all (is_element (field_in r)) xs) then element_not_reduced else accepted)
+      → first_number (absorb_rows r xs) ≡ (when not (all (is_element (field_in r)) xs) then element_not_reduced else accepted)
   unfolding first_number absorb_rows call_rows record_rows
   to_elements [] t =
       if_false _ _ _ (ap not t.opens) ∙ if_false _ _ _ (ap not t.sounds) ∙ if_true _ _ _ refl ∙ none_listed (field_in r)
@@ -148,7 +148,7 @@ module _ (r : Session) where
   finish_refused z = refused_before (record_rows r) _ z
 
   module _ (s : OpenSound r) where
-    to_end : first_number (finish_rows r) ≡ (if not (eqb r.phase r.count) then pattern_not_done else accepted)
+    to_end : first_number (finish_rows r) ≡ (when not (eqb r.phase r.count) then pattern_not_done else accepted)
     unfolding first_number finish_rows record_rows
     to_end = if_false _ _ _ (ap not s.opens) ∙ if_false _ _ _ (ap not s.sounds)
 

@@ -8,7 +8,7 @@ use borrow.Author.Tests.{ltb-true, ltb-false, leb-true, eqb-true, lt-ltb, le-ltb
 use lib.Dec.{ltb, eqb}
 use lib.ListN.{length, get_or, take, drop}
 use lib.Seq.{length-take-le}
-use Rattle.basics.specs.Logic.{if◌then◌else◌, all}
+use Rattle.basics.specs.Logic.{when◌then◌else◌, all}
 use Rattle.basics.proofs.Cases.{cases, if_true, if_false, and_left, and_right, and_both}
 use Rattle.field.specs.Field.{is_field, is_element}
 use Rattle.words.specs.Words.{length_of}
@@ -35,7 +35,7 @@ pub record Sound (r : Session) : Type 0 where
   pub pattern : sound_words (take r.count r.words) ≡ true
   pub unused : all (λ w. eqb w 0) (drop r.count r.words) ≡ true
   pub within : r.phase ≤ r.count
-  pub place : (if ltb r.phase r.count then ltb r.done (length_of (phase_word r)) else eqb r.done 0) ≡ true
+  pub place : (when ltb r.phase r.count then ltb r.done (length_of (phase_word r)) else eqb r.done 0) ≡ true
   pub reduced : all (is_element (field_in r)) r.state ≡ true
   pub counted : r.permutations ≡ permutations_at r.words r.phase r.done
   pub absorbs_at : r.absorb_position ≡ (positions_at r.words r.phase r.done).absorb

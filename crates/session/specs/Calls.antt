@@ -1,6 +1,6 @@
 -- What START, ABSORB, SQUEEZE and FINISH answer: a number, and the record left. From document 01, "Calls turned away".
 use Rattle.std.specs.Prelude.{Bool, true, false, not, List, [], ◌++◌, ℕ, eqb, length}
-use Rattle.basics.specs.Logic.{if◌then◌else◌, ◌or◌, all}
+use Rattle.basics.specs.Logic.{when◌then◌else◌, ◌or◌, all}
 use Rattle.basics.specs.Numbers.{accepted, record_not_open, record_not_sound, call_not_in_pattern, element_not_reduced, pattern_not_done, field_unknown, form_unknown}
 use Rattle.basics.specs.Refusals.{Row, ◌gets◌⨾◌, first_number}
 use Rattle.field.specs.Field.{is_field, is_element}
@@ -35,7 +35,7 @@ start_record field form o = open_record field form (tag_state (tag_elements (sha
 -- START: "a refusal gives a wiped record."
 unfoldable pub start : ℕ → ℕ → Opening → Answer
 start field form o =
-    if eqb (start_number field form o) accepted then giving accepted (start_record field form o) else giving (start_number field form o) wiped
+    when eqb (start_number field form o) accepted then giving accepted (start_record field form o) else giving (start_number field form o) wiped
 
 -- the rows about the record, which ABSORB, SQUEEZE and FINISH check first: 7 and 8
 unfoldable pub record_rows : Session → List Row
@@ -61,7 +61,7 @@ wipes number = eqb number call_not_in_pattern or eqb number pattern_not_done
 
 -- the answer to a call on a record: its number, and what is left of the record, which is `next` where the call is accepted
 unfoldable pub answer_of : ℕ → Session → Session → Answer
-answer_of number r next = giving number (if eqb number accepted then next else if wipes number then wiped else r)
+answer_of number r next = giving number (when eqb number accepted then next else when wipes number then wiped else r)
 
 -- ABSORB of a list
 unfoldable pub absorb : Session → List ℕ → Answer
@@ -74,7 +74,7 @@ squeeze r n = answer_of (first_number (call_rows false n r)) r (squeeze_all r n)
 -- the buffer lent to SQUEEZE, afterwards: "A refused SQUEEZE writes no element."
 unfoldable pub squeeze_buffer : Session → List ℕ → List ℕ
 squeeze_buffer r buffer =
-    if eqb (squeeze r (length buffer)).number accepted then squeezed_all r (length buffer) else buffer
+    when eqb (squeeze r (length buffer)).number accepted then squeezed_all r (length buffer) else buffer
 
 -- FINISH: it wipes the record
 unfoldable pub finish : Session → Answer

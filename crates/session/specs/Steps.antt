@@ -1,6 +1,6 @@
 -- Definitions that no public contract cites: what private functions of the crate take and give.
 use Rattle.std.specs.Prelude.{List, ℕ, ◌+◌, ◌^◌, ◌<◌}
-use Rattle.basics.specs.Logic.{if◌then◌else◌}
+use Rattle.basics.specs.Logic.{when◌then◌else◌}
 use Rattle.progress.specs.Place.{place_after}
 use Rattle.progress.specs.declared.place.Place.{Place}
 use Rattle.sponge.specs.Sponge.{sponge}
@@ -13,7 +13,7 @@ use Rattle.session.specs.declared.Answer.{Answer}
 
 -- the answer to a call that is turned away
 unfoldable pub refused_with : ℕ → Session → Answer
-refused_with number r = giving number (if wipes number then wiped else r)
+refused_with number r = giving number (when wipes number then wiped else r)
 
 -- the scalar fields of a record
 abbrev pub scalars_of : Session → Scalars

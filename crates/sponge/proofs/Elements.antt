@@ -9,7 +9,7 @@ use native.Mathlib.Omega.{arith}
 use borrow.Author.Tests.{eqb-true, lt-ltb}
 use lib.Dec.{eqb}
 use lib.ListN.{get_or, set}
-use Rattle.basics.specs.Logic.{if◌then◌else◌, all}
+use Rattle.basics.specs.Logic.{when◌then◌else◌, all}
 use Rattle.basics.specs.Lists.{is_below, Below}
 use Rattle.basics.specs.Figures.{rate}
 use Rattle.basics.proofs.Below.{below_at}
@@ -38,21 +38,21 @@ module _ (F : Parameters) (pos : 0 < F.modulus) where
 
 module _ (F : Parameters) (s : List ℕ) (a q n : ℕ) where
   pub absorb_parts : (x : ℕ) → absorb_element F (sponge s a q n) x ≡ sponge (state_with F a s x) (outer a + 1) rate (n + permutations_for a)
-  unfolding absorb_element ready_to_absorb state_with state_for permutations_for if◌then◌else◌
+  unfolding absorb_element ready_to_absorb state_with state_for permutations_for when◌then◌else◌
   absorb_parts x =
       cases (eqb a rate)
       (λ e. let at-0 : a % rate ≡ 0 = omega (arith, eqb-true a rate e) in rw (e, at-0) refl)
       λ e. rw (e, add-zero n) refl
 
   pub squeeze_parts : squeeze_element F (sponge s a q n) ≡ sponge (state_for F q s) (absorb_for q a) (outer q + 1) (n + permutations_for q)
-  unfolding squeeze_element ready_to_squeeze state_for permutations_for absorb_for if◌then◌else◌
+  unfolding squeeze_element ready_to_squeeze state_for permutations_for absorb_for when◌then◌else◌
   squeeze_parts =
       cases (eqb q rate)
       (λ e. let at-0 : q % rate ≡ 0 = omega (arith, eqb-true q rate e) in rw (e, at-0) refl)
       λ e. rw (e, add-zero n) refl
 
   pub squeezed_parts : squeezed_element F (sponge s a q n) ≡ get_or (state_for F q s) (outer q) 0
-  unfolding squeezed_element ready_to_squeeze state_for if◌then◌else◌
+  unfolding squeezed_element ready_to_squeeze state_for when◌then◌else◌
   squeezed_parts =
       cases (eqb q rate)
       (λ e. let at-0 : q % rate ≡ 0 = omega (arith, eqb-true q rate e) in rw (e, at-0) refl)

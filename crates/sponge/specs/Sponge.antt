@@ -1,7 +1,7 @@
 -- The sponge of SAFE (source 001, Algorithm 2), element by element, as document 01 fixes it under "Session steps" and "Tags". F are the
 -- parameters of the permutation.
 use Rattle.std.specs.Prelude.{List, [], ◌∷◌, ℕ, zero, suc, ◌+◌, ◌%◌, eqb, get_or, set}
-use Rattle.basics.specs.Logic.{if◌then◌else◌}
+use Rattle.basics.specs.Logic.{when◌then◌else◌}
 use Rattle.basics.specs.Figures.{rate}
 use Rattle.poseidon.specs.Permutation.{Parameters, permutation}
 use Rattle.sponge.specs.declared.Sponge.{Sponge}
@@ -19,7 +19,7 @@ outer position = position % rate
 -- "If that is 8, it permutes and goes to 0 first."
 unfoldable pub ready_to_absorb : Parameters → Sponge → Sponge
 ready_to_absorb F s =
-    if eqb s.absorb_position rate then sponge (permutation F s.state) 0 s.squeeze_position (s.permutations + 1) else s
+    when eqb s.absorb_position rate then sponge (permutation F s.state) 0 s.squeeze_position (s.permutations + 1) else s
 
 -- "ABSORB adds each element at the absorb position.", and moves that on; "A call of at least one element then sets the squeeze position to
 -- 8": with every element, so that it is 8 after the last.
@@ -32,7 +32,7 @@ absorb_element F s x =
 -- "If that is 8, it first permutes and sets both positions to 0. Squeezing does not otherwise move the absorb position"
 unfoldable pub ready_to_squeeze : Parameters → Sponge → Sponge
 ready_to_squeeze F s =
-    if eqb s.squeeze_position rate then sponge (permutation F s.state) 0 0 (s.permutations + 1) else s
+    when eqb s.squeeze_position rate then sponge (permutation F s.state) 0 0 (s.permutations + 1) else s
 
 -- "SQUEEZE copies from the squeeze position.": the element that comes out
 unfoldable pub squeezed_element : Parameters → Sponge → ℕ

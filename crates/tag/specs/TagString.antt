@@ -1,6 +1,6 @@
 -- Tag strings, written and read. From document 01, "Tags" and "Calls turned away", and document 02, P8.
 use Rattle.std.specs.Prelude.{Bool, not, List, [], ◌∷◌, ◌++◌, ℕ, ◌+◌, ◌-◌, ◌*◌, ◌/◌, ◌%◌, ltb, eqb, length, take, drop}
-use Rattle.basics.specs.Logic.{if◌then◌else◌, ◌and◌, ◌or◌}
+use Rattle.basics.specs.Logic.{when◌then◌else◌, ◌and◌, ◌or◌}
 use Rattle.basics.specs.Lists.{tabulate, placed}
 use Rattle.basics.specs.Digits.{digits, number}
 use Rattle.basics.specs.Numbers.{accepted, separator_too_long, buffer_too_short, not_tag_string, form_unknown}
@@ -22,7 +22,7 @@ word_bytes (w ∷ ws) = digits 256 4 w ++ word_bytes ws
 -- what stands behind a separator of n bytes: nothing in form 1, and in form 2 "the separator's length as four bytes, highest first". A number that is no
 -- form has form 1's string: START, writing and reading ask `is_form` first, and `tag::write_string` alone takes any number.
 unfoldable pub tail_of : ℕ → ℕ → List ℕ
-tail_of form n = if eqb form 2 then digits 256 4 n else []
+tail_of form n = when eqb form 2 then digits 256 4 n else []
 
 -- the string of merged words and a separator: "words, separator, then the separator's length" in form 2
 unfoldable pub string_of : ℕ → List ℕ → List ℕ → List ℕ
@@ -87,11 +87,11 @@ words_of s = tabulate (length s / 4) (word_at s)
 
 -- what precedes the tail: the whole string in form 1, and in form 2 all but "the string's last four bytes"
 unfoldable pub body_of : ℕ → List ℕ → List ℕ
-body_of form s = if eqb form 2 then take (length s - 4) s else s
+body_of form s = when eqb form 2 then take (length s - 4) s else s
 
 -- the separator's length, where n is the length given: "Reading form 2 goes by the string's last four bytes and ignores any length given."
 unfoldable pub length_in : ℕ → List ℕ → ℕ → ℕ
-length_in form s n = if eqb form 2 then number 256 (drop (length s - 4) s) else n
+length_in form s n = when eqb form 2 then number 256 (drop (length s - 4) s) else n
 
 -- what precedes a separator of n bytes, in what precedes the tail
 unfoldable pub words_part : List ℕ → ℕ → List ℕ
@@ -144,4 +144,4 @@ read_separator form s n = given (read_number form s n) (separator_part (body_of 
 -- where that part begins: behind the words, and on a refusal at the string's end
 unfoldable pub separator_start : ℕ → List ℕ → ℕ → ℕ
 separator_start form s n =
-    if eqb (read_number form s n) accepted then length (words_part (body_of form s) (length_in form s n)) else length s
+    when eqb (read_number form s n) accepted then length (words_part (body_of form s) (length_in form s n)) else length s

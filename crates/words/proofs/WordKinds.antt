@@ -6,28 +6,28 @@ use Prim.Native.Nat.{ℕ, ◌+◌, ◌/◌, ◌<◌}
 use native.Mathlib.Omega.{arith}
 use borrow.Author.Tests.{le-leb, lt-leb, leb-true, leb-false, eq-eqb, ne_eqb}
 use lib.Dec.{leb, eqb}
-use Rattle.basics.specs.Logic.{if◌then◌else◌, same}
+use Rattle.basics.specs.Logic.{when◌then◌else◌, same}
 use Rattle.basics.proofs.Cases.{by, cases}
 use Rattle.words.specs.Words.{is_absorb, length_of, Phase, phase_of, word_of}
 
 -- the two kinds apart
-if_kind : (k : Bool) (n : ℕ) → n < 2147483648 → is_absorb (if k then 2147483648 + n else n) ≡ k
-unfolding is_absorb if◌then◌else◌
+if_kind : (k : Bool) (n : ℕ) → n < 2147483648 → is_absorb (when k then 2147483648 + n else n) ≡ k
+unfolding is_absorb when◌then◌else◌
 if_kind true n h = le-leb 2147483648 (2147483648 + n) (omega arith)
 if_kind false n h = lt-leb 2147483648 n h
 
-if_length : (k : Bool) (n : ℕ) → n < 2147483648 → length_of (if k then 2147483648 + n else n) ≡ n
-unfolding length_of if◌then◌else◌
+if_length : (k : Bool) (n : ℕ) → n < 2147483648 → length_of (when k then 2147483648 + n else n) ≡ n
+unfolding length_of when◌then◌else◌
 if_length true n h = omega arith
 if_length false n h = omega arith
 
-if_below : (k : Bool) (n : ℕ) → n < 2147483648 → (if k then 2147483648 + n else n) < 4294967296
-unfolding if◌then◌else◌
+if_below : (k : Bool) (n : ℕ) → n < 2147483648 → (when k then 2147483648 + n else n) < 4294967296
+unfolding when◌then◌else◌
 if_below true n h = omega arith
 if_below false n h = omega arith
 
-if_longer : (k : Bool) (n m : ℕ) → (if k then 2147483648 + n else n) + m ≡ (if k then 2147483648 + (n + m) else n + m)
-unfolding if◌then◌else◌
+if_longer : (k : Bool) (n m : ℕ) → (when k then 2147483648 + n else n) + m ≡ (when k then 2147483648 + (n + m) else n + m)
+unfolding when◌then◌else◌
 if_longer true n m = omega arith
 if_longer false n m = refl
 

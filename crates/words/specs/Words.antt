@@ -1,6 +1,6 @@
 -- The words that declare a pattern (SAFE's IO pattern). From document 01, "Tags". A word is a number of 32 bits.
 use Rattle.std.specs.Prelude.{Bool, ℕ, ◌+◌, ◌%◌, leb}
-use Rattle.basics.specs.Logic.{if◌then◌else◌}
+use Rattle.basics.specs.Logic.{when◌then◌else◌}
 
 -- the top bit of 32: "A word has its top bit set for ABSORB and clear for SQUEEZE"
 abbrev pub absorb_bit : ℕ
@@ -29,4 +29,4 @@ phase_of w = record { absorbs = is_absorb w; elements = length_of w }
 
 -- the word that declares a call
 unfoldable pub word_of : Phase → ℕ
-word_of a = if a.absorbs then absorb_bit + a.elements else a.elements
+word_of a = when a.absorbs then absorb_bit + a.elements else a.elements

@@ -2,24 +2,24 @@
 -- Assumes nothing.
 use native.Mathlib.Omega.{arith}
 use borrow.Author.Tests.{lt-ltb, le-ltb, le-leb, lt-leb}
-use Rattle.basics.specs.Logic.{if◌then◌else◌}
+use Rattle.basics.specs.Logic.{when◌then◌else◌}
 use Rattle.card_grammar.specs.Machine.{decimal_value}
 use Rattle.card_machine.proofs.decimal_value.Goals as goal
 
 pub returns-then-byte-lt48 : goal.returns-then-byte-lt48
-unfolding decimal_value if◌then◌else◌
+unfolding decimal_value when◌then◌else◌
 returns-then-byte-lt48 c =
     let b = c.args.byte in
     simp (lt-ltb b 48 (omega arith))
 
 pub returns-then-byte-le57 : goal.returns-then-byte-le57
-unfolding decimal_value if◌then◌else◌
+unfolding decimal_value when◌then◌else◌
 returns-then-byte-le57 c =
     let b = c.args.byte in
     simp (le-ltb b 48 (omega arith), le-leb b 57 (omega arith))
 
 pub returns : goal.returns
-unfolding decimal_value if◌then◌else◌
+unfolding decimal_value when◌then◌else◌
 returns c =
     let b = c.args.byte in
     simp (le-ltb b 48 (omega arith), lt-leb b 57 (omega arith))

@@ -4,7 +4,7 @@ use mathlib.Core.Path.{◌≡◌, refl, ap, ◌∙◌}
 use Prim.Native.Nat.{ℕ, ◌+◌, ◌*◌, ◌-◌, ◌≤◌, ◌<◌}
 use native.Mathlib.Omega.{arith}
 use lib.ListN.{length, take, set, length-set}
-use Rattle.basics.specs.Logic.{if◌then◌else◌}
+use Rattle.basics.specs.Logic.{when◌then◌else◌}
 use Rattle.words.specs.Words.{word_of}
 use Rattle.seal.specs.Seal.{seal_words}
 use Rattle.seal.proofs.Lengths.{lengths_sound, length_at}
@@ -16,7 +16,7 @@ few : (c : tie.At-loop invariant-loop decreases-loop) → length c.args.lengths.
 few c = (lengths_sound _ c.requires).few
 
 pub loop-i-init : goal.loop-i-init
-unfolding seal_words word_of if◌then◌else◌
+unfolding seal_words word_of when◌then◌else◌
 loop-i-init c = (search rules, refl, refl)
 
 pub UNKNOWN-overflow-mul-words-3 : goal.UNKNOWN-overflow-mul-words-3
