@@ -1,5 +1,6 @@
 // Card lines answered: the tag string and the permutations of the session that a card declares, or the number that turns it away.
 #![tactic(auto)]
+
 pub mod text;
 
 ghost use Rattle.std.specs.Prelude.{◌≡◌, ◌≤◌, length};

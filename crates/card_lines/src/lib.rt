@@ -1,6 +1,7 @@
 // Lines out of an input that comes in pieces of any size, and their answers. Between calls the caller keeps the line in progress, which no
 // newline has ended yet: its bytes in 2,049 places, and how many they are, at the start 0. With 2,049 bytes it is too long, whatever follows.
 #![tactic(auto)]
+
 ghost use Rattle.std.specs.Prelude.{◌≡◌, ◌≤◌, min, length};
 ghost use Rattle.basics.specs.Lists.{placed};
 ghost use Rattle.card_lines.specs.Stream.{first_line, extended_length, extended, held_answer, writes, fed, line_after, last_answer};

@@ -1,5 +1,6 @@
 // The machine that reads a card line, a byte at a time.
 #![tactic(auto)]
+
 ghost use Rattle.std.specs.Prelude.{◌≡◌};
 ghost use Rattle.card_grammar.specs.Machine.{head_at, middle_at, hex_value, decimal_value, expected, move_of};
 

@@ -1,5 +1,6 @@
 // Answers the card lines of standard input on standard output, a line each, in the order of the input. Document 01, "Cards".
 #![tactic(auto)]
+
 ghost use Rattle.std.specs.Prelude.{◌≡◌, true, ◌≤◌, length};
 ghost use Rattle.card_lines.specs.Calls.{kept_of, next_kept, piece_kept};
 

@@ -1,5 +1,6 @@
 // Words cut into calls that a pattern may declare.
 #![tactic(auto)]
+
 ghost use Rattle.std.specs.Prelude.{◌≡◌, ◌∷◌, ◌<◌, ltb, length, get_or};
 ghost use Rattle.basics.specs.Logic.{◌and◌};
 ghost use Rattle.cutting.specs.Cutting.{cut_answer};

@@ -1,5 +1,6 @@
 // Arithmetic modulo p in either of two fields. Every function takes all numbers of its type, below p or not.
 #![tactic(auto)]
+
 ghost use Rattle.std.specs.Prelude.{◌≡◌, ◌+◌, ◌*◌, ◌%◌, ◌^◌};
 ghost use Rattle.basics.specs.Logic.{all};
 ghost use Rattle.field.specs.declared.Field.TheVariants.{BabyBear, KoalaBear};

@@ -1,5 +1,6 @@
 // Fields of hexadecimal digits out of a text, as the stored inputs have them: the bytes that a field writes, and bytes as words.
 #![tactic(auto)]
+
 ghost use Rattle.std.specs.Prelude.{◌≡◌, ◌≤◌, ◌<◌, length};
 ghost use Rattle.hex_fields.specs.Fields.{digit_value, pair_byte, is_pair, place_behind, field_at, field_words};
 

@@ -1,5 +1,6 @@
 // The tables of the permutation Keccak-f[1600]: rotation offsets and round constants.
 #![tactic(auto)]
+
 mod tables;
 
 ghost use Rattle.std.specs.Prelude.{◌≡◌};

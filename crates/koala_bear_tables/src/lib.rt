@@ -1,5 +1,6 @@
 // The tables of the fast permutation in KoalaBear, each with its rule proved by one test.
 #![tactic(auto)]
+
 mod tables;
 
 ghost use Rattle.std.specs.Prelude.{◌≡◌};

@@ -1,6 +1,7 @@
 // The Poseidon permutation of 24 field elements, in either field. It is computed in Montgomery's form, with the partial rounds in their sparse form; that it
 // is the definition's is proved for the tables of each field, which callers who permute several times make once and lend.
 #![tactic(auto)]
+
 ghost use Rattle.std.specs.Prelude.{◌≡◌, ◌%◌, ◌≤◌};
 ghost use Rattle.field.specs.Field.{modulus, power};
 ghost use Rattle.field.specs.declared.Field.TheVariants.{BabyBear, KoalaBear};

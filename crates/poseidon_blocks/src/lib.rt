@@ -2,6 +2,7 @@
 // three blocks do: 432 products for 576. A block is a table of pairs of diagonals, and a half of the state stands twice one behind the other, as in
 // poseidon_matrix.
 #![tactic(auto)]
+
 ghost use Rattle.std.specs.Prelude.{◌≡◌, ◌+◌, ◌*◌, ◌%◌, ◌<◌, ◌≤◌, slice_index};
 ghost use Rattle.montgomery.specs.Montgomery.{low_product};
 ghost use Rattle.poseidon_rounds.specs.Places.{Each};

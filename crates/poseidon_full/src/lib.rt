@@ -1,5 +1,6 @@
 // Full rounds modulo m, with the tables of the fast permutation lent.
 #![tactic(auto)]
+
 ghost use Rattle.std.specs.Prelude.{◌≡◌, ◌<◌};
 ghost use Rattle.poseidon_rounds.specs.Tables.{Diagonals, Blocks};
 ghost use Rattle.poseidon_full.specs.Full.{Sums, RaisedAt, Powers, PowersOnce, Round, Rounds};

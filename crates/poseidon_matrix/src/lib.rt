@@ -1,6 +1,7 @@
 // A matrix of 24 rows times a state, modulo m. The matrix is a table of pairs of diagonals, and the state stands twice one behind the other, so that
 // both factors of a product change with the row: the compiler then takes two rows at a time.
 #![tactic(auto)]
+
 ghost use Rattle.std.specs.Prelude.{◌≡◌, ◌+◌, ◌<◌, slice_index};
 ghost use Rattle.montgomery.specs.Montgomery.{low_product};
 ghost use Rattle.poseidon_matrix.specs.Matrix.{Row, Product};

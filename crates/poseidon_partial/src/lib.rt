@@ -1,6 +1,7 @@
 // The partial rounds modulo m, in their sparse form, with tables lent. Elements 1 to 23 are kept times a power of the matrix without its first row and
 // column, so that a round only adds a column times one number to them, and element 0 is a row times them. Each round divides 2^32 out of all.
 #![tactic(auto)]
+
 ghost use Rattle.std.specs.Prelude.{◌≡◌, ◌*◌, ◌%◌, ◌≤◌, length, slice_index};
 ghost use Rattle.poseidon_rounds.specs.Places.{Each};
 ghost use Rattle.poseidon_partial.specs.Partial.{NextElement, LowPart, NextElements, NextFirst, Rest, PartialRounds};

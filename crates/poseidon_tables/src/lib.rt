@@ -1,5 +1,6 @@
 // The round constants of the permutation in each field. No code reads the inverses that its matrix is made of: their table stands in the definitions alone.
 #![tactic(auto)]
+
 mod tables;
 
 ghost use Rattle.std.specs.Prelude.{◌≡◌};

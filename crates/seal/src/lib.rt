@@ -1,6 +1,7 @@
 // Sealing coin notes, which is authenticated encryption: a key and a nonce are absorbed by a session, and each block is added to elements that it squeezes,
 // and absorbed; the last elements squeezed are the mark, which is the authentication tag. Nothing but lent buffers is as long as a note.
 #![tactic(auto)]
+
 ghost use Rattle.std.specs.Prelude.{◌≡◌, ◌++◌, true, ◌+◌, ◌*◌, ◌≤◌, length, take, replicate};
 ghost use Rattle.basics.specs.Lists.{Below, joined, total};
 ghost use Rattle.basics.specs.Numbers.{accepted};

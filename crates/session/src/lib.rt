@@ -1,5 +1,6 @@
 // Sessions: START, ABSORB, SQUEEZE and FINISH over a record that goes from call to call by value.
 #![tactic(auto)]
+
 ghost use Rattle.std.specs.Prelude.{◌≡◌, length};
 ghost use Rattle.basics.specs.Refusals.{first_number};
 ghost use Rattle.pattern.specs.Opening.{opening};

@@ -1,5 +1,6 @@
 // The sponge, element by element: SAFE's state, with an absorb and a squeeze position from 0 to 8.
 #![tactic(auto)]
+
 ghost use Rattle.std.specs.Prelude.{◌≡◌, ◌+◌, length, get_or};
 ghost use Rattle.poseidon.specs.Permutation.{parameters};
 ghost use Rattle.poseidon.specs.Tables.{tables_from, tables_of};

@@ -1,5 +1,6 @@
 // Tag strings, read back; and the elements cut from a tag string's digest.
 #![tactic(auto)]
+
 mod bytes;
 
 ghost use Rattle.std.specs.Prelude.{◌≡◌, false, ◌+◌, ◌-◌, ◌≤◌, length};

@@ -1,6 +1,7 @@
 // The static library for C and Rust: each function makes one call of another crate, and stores what that gives where the caller lends room
 // for it. ABSORB, SQUEEZE and FINISH are the caller's own record's: the step by value, and the record that it leaves stored back.
 #![tactic(auto)]
+
 ghost use Rattle.std.specs.Prelude.{◌≡◌, length};
 ghost use Rattle.sha3.specs.Sponge.{sha3};
 ghost use Rattle.cutting.specs.Cutting.{cut_answer};

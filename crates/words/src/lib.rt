@@ -1,5 +1,6 @@
 // The words that declare a pattern: kind and length.
 #![tactic(auto)]
+
 ghost use Rattle.std.specs.Prelude.{◌≡◌, get_or};
 ghost use Rattle.basics.specs.Logic.{same};
 ghost use Rattle.words.specs.Words.{is_absorb, length_of};
