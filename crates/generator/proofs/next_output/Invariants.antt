@@ -1,3 +1,4 @@
+-- What the loop of `generator::next_output` keeps: the pairs passed give no output bit.
 use mathlib.Core.Path.{◌≡◌}
 use Prim.Native.Nat.{◌≤◌}
 use lib.ListN.{length}

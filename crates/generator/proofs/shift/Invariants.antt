@@ -1,3 +1,4 @@
+-- What the loop of `generator::shift` keeps: the bits so far are those of the register from bit 1 on.
 use mathlib.Core.Path.{◌≡◌}
 use Prim.Native.Nat.{◌-◌, ◌≤◌}
 use lib.ListN.{length, take, drop}

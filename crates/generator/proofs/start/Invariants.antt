@@ -1,3 +1,4 @@
+-- What the loop of `generator::start` keeps: the bits dropped and those to come are the new bits.
 use mathlib.Core.Path.{◌≡◌}
 use Prim.Native.Nat.{◌-◌, ◌≤◌}
 use lib.ListN.{length, drop}

@@ -1,3 +1,4 @@
+-- What the loop of `generator_check::differences` keeps: the count is at most the places passed.
 use Prim.Native.Nat.{◌-◌, ◌≤◌}
 use Rattle.generator_check.proofs.differences.Given as goal
 

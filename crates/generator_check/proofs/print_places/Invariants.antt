@@ -1,3 +1,4 @@
+-- The loop of `generator_check::print_places` stays within eight places.
 use Prim.Native.Nat.{◌-◌, ◌≤◌}
 use Rattle.generator_check.proofs.print_places.Given as goal
 

@@ -1,3 +1,4 @@
+-- The loop of `generator_check::with_zeros` stays within the places of the table.
 use Prim.Native.Nat.{◌-◌, ◌≤◌}
 use Rattle.generator_check.proofs.with_zeros.Given as goal
 

@@ -14,4 +14,4 @@ slice_bounds-print_answers-end-2 c = sym (length-take-le _ _ (search rules))
 
 pub returns : goal.returns
 returns c =
-    omega (arith, c.field_at-first.ensures.1.3 c.requires)
+    omega (arith, c.field_at-first.ensures.bytes_len.3 c.requires)

@@ -1,3 +1,4 @@
+-- The loop of `owner_vectors::print_lines` comes nearer to the end of the text.
 use Prim.Native.Nat.{◌-◌, ◌≤◌}
 use lib.ListN.{length}
 use Rattle.owner_vectors.proofs.print_lines.Given as goal
