@@ -1,4 +1,5 @@
--- Laws of the generator's lists of bits, candidates and constants: what one step of the code takes off the front of each.
+-- Laws of the generator's lists of bits, candidates and constants: what one step of the code takes off the front
+-- of each.
 -- Assumes nothing.
 use mathlib.Core.Path.{◌≡◌, ◌∙◌, refl, sym, ap}
 use mathlib.Core.List.{List, [], ◌∷◌, ◌++◌}

@@ -1,4 +1,5 @@
--- `generator::fill` meets its contract: the constants stored, and those of the bits left, are the constants that the source gives.
+-- `generator::fill` meets its contract: the constants stored, and those of the bits left, are the constants that
+-- the source gives.
 -- Assumes nothing.
 use mathlib.Core.Path.{◌≡◌, ◌∙◌, refl, sym, ap, ap₂}
 use mathlib.Core.List.{List, [], ◌∷◌, ◌++◌, append-nil}

@@ -1,4 +1,5 @@
--- `generator::generate` meets its contract: it is `generate_from` with the parameters of the field that the number names.
+-- `generator::generate` meets its contract: it is `generate_from` with the parameters of the field that the
+-- number names.
 -- Assumes nothing.
 use mathlib.Core.Path.{◌≡◌, ◌∙◌, sym, ap, ap₂}
 use mathlib.Core.Bool.{Bool, true, false, not}
