@@ -11,7 +11,7 @@ use native.Mathlib.Omega.{arith}
 use borrow.Author.Tests.{leb-true, leb-false, le-leb, lt-leb, eqb-true, eqb-false, eq-eqb, ne_eqb}
 use lib.Dec.{leb, eqb}
 use lib.ListN.{length, replicate, length-append, length-replicate}
-use Rattle.basics.specs.Logic.{when◌then◌else◌, ◌and◌, ◌or◌, all, any}
+use Rattle.basics.specs.Logic.{◌and◌, ◌or◌, all, any}
 use Rattle.basics.specs.Lists.{total}
 use Rattle.basics.proofs.Cases.{cases, if_true, if_false, and_left, and_right, and_both, or_neither, all_both, any_append}
 use Rattle.cutting.specs.Cutting.{rest_of, cut_length}

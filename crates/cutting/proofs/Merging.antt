@@ -8,7 +8,7 @@ use native.Mathlib.Nat.{add_assoc, add-zero}
 use native.Mathlib.Omega.{arith}
 use borrow.Author.Tests.{leb-true, le-ltb}
 use lib.Dec.{leb, ltb, eqb}
-use Rattle.basics.specs.Logic.{when◌then◌else◌, ◌or◌, same, all, any}
+use Rattle.basics.specs.Logic.{◌or◌, same, all, any}
 use Rattle.basics.specs.Lists.{total}
 use Rattle.basics.proofs.Cases.{cases, if_true, if_false, and_left, and_right, same_self, or_neither, any_append}
 use Rattle.words.specs.Words.{is_absorb, length_of, Phase, phase_of, word_of}

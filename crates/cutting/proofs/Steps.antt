@@ -9,7 +9,6 @@ use borrow.Author.Tests.{ltb-true, ltb-false, lt-ltb, le-ltb, leb-true, leb-fals
 use lib.Dec.{leb, ltb, lit<}
 use lib.ListN.{length, get_or, drop, set, replicate, length-append, drop_of_length-le}
 use lib.Seq.{drop-cons, append_snoc}
-use Rattle.basics.specs.Logic.{when◌then◌else◌}
 use Rattle.basics.specs.Lists.{zero_padded}
 use Rattle.basics.specs.Numbers.{accepted, word_count_out_of_range}
 use Rattle.basics.specs.Refusals.{first_number}

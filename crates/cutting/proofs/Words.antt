@@ -6,7 +6,6 @@ use Prim.Native.Nat.{ℕ, ◌-◌, ◌≤◌, ◌<◌}
 use native.Mathlib.Omega.{arith}
 use borrow.Author.Tests.{le-leb, lt-leb, leb-true, leb-false}
 use lib.Dec.{leb}
-use Rattle.basics.specs.Logic.{when◌then◌else◌}
 use Rattle.basics.proofs.Cases.{cases, if_true, if_false}
 use Rattle.words.specs.Words.{is_absorb, length_of, Phase, phase_of, word_of}
 use Rattle.words.proofs.WordKinds.{word_of_phase}

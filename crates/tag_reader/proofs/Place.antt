@@ -1,22 +1,21 @@
 -- Where the separator lies in the string.
 -- Assumes nothing.
 use mathlib.Core.Path.{◌≡◌, sym, ap, ap₂, ◌∙◌}
-use mathlib.Core.List.{List, [], ◌++◌}
+use mathlib.Core.List.{List}
 use mathlib.Core.Logic.{◌≢◌}
 use Prim.Native.Nat.{ℕ, ◌+◌, ◌-◌, ◌*◌, ◌≤◌}
 use native.Mathlib.Omega.{arith}
 use borrow.Author.Tests.{eqb-true, eqb-false}
 use lib.Dec.{eqb}
-use lib.ListN.{length, take, drop, length-drop}
-use lib.Seq.{length-take-le, take-add, take_all, drop_at}
+use lib.ListN.{length, take, drop}
+use lib.Seq.{length-take-le, take-add, drop_at}
 use Rattle.basics.specs.Numbers.{accepted}
 use Rattle.basics.proofs.Cases.{cases}
 use Rattle.pattern.specs.declared.WordList.{WordList}
-use Rattle.tag.specs.TagString.{body_of, length_in, words_part, separator_part, read_number, read_words, read_separator, separator_start}
+use Rattle.tag.specs.TagString.{body_of, length_in, separator_part, read_number, read_words, read_separator, separator_start}
 use Rattle.tag.proofs.Forms.{body_front, body_long}
 use Rattle.tag.proofs.Reading.{number_read, accepted_string, separator_refused, separator_accepted, start_refused, start_accepted, part_long, start_by_count, separator_long}
 use Rattle.tag_reader.specs.Parts.{parts_read}
-use Rattle.tag_reader.specs.declared.Parts.{Parts}
 
 -- a part of a list's front is a part of the list
 part_of_front : (s : List ℕ) (k m : ℕ) → k + m ≤ length s → drop k (take (k + m) s) ≡ take m (drop k s)

@@ -6,9 +6,9 @@ use Rattle.words.specs.Words.{length_of}
 use Rattle.cutting.proofs.Steps.{next_word, same_word}
 use Rattle.cutting.proofs.behind_first.Goals as goal
 
-pub UNKNOWN-overflow-sub-t6 : goal.UNKNOWN-overflow-sub-t6
+pub overflow_sub-result : goal.overflow_sub-result
 unfolding length_of
-UNKNOWN-overflow-sub-t6 c = omega (arith, c.length_of.ensures)
+overflow_sub-result c = omega (arith, c.length_of.ensures)
 
 pub returns-then-length_of-gt-MAX_CALL : goal.returns-then-length_of-gt-MAX_CALL
 returns-then-length_of-gt-MAX_CALL c =

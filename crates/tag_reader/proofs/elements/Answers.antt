@@ -1,26 +1,21 @@
 -- `tag_reader::elements` meets its contract.
 -- Assumes nothing.
 use mathlib.Core.Path.{◌≡◌, refl, ap, ◌∙◌}
-use mathlib.Core.List.{List}
-use Prim.Native.Nat.{ℕ, ◌-◌, ◌%◌, ◌^◌}
+use Prim.Native.Nat.{ℕ, ◌%◌, ◌^◌}
 use native.Mathlib.Omega.{arith}
 use lib.Bits.{and_mask}
 use lib.ListN.{length}
 use Rattle.basics.proofs.Fill.{start, step, end}
-use Rattle.tag.specs.TagString.{word_at}
 use Rattle.tag.specs.Elements.{tag_elements}
 use borrow.Author.Rules.{rules}
 use Rattle.tag_reader.proofs.elements.Goals as goal
-
-abbrev element : List ℕ → ℕ → ℕ
-element digest k = word_at digest k % 2 ^ 30
 
 pub loop-k-init : goal.loop-k-init
 loop-k-init c = start 8 _ _ refl
 
 pub word_at-requires : goal.word_at-requires
 word_at-requires c =
-    let long : ◌≡◌ {A = ℕ} 32 (length c.args.t1) = search rules in
+    let long : ◌≡◌ {A = ℕ} 32 (length c.args.digest) = search rules in
     omega arith
 
 pub loop-k-preserved : goal.loop-k-preserved

@@ -1,6 +1,7 @@
 -- `tag_reader::read_separator` meets its contract.
 -- Assumes nothing.
 use mathlib.Core.Path.{◌≡◌, ap, ap₂, ◌∙◌}
+use mathlib.Core.List.{List}
 use Prim.Native.Nat.{ℕ, ◌+◌, ◌-◌, ◌≤◌}
 use native.Mathlib.Omega.{arith}
 use lib.ListN.{length, take, drop}
@@ -11,34 +12,31 @@ use Rattle.tag_reader.proofs.Place.{separator_inside, separator_there}
 use Rattle.tag_reader.proofs.read_separator.Goals as goal
 
 -- the parts by their definitions
-starts : (c : tie.After-read-parts) → let args = c.args in
-    c.read_parts-parts.result.start ≡ separator_start args.form args.string.now args.separator-length
+starts : (p : Parts) (form : ℕ) (s : List ℕ) (n : ℕ) → p ≡ parts_read form s n → p.start ≡ separator_start form s n
 unfolding parts_read
-starts c = ap (λ (p : Parts). p.start) c.read_parts-parts.ensures
+starts p form s n e = ap (λ (q : Parts). q.start) e
 
-measures : (c : tie.After-read-parts) → let args = c.args in
-    c.read_parts-parts.result.length ≡ length (read_separator args.form args.string.now args.separator-length)
+measures : (p : Parts) (form : ℕ) (s : List ℕ) (n : ℕ) → p ≡ parts_read form s n → p.length ≡ length (read_separator form s n)
 unfolding parts_read
-measures c = ap (λ (p : Parts). p.length) c.read_parts-parts.ensures
+measures p form s n e = ap (λ (q : Parts). q.length) e
 
-inside : (c : tie.After-read-parts) → c.read_parts-parts.result.start + c.read_parts-parts.result.length ≤ length c.args.string.now
-inside c =
-    let args = c.args in
-    omega (arith, starts c, measures c, separator_inside args.form args.string.now args.separator-length)
+-- they lie in the string
+inside : (p : Parts) (form : ℕ) (s : List ℕ) (n : ℕ) → p ≡ parts_read form s n → p.start + p.length ≤ length s
+inside p form s n e = omega (arith, starts p form s n e, measures p form s n e, separator_inside form s n)
 
 pub overflow_add-end : goal.overflow_add-end
-overflow_add-end c = omega (arith, inside c)
+overflow_add-end c = omega (arith, inside _ _ _ _ c.read_parts-parts.ensures)
 
 pub slice_bounds-result-end : goal.slice_bounds-result-end
-slice_bounds-result-end c = omega (arith, inside c)
+slice_bounds-result-end c = omega (arith, inside _ _ _ _ c.read_parts-parts.ensures)
 
 pub returns : goal.returns
 returns c =
     let args = c.args in
     let s = args.string.now in
-    let at = args.string.ptr in
+    let at = args.string.ref_ptr in
     let size : c.read_parts-parts.result.start + c.read_parts-parts.result.length - c.read_parts-parts.result.start
-    ≡ length (read_separator args.form s args.separator-length) = omega (arith, measures c) in (
-      ap₂ (λ (m k : ℕ). take m (drop k s)) size (starts c) ∙ separator_there args.form s args.separator-length,
-      ap (λ (start : ℕ). (at.0, start + at.1)) (starts c),
+    ≡ length (read_separator args.form s args.separator_length) = omega (arith, measures _ _ _ _ c.read_parts-parts.ensures) in (
+      ap₂ (λ (m k : ℕ). take m (drop k s)) size (starts _ _ _ _ c.read_parts-parts.ensures) ∙ separator_there args.form s args.separator_length,
+      ap (λ (start : ℕ). (at.0, start + at.1)) (starts _ _ _ _ c.read_parts-parts.ensures),
     )

@@ -2,7 +2,7 @@
 -- Assumes nothing.
 use mathlib.Core.Path.{◌≡◌, refl, sym, ap, ap₂, ◌∙◌}
 use mathlib.Core.List.{List}
-use Prim.Native.Nat.{ℕ, ◌-◌, ◌/◌}
+use Prim.Native.Nat.{ℕ, ◌/◌}
 use native.Mathlib.Numerals.{add-one}
 use native.Mathlib.Omega.{arith}
 use lib.ListN.{length, set}
@@ -11,11 +11,8 @@ use Rattle.basics.proofs.Fill.{length_tabulate}
 use Rattle.tag.specs.TagString.{word_at, words_of}
 use Rattle.basics.proofs.Zeros.{push_number}
 use borrow.Author.Rules.{rules}
+use Rattle.tag_reader.proofs.bytes.words_of.Invariants.{front}
 use Rattle.tag_reader.proofs.bytes.words_of.Goals as goal
-
--- the first k words
-abbrev front : List ℕ → ℕ → List ℕ
-front string k = tabulate k (word_at string)
 
 pub loop-k-init : goal.loop-k-init
 unfolding tabulate
