@@ -1,8 +1,8 @@
 -- The tables hold what their rules say: one computed test for each.
 -- Assumes nothing.
 use mathlib.Core.Path.{◌≡◌, refl}
-use mathlib.Core.Bool.{Bool, true, false}
-use mathlib.Core.List.{List, [], ◌∷◌}
+use mathlib.Core.Bool.{true, false}
+use mathlib.Core.List.{[], ◌∷◌}
 use Rattle.basics.specs.Logic.{◌and◌, all}
 use Rattle.basics.specs.Lists.{Below, tabulate}
 use Rattle.field.specs.Field.{modulus}
@@ -12,7 +12,7 @@ use Rattle.poseidon_tables.specs.Tables.{constants, inverses, baby_bear_constant
 use Rattle.poseidon_rounds.specs.Instance.{Instance, instance_of, matrix}
 use Rattle.poseidon_rounds.specs.Sparse.{carried, SparseTables}
 use Rattle.poseidon_rounds.specs.Tests.{alike, every, dot, products, turned, column_of, row_of, column_test, row_test, zero_test, running_with, running_of, first_constants_from, sparse_test, first_constants_test, scaled_by, after_test, before_test, constants_test, zeros_test, row_products, matrix_product, rows_from, lower_rows, exponent, squared, raised_to, diagonal_row, shared_row, whole_row, matrix_test, pre_sparse_from, pre_sparse_test}
-use Rattle.poseidon_rounds.specs.Tables.{Diagonals, pre_sparse, TablesOf}
+use Rattle.poseidon_rounds.specs.Tables.{TablesOf}
 use Rattle.poseidon_rounds.proofs.Tests.{sparse_tables}
 use Rattle.poseidon_rounds.proofs.Tables.{matrix_blocks, pre_sparse_diagonals, tables_of_law}
 use Rattle.baby_bear_tables.specs.Tables as tables

@@ -1,11 +1,11 @@
 -- Laws of a row's sum.
 -- Assumes nothing.
-use Rattle.std.proofs.Common.{◌≡◌, ℕ, ◌+◌, ◌-◌, ◌*◌, ◌/◌, ◌%◌, ◌^◌, ◌<◌, ◌≤◌, List, get_or, sym, refl, ap, ◌∙◌, subst, suc-le-suc, zero-le, mod-eq_of_lt, zero-lt-suc, mul-le-mul, add-one, arith}
+use Rattle.std.proofs.Common.{◌≡◌, ℕ, ◌+◌, ◌*◌, ◌/◌, ◌%◌, ◌^◌, ◌<◌, ◌≤◌, List, get_or, sym, refl, ap, ◌∙◌, subst, mod-eq_of_lt, zero-lt-suc, mul-le-mul, add-one, arith}
 use native.Mathlib.Nat.{le-pred_of_lt}
 use Rattle.basics.specs.Lists.{sum, Below}
 use Rattle.basics.proofs.Below.{below_at}
 use Rattle.field.proofs.Congruence.{Congruent, reflexive, transitive, add_congruent, mul_congruent}
-use Rattle.montgomery.specs.Montgomery.{low_product, Modulus, Divided, Element, Reduced}
+use Rattle.montgomery.specs.Montgomery.{low_product, Reduced}
 use Rattle.montgomery.proofs.Reduction.{low_product_law}
 use Rattle.poseidon_matrix.specs.Matrix.{two_products, row_sum, Row}
 

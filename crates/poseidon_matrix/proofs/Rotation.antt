@@ -1,12 +1,12 @@
 -- A row by diagonals is a row of the matrix: its 24 products may start at any place.
 -- Assumes nothing.
-use Rattle.std.proofs.Common.{◌≡◌, ℕ, zero, suc, ◌+◌, ◌-◌, ◌*◌, ◌%◌, ◌<◌, ◌≤◌, List, get_or, sym, refl, ap, ◌∙◌, subst, ap₂, add_assoc, mod-eq_of_lt, add_comm, add-one, arith}
+use Rattle.std.proofs.Common.{◌≡◌, ℕ, zero, suc, ◌+◌, ◌-◌, ◌*◌, ◌%◌, ◌<◌, ◌≤◌, List, get_or, sym, refl, ap, ◌∙◌, subst, add_assoc, mod-eq_of_lt, arith}
 use native.Mathlib.Nat.{add-mod_right}
 use Rattle.basics.specs.Lists.{sum}
 use Rattle.basics.proofs.Sums.{sum_same}
 use Rattle.poseidon_rounds.specs.Tables.{Diagonals}
 use Rattle.poseidon_matrix.specs.Matrix.{two_products, row_sum}
-use Rattle.field.proofs.Congruence.{Congruent, reflexive, transitive, add_congruent, mul_congruent}
+use Rattle.field.proofs.Congruence.{Congruent, reflexive, add_congruent, mul_congruent}
 use Rattle.poseidon_rounds.proofs.Congruence.{sum_congruent}
 use Rattle.poseidon_rounds.proofs.Places.{either}
 

@@ -1,7 +1,7 @@
 -- More laws of congruence modulo any m: sums and powers, a factor taken away, numbers below m.
 -- Assumes nothing.
 use mathlib.Core.Path.{◌≡◌, ◌∙◌, sym, subst}
-use Prim.Native.Nat.{ℕ, zero, suc, ◌+◌, ◌*◌, ◌%◌, ◌^◌, ◌<◌}
+use Prim.Native.Nat.{ℕ, zero, suc, ◌*◌, ◌^◌, ◌<◌}
 use native.Mathlib.Nat.{mul-one, mul_left_comm, mod-eq_of_lt, pow-zero, pow-suc}
 use native.Mathlib.Omega.{arith}
 use Rattle.basics.specs.Lists.{sum}

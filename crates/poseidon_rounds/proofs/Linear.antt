@@ -1,14 +1,14 @@
 -- Products with a matrix are linear; a row goes to the other side of a product.
 -- Assumes nothing.
-use mathlib.Core.Path.{◌≡◌, ◌∙◌, sym, ap, ap₂, refl, subst, fun_ext}
-use Prim.Native.Nat.{ℕ, zero, suc, ◌+◌, ◌*◌, ◌%◌, ◌<◌, ◌≤◌}
-use native.Mathlib.Nat.{mul_assoc, mul_comm, mul-add, add-mul, mul-one, one-mul, zero-mul, mul-zero, mul_left_comm, add_comm}
+use mathlib.Core.Path.{◌≡◌, ◌∙◌, sym, ap, ap₂, refl, fun_ext}
+use Prim.Native.Nat.{ℕ, zero, suc, ◌+◌, ◌*◌, ◌<◌}
+use native.Mathlib.Nat.{mul_assoc, mul_comm, mul-add, mul-zero, mul_left_comm, add_comm}
 use native.Mathlib.Omega.{arith}
 use Rattle.basics.specs.Lists.{sum}
 use Rattle.basics.proofs.Sums.{sum_same}
-use Rattle.field.proofs.Congruence.{Congruent, reflexive, transitive, add_congruent, mul_congruent}
-use Rattle.poseidon_rounds.specs.Linear.{turn, times, inner, scaled}
-use Rattle.poseidon_rounds.proofs.Congruence.{opposite, sum_congruent, cancel}
+use Rattle.field.proofs.Congruence.{Congruent, reflexive, mul_congruent}
+use Rattle.poseidon_rounds.specs.Linear.{turn, times, scaled}
+use Rattle.poseidon_rounds.proofs.Congruence.{sum_congruent}
 
 -- sums
 pub sum_add : (n : ℕ) (f g : ℕ → ℕ) → sum n (λ j. f j + g j) ≡ sum n f + sum n g

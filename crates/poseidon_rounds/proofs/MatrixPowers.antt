@@ -1,12 +1,11 @@
 -- Powers of a matrix by squarings, as the tests compute them. The product of two matrices is that of the rows of both, so that no matrix is turned
 -- round: the powers of a symmetric matrix act by their rows and by their columns alike.
 -- Assumes nothing.
-use mathlib.Core.Path.{◌≡◌, ◌∙◌, sym, ap, ap₂, refl, subst}
+use mathlib.Core.Path.{◌≡◌, ◌∙◌, sym, ap, refl, subst}
 use mathlib.Core.Bool.{Bool, true, false}
 use mathlib.Core.List.{List, [], ◌∷◌}
-use Prim.Native.Nat.{ℕ, zero, suc, ◌+◌, ◌*◌, ◌%◌, ◌<◌, ◌≤◌, zero-le, suc-le-suc}
+use Prim.Native.Nat.{ℕ, zero, suc, ◌+◌, ◌*◌, ◌%◌, ◌<◌}
 use native.Mathlib.Nat.{mul_comm, add_comm, add-zero, add-suc, suc-add, zero-add, le_of_suc-le-suc, not-suc-le-zero}
-use native.Mathlib.Numerals.{add-one}
 use native.Mathlib.Omega.{arith}
 use lib.ListN.{length, get_or}
 use Rattle.basics.specs.Lists.{sum, tabulate}
@@ -18,7 +17,7 @@ use Rattle.poseidon_rounds.specs.Linear.{turn, times}
 use Rattle.poseidon_rounds.specs.Sparse.{lower}
 use Rattle.poseidon_rounds.specs.Tests.{dot, row_products, matrix_product, rows_from, lower_rows, exponent, squared, raised_to}
 use Rattle.poseidon_rounds.proofs.Congruence.{opposite, sum_congruent}
-use Rattle.poseidon_rounds.proofs.Linear.{row_turn, times_same}
+use Rattle.poseidon_rounds.proofs.Linear.{row_turn}
 use Rattle.poseidon_rounds.proofs.Dots.{dot_23}
 
 abbrev pub at : List (List ℕ) → ℕ → ℕ → ℕ

@@ -1,19 +1,19 @@
 -- A partial round in the sparse form is the definition's: the powers of the matrix's lower part, the running constants and the scale, in one step.
 -- Assumes nothing.
-use mathlib.Core.Path.{◌≡◌, ◌∙◌, sym, ap, ap₂, refl, subst}
+use mathlib.Core.Path.{◌≡◌, ◌∙◌, sym, ap, ap₂, subst}
 use mathlib.Core.List.{List}
-use Prim.Native.Nat.{ℕ, zero, suc, ◌+◌, ◌*◌, ◌%◌, ◌^◌, ◌<◌, ◌≤◌, zero-le, suc-le-suc}
-use native.Mathlib.Nat.{mul_assoc, mul_comm, mul-add, add-mul, zero-mul, mul_left_comm, mul_right_comm, add_assoc, add_comm, add-zero, zero-add}
+use Prim.Native.Nat.{ℕ, suc, ◌+◌, ◌*◌, ◌^◌, ◌<◌, zero-le, suc-le-suc}
+use native.Mathlib.Nat.{mul_assoc, mul_comm, mul-add, add-mul, zero-mul, mul_right_comm, add_assoc, add-zero, zero-add}
 use native.Mathlib.Omega.{arith}
 use lib.ListN.{get_or}
 use Rattle.basics.specs.Lists.{sum}
 use Rattle.basics.proofs.Sums.{sum_same}
 use Rattle.field.proofs.Congruence.{Congruent, reflexive, transitive, add_congruent, mul_congruent}
-use Rattle.poseidon_rounds.specs.Linear.{turn, times, inner, scaled}
+use Rattle.poseidon_rounds.specs.Linear.{turn, times, inner}
 use Rattle.poseidon_rounds.specs.Instance.{Instance, matrix, constant, PartialRound}
 use Rattle.poseidon_rounds.specs.Sparse.{running, carried, lower, SparseTables, Represents}
 use Rattle.poseidon_rounds.proofs.Congruence.{opposite, sum_congruent, pow_congruent, cancel}
-use Rattle.poseidon_rounds.proofs.Linear.{sum_add, sum_first, sum_times, times_linear, times_scale, times_same, times_sum, turn_scaled}
+use Rattle.poseidon_rounds.proofs.Linear.{sum_add, sum_first, sum_times, times_linear, times_scale, times_sum, turn_scaled}
 
 -- rearrangements of products
 column_products : (K B t y : ℕ) → K * B * t * y ≡ y * K * t * B

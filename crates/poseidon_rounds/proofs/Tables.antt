@@ -3,10 +3,9 @@
 use mathlib.Core.Path.{◌≡◌, ◌∙◌, sym, ap, refl, subst}
 use mathlib.Core.Bool.{Bool, true}
 use mathlib.Core.List.{List, [], ◌∷◌}
-use Prim.Native.Nat.{ℕ, zero, suc, ◌+◌, ◌*◌, ◌-◌, ◌%◌, ◌/◌, ◌<◌, ◌≤◌, zero-le, suc-le-suc}
+use Prim.Native.Nat.{ℕ, zero, suc, ◌+◌, ◌*◌, ◌-◌, ◌%◌, ◌/◌, ◌<◌}
 use native.Mathlib.Nat.{mul_assoc, mul_comm, mod-lt, zero-mul, zero-lt-suc, add-suc, suc-add, le_of_suc-le-suc, not-suc-le-zero, add-zero}
 use native.Mathlib.Omega.{arith}
-use lib.Dec.{eqb}
 use lib.ListN.{length, get_or, drop}
 use lib.Seq.{get_or-drop}
 use borrow.Author.Tests.{eqb-true}
@@ -19,13 +18,12 @@ use Rattle.field.proofs.Congruence.{Congruent, reflexive, transitive, mul_congru
 use Rattle.montgomery.specs.Montgomery.{scale}
 use Rattle.poseidon_rounds.specs.Instance.{Instance, matrix}
 use Rattle.poseidon_rounds.specs.Linear.{times}
-use Rattle.poseidon_rounds.specs.Sparse.{running, carried, lower, SparseTables}
-use Rattle.poseidon_rounds.specs.Tests.{alike, every, products, diagonal_place, diagonal_row, shared_row, whole_row, matrix_test, exponent, raised_to, lower_rows, pre_sparse_from, pre_sparse_test, after_test, before_test, constants_test, zeros_test}
-use Rattle.poseidon_rounds.specs.Tables.{Diagonals, block_place, Blocks, pre_sparse, addend_before, addend_after, FullTable, Constants, TablesOf}
+use Rattle.poseidon_rounds.specs.Sparse.{lower, SparseTables}
+use Rattle.poseidon_rounds.specs.Tests.{alike, products, diagonal_place, diagonal_row, shared_row, whole_row, matrix_test, raised_to, lower_rows, pre_sparse_from, pre_sparse_test, after_test, before_test, constants_test, zeros_test}
+use Rattle.poseidon_rounds.specs.Tables.{Diagonals, block_place, Blocks, pre_sparse, addend_before, addend_after, TablesOf}
 use Rattle.poseidon_rounds.proofs.Congruence.{opposite}
-use Rattle.poseidon_rounds.proofs.Linear.{sum_times}
 use Rattle.poseidon_rounds.proofs.Dots.{alike_at, every_at, products_at}
-use Rattle.poseidon_rounds.proofs.MatrixPowers.{at, MatrixPower, raised_power, lower_power}
+use Rattle.poseidon_rounds.proofs.MatrixPowers.{MatrixPower, raised_power, lower_power}
 use Rattle.poseidon_rounds.proofs.Tests.{after_first, after_rest, before_first, before_rest, zeros_right, constants_right}
 
 -- the places of the diagonals

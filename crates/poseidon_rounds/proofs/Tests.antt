@@ -1,14 +1,12 @@
 -- Tables that pass the tests are right.
 -- Assumes nothing.
 use mathlib.Core.Path.{◌≡◌, ◌∙◌, sym, ap, ap₂, refl, subst}
-use mathlib.Core.Bool.{Bool, true, false, true≢false}
+use mathlib.Core.Bool.{true}
 use mathlib.Core.List.{List, [], ◌∷◌}
 use mathlib.Core.Logic.{⊎_elim}
 use Prim.Native.Nat.{ℕ, zero, suc, ◌+◌, ◌*◌, ◌-◌, ◌%◌, ◌<◌, ◌≤◌, zero-le, suc-le-suc}
-use native.Mathlib.Nat.{mul_assoc, mul_comm, mul-add, add-mul, mul-one, one-mul, zero-mul, mul_left_comm, eq-or-lt_of_le, le_of_suc-le-suc, not-suc-le-zero, add_assoc}
-use native.Mathlib.Numerals.{add-one, one-add}
+use native.Mathlib.Nat.{mul_assoc, mul_comm, one-mul, zero-mul, eq-or-lt_of_le, add_assoc}
 use native.Mathlib.Omega.{arith}
-use lib.Dec.{eqb}
 use lib.ListN.{length, get_or, drop}
 use lib.Seq.{get_or-drop}
 use borrow.Author.Tests.{eqb-true}
@@ -17,14 +15,14 @@ use Rattle.basics.specs.Lists.{sum, tabulate}
 use Rattle.basics.proofs.Cases.{and_left, and_right}
 use Rattle.basics.proofs.Sums.{sum_same}
 use Rattle.basics.proofs.Fill.{tabulate_at, length_tabulate}
-use Rattle.field.proofs.Congruence.{Congruent, reflexive, transitive, remainder, add_congruent, mul_congruent}
-use Rattle.poseidon_rounds.specs.Linear.{turn, times, inner, scaled}
+use Rattle.field.proofs.Congruence.{Congruent, reflexive, transitive, add_congruent, mul_congruent}
+use Rattle.poseidon_rounds.specs.Linear.{turn, times, inner}
 use Rattle.poseidon_rounds.specs.Instance.{Instance, matrix, constant}
 use Rattle.poseidon_rounds.specs.Sparse.{running, carried, lower, SparseTables}
-use Rattle.poseidon_rounds.specs.Tests.{alike, every, dot, products, turned, column_of, row_of, column_test, row_test, zero_test, running_with, running_of, first_constant_test, first_constants_from, sparse_test, first_constants_test, scaled_by, after_test, before_test, constants_test, zeros_test}
+use Rattle.poseidon_rounds.specs.Tests.{alike, dot, turned, column_of, row_of, column_test, row_test, zero_test, running_with, running_of, first_constant_test, first_constants_from, sparse_test, first_constants_test, scaled_by, after_test, before_test, constants_test, zeros_test}
 use Rattle.poseidon_rounds.proofs.Congruence.{opposite, sum_congruent}
 use Rattle.poseidon_rounds.proofs.Dots.{alike_at, every_at, dot_23, products_long, products_at}
-use Rattle.poseidon_rounds.proofs.Linear.{sum_first, sum_times, times_scale, times_same, times_turn, row_turn, turn_scaled}
+use Rattle.poseidon_rounds.proofs.Linear.{sum_times, times_scale, times_same, times_turn, row_turn, turn_scaled}
 
 module _ (F : Instance) where
   abbrev Is : ℕ → ℕ → Type 0

@@ -1,8 +1,8 @@
 -- What the sparse form's tables hold, and what its partial rounds keep, for a permutation F, any B as 2^32, and K the number that the power divides out.
-use Rattle.std.specs.Prelude.{◌≡◌, List, ℕ, zero, suc, ◌+◌, ◌*◌, ◌%◌, ◌^◌, ◌<◌, get_or}
+use Rattle.std.specs.Prelude.{◌≡◌, List, ℕ, zero, suc, ◌+◌, ◌*◌, ◌<◌, get_or}
 use Rattle.basics.specs.Lists.{sum}
 use Rattle.field.proofs.Congruence.{Congruent}
-use Rattle.poseidon_rounds.specs.Linear.{turn, times, inner, scaled}
+use Rattle.poseidon_rounds.specs.Linear.{times, inner, scaled}
 use Rattle.poseidon_rounds.specs.Instance.{Instance, matrix, constant}
 
 -- what the constants of the partial rounds before s come to in elements 1 to 23

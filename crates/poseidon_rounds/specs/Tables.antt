@@ -1,5 +1,5 @@
 -- The tables of the fast permutation, for an instance F. The word is 2^32.
-use Rattle.std.specs.Prelude.{◌≡◌, List, ℕ, zero, suc, ◌+◌, ◌*◌, ◌-◌, ◌%◌, ◌/◌, ◌^◌, ◌<◌, get_or}
+use Rattle.std.specs.Prelude.{◌≡◌, List, ℕ, zero, suc, ◌+◌, ◌*◌, ◌-◌, ◌%◌, ◌/◌, ◌<◌, get_or}
 use Rattle.field.proofs.Congruence.{Congruent}
 use Rattle.montgomery.specs.Montgomery.{scale}
 use Rattle.poseidon_rounds.specs.Instance.{Instance, matrix, constant}

@@ -1,6 +1,6 @@
 -- `poseidon_matrix::row` meets its contract: the parts summed apart make the sum of the products so far.
 -- Assumes nothing.
-use Rattle.std.proofs.Common.{◌≡◌, ℕ, ◌+◌, ◌-◌, refl, ap, ◌∙◌, arith, rules}
+use Rattle.std.proofs.Common.{◌≡◌, ℕ, ◌+◌, refl, ap, ◌∙◌, arith, rules}
 use Rattle.basics.specs.Lists.{sum}
 use Rattle.montgomery.specs.Montgomery.{low_product}
 use Rattle.montgomery.proofs.Reduction.{reduced_at}
