@@ -1,6 +1,5 @@
 -- `hex_fields::words_of` meets its contract.
 -- Assumes nothing.
-use Prim.Native.Nat.{◌-◌}
 use Rattle.basics.proofs.Fill.{start, step, end}
 use Rattle.hex_fields.specs.Fields.{field_word, field_words}
 use borrow.Author.Rules.{rules}
