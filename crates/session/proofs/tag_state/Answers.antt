@@ -16,7 +16,7 @@ loop-k-init c = (search rules, refl)
 
 pub loop-k-preserved : goal.loop-k-preserved
 loop-k-preserved c =
-    let elements = c.args.t1 in
+    let elements = c.args.elements in
     let k = c.loop-k.k in
     let long : ◌≡◌ {A = ℕ} 8 (length elements) = search rules in (
       search rules,
@@ -27,7 +27,7 @@ loop-k-preserved c =
 pub returns : goal.returns
 unfolding tag_state
 returns c =
-    let elements = c.args.t1 in
+    let elements = c.args.elements in
     let long : ◌≡◌ {A = ℕ} 8 (length elements) = search rules in
     let all-elements : c.loop-k.k ≡ 8 = omega arith in
     c.loop-k.invariant.1

@@ -4,8 +4,8 @@ use mathlib.Core.Path.{refl}
 use Rattle.session.specs.Steps.{moved_to}
 use Rattle.session.proofs.Session.move_on.Goals as goal
 
-pub UNKNOWN-overflow-add-t6 : goal.UNKNOWN-overflow-add-t6
-UNKNOWN-overflow-add-t6 c = record { fits = c.requires.fits }
+pub overflow_add-result : goal.overflow_add-result
+overflow_add-result c = record { fits = c.requires.fits }
 
 pub returns : goal.returns
 unfolding moved_to

@@ -20,25 +20,27 @@ use Rattle.session.proofs.Numbers.{Takes, answer_accepted, answer_refused, call_
 use Rattle.session.proofs.Buffers.{buffer_left, buffer_written}
 use borrow.Author.Rules.{rules}
 use Rattle.session.proofs.Session.squeeze_step.Goals as goal
+use Rattle.session.proofs.Session.squeeze_step.Goals.{After-call_number-number}
 
 -- the number is that of the record's rows
-number : (c : tie.After-call-number) → let args = c.args in c.call_number-number.result ≡ first_number (call_rows false (length args.output.now) args.self)
+number : (c : After-call_number-number) → let args = c.args in c.call_number-number.result ≡ first_number (call_rows false (length args.output.now) args.self)
 number c =
     let args = c.args in
     c.call_number-number.ensures
     ∙ ap (λ (s : Scalars). first_number (call_rows false (length args.output.now) (record_of s args.self.state args.self.words))) c.scalars.ensures
 
 -- behind the rows of the call
-takes : (c : tie.Else1) → let args = c.args in Takes args.self false (length args.output.now)
-takes c = call_takes _ _ _ (sym (number c) ∙ c.if-number-ne-ACCEPTED.false)
+takes : (c : After-call_number-number) → c.call_number-number.result ≡ accepted → let args = c.args in Takes args.self false (length args.output.now)
+takes c e = call_takes _ _ _ (sym (number c) ∙ e)
 
 pub returns-then-number-ne-ACCEPTED : goal.returns-then-number-ne-ACCEPTED
 unfolding squeeze
 returns-then-number-ne-ACCEPTED c =
+    let at = (goal.at.returns-then-number-ne-ACCEPTED c).After-call_number-number in
     let args = c.args in
     let r = args.self in
     let buffer = args.output.now in
-    let same = number c in
+    let same = number at in
     let refused : first_number (call_rows false (length buffer) r) ≢ accepted = λ e. c.if-number-ne-ACCEPTED.true (same ∙ e) in (
       c.refuse.ensures ∙ ap (λ (n : ℕ). refused_with n r) same ∙ sym (answer_refused r (squeeze_all r (length buffer)) _ refused),
       sym (buffer_left r buffer refused),
@@ -46,26 +48,28 @@ returns-then-number-ne-ACCEPTED c =
 
 pub move_on-requires : goal.move_on-requires
 move_on-requires c =
+    let at = (goal.at.move_on-requires c).After-call_number-number in
     let args = c.args in
-    rw (c.squeeze-sponge.ensures.0, c.field_of-field.ensures) (squeeze_countable args.self (length args.output.now) (takes c))
+    rw (c.squeeze-sponge.ensures.0, c.field_of-field.ensures) (squeeze_countable args.self (length args.output.now) (takes at c.if-number-ne-ACCEPTED.false))
 
 pub returns : goal.returns
 unfolding squeeze giving
 returns c =
+    let at = (goal.at.returns c).After-call_number-number in
     let args = c.args in
     let r = args.self in
     let buffer = args.output.now in
     let n = length buffer in
-    let right = sym (number c) ∙ c.if-number-ne-ACCEPTED.false in
+    let right = sym (number at) ∙ c.if-number-ne-ACCEPTED.false in
     let left = c.squeeze-sponge.ensures.0 ∙ ap (λ (f : Field). squeeze_elements (parameters f) (uncounted r) n) c.field_of-field.ensures in
     let out = c.squeeze-sponge.ensures.1 ∙ ap (λ (f : Field). squeezed_elements (parameters f) (uncounted r) n) c.field_of-field.ensures in
-    let same : length c.squeeze-sponge.new.1.1.1.1.0 ≡ n = search rules in
+    let same : length c.squeeze-sponge.new.output ≡ n = search rules in
     let next = c.move_on.ensures
     ∙ ap (moved_to r r.words _) c.place_after-place.ensures
     ∙ moved_to_law r _ _
     ∙ ap (moved_on r _) same
     ∙ ap (λ (s : Sponge). moved_on r s n) left
-    ∙ squeeze_all_law r n (takes c).ranges in (
+    ∙ squeeze_all_law r n (takes at c.if-number-ne-ACCEPTED.false).fits in (
       (λ i. record { number = c.if-number-ne-ACCEPTED.false i; session = next i }) ∙ sym (answer_accepted r (squeeze_all r n) _ right),
       out ∙ squeezed_all_law r n ∙ sym (buffer_written r buffer right),
     )

@@ -9,7 +9,7 @@ use lib.Seq.{length-take-le}
 use Rattle.basics.specs.Numbers.{accepted}
 use Rattle.sha3.specs.Sponge.{sha3}
 use Rattle.field.specs.Field.{is_field}
-use Rattle.pattern.specs.Opening.{Opening, opening, opening_number, with_words}
+use Rattle.pattern.specs.Opening.{opening, opening_number, with_words}
 use Rattle.pattern.proofs.Checked.{number_checked, started, answer_checked, count_fits, count_inside}
 use Rattle.tag.specs.TagString.{is_form, tag_string}
 use Rattle.tag.specs.Elements.{tag_elements}
@@ -19,38 +19,32 @@ use Rattle.session.specs.Calls.{giving, start_record}
 use Rattle.session.proofs.Opening.{start_unknown, start_form_unknown, start_refused, start_opens}
 use borrow.Author.Rules.{rules}
 use Rattle.session.proofs.Session.start.Goals as goal
-
--- the opening that is checked, and the form
-abbrev checking : tie.After-check → Opening
-checking c = let args = c.args in opening args.words.now args.separator.now
-
-abbrev form : tie.After-check → ℕ
-form c = c.args.form
+use Rattle.session.proofs.Session.start.Goals.{After-write_string-written, Else-merged-ne-ACCEPTED, Else-not-is_field, Else-not-is_form}
 
 -- the field number names a field
-named : (c : tie.Else1) → is_field c.args.field ≡ true
+named : (c : Else-not-is_field) → is_field c.args.field ≡ true
 named c = sym c.is_field.ensures ∙ not-false _ c.if-not-is_field.false-raw
 
 -- and the form number a form
-formed : (c : tie.Else2) → is_form c.args.form ≡ true
+formed : (c : Else-not-is_form) → is_form c.args.form ≡ true
 formed c = sym c.is_form.ensures ∙ not-false _ c.if-not-is_form.false-raw
 
 -- what is known where it is accepted
-starts : (c : tie.Else3) → opening_number (checking c) ≡ accepted
-starts c = started (checking c) _ c.check-merged.ensures c.if-merged-ne-ACCEPTED.false
+starts : (c : Else-merged-ne-ACCEPTED) → opening_number (opening c.args.words.now c.args.separator.now) ≡ accepted
+starts c = started (opening c.args.words.now c.args.separator.now) _ c.check-merged.ensures c.if-merged-ne-ACCEPTED.false
 
-count-in : (c : tie.Else3) → c.check-merged.result.count ≤ length c.check-merged.result.words
-count-in c = count_inside (checking c) _ c.check-merged.ensures c.if-merged-ne-ACCEPTED.false
+count-in : (c : Else-merged-ne-ACCEPTED) → c.check-merged.result.count ≤ length c.check-merged.result.words
+count-in c = count_inside (opening c.args.words.now c.args.separator.now) _ c.check-merged.ensures c.if-merged-ne-ACCEPTED.false
 
 -- where the string was written it lies in the bytes lent for it, and is the tag string
-string-fits : (c : tie.After-write-string) → c.write_string-written.result.length ≤ length c.write_string-written.new.1.1.1.0
+string-fits : (c : After-write_string-written) → c.write_string-written.result.length ≤ length c.write_string-written.new.buffer
 string-fits c =
-    string_inside _ (checking c) _ c.check-merged.ensures c.if-merged-ne-ACCEPTED.false _ _ c.write_string-written.ensures.0 c.write_string-written.ensures.1
+    string_inside _ (opening c.args.words.now c.args.separator.now) _ c.check-merged.ensures c.if-merged-ne-ACCEPTED.false _ _ c.write_string-written.ensures.0 c.write_string-written.ensures.1
 
-string-read : (c : tie.After-write-string)
-    → take c.write_string-written.result.length c.write_string-written.new.1.1.1.0 ≡ tag_string (form c) (checking c)
+string-read : (c : After-write_string-written)
+    → take c.write_string-written.result.length c.write_string-written.new.buffer ≡ tag_string c.args.form (opening c.args.words.now c.args.separator.now)
 string-read c =
-    string_written_law _ (checking c) _ c.check-merged.ensures c.if-merged-ne-ACCEPTED.false _ _ c.write_string-written.ensures.0 c.write_string-written.ensures.1
+    string_written_law _ (opening c.args.words.now c.args.separator.now) _ c.check-merged.ensures c.if-merged-ne-ACCEPTED.false _ _ c.write_string-written.ensures.0 c.write_string-written.ensures.1
 
 pub returns-then-not-is_field : goal.returns-then-not-is_field
 returns-then-not-is_field c =
@@ -60,47 +54,62 @@ returns-then-not-is_field c =
 
 pub returns-then-not-is_form : goal.returns-then-not-is_form
 returns-then-not-is_form c =
+    let at = (goal.at.returns-then-not-is_form c).Else-not-is_field in
     let args = c.args in
     let unknown = sym c.is_form.ensures ∙ not-true _ c.if-not-is_form.true-raw in
-    c.wipe-then-not-is_form.ensures ∙ sym (start_form_unknown args.field args.form (opening args.words.now args.separator.now) (named c) unknown)
+    c.wipe-then-not-is_form.ensures ∙ sym (start_form_unknown args.field args.form (opening args.words.now args.separator.now) (named at) unknown)
 
 pub returns-then-merged-ne-ACCEPTED : goal.returns-then-merged-ne-ACCEPTED
 returns-then-merged-ne-ACCEPTED c =
-    let o = checking c in
+    let at_else_not_is_field = (goal.at.returns-then-merged-ne-ACCEPTED c).Else-not-is_field in
+    let at_else_not_is_form = (goal.at.returns-then-merged-ne-ACCEPTED c).Else-not-is_form in
+    let o = opening c.args.words.now c.args.separator.now in
     let number = number_checked o _ c.check-merged.ensures in
     c.wipe-then-merged-ne-ACCEPTED.ensures
     ∙ ap (λ (n : ℕ). giving n wiped) number
-    ∙ sym (start_refused _ _ o (named c) (formed c) (λ e. c.if-merged-ne-ACCEPTED.true (number ∙ e)))
+    ∙ sym (start_refused _ _ o (named at_else_not_is_field) (formed at_else_not_is_form) (λ e. c.if-merged-ne-ACCEPTED.true (number ∙ e)))
 
 pub slice_bounds-merged_words-end : goal.slice_bounds-merged_words-end
-slice_bounds-merged_words-end c = count-in c
+slice_bounds-merged_words-end c =
+    let at = (goal.at.slice_bounds-merged_words-end c).Else-merged-ne-ACCEPTED in
+    count-in at
 
 pub slice_bounds-write_string-end : goal.slice_bounds-write_string-end
-slice_bounds-write_string-end c = sym (length-take-le _ _ (count-in c))
+slice_bounds-write_string-end c =
+    let at = (goal.at.slice_bounds-write_string-end c).Else-merged-ne-ACCEPTED in
+    sym (length-take-le _ _ (count-in at))
 
 pub slice_bounds-string-end : goal.slice_bounds-string-end
-slice_bounds-string-end c = string-fits c
+slice_bounds-string-end c =
+    let at = (goal.at.slice_bounds-string-end c).After-write_string-written in
+    string-fits at
 
 pub slice_bounds-sha3_256-end : goal.slice_bounds-sha3_256-end
-slice_bounds-sha3_256-end c = sym (length-take-le _ _ (string-fits c))
+slice_bounds-sha3_256-end c =
+    let at = (goal.at.slice_bounds-sha3_256-end c).After-write_string-written in
+    sym (length-take-le _ _ (string-fits at))
 
-pub UNKNOWN-overflow-cast-t23 : goal.UNKNOWN-overflow-cast-t23
-UNKNOWN-overflow-cast-t23 c =
-    let few = count_fits (checking c) _ c.check-merged.ensures c.if-merged-ne-ACCEPTED.false in
+pub overflow_cast-result : goal.overflow_cast-result
+overflow_cast-result c =
+    let few = count_fits (opening c.args.words.now c.args.separator.now) _ c.check-merged.ensures c.if-merged-ne-ACCEPTED.false in
     search rules
 
 pub returns : goal.returns
 unfolding giving start_record open_record with_words
 returns c =
-    let o = checking c in
-    let digest = c.sha3_256-digest.ensures ∙ ap sha3 (string-read c) in
+    let at_after_write_string_written = (goal.at.returns c).After-write_string-written in
+    let at_else_not_is_field = (goal.at.returns c).Else-not-is_field in
+    let at_else_not_is_form = (goal.at.returns c).Else-not-is_form in
+    let at_else_merged_ne_accepted = (goal.at.returns c).Else-merged-ne-ACCEPTED in
+    let o = opening c.args.words.now c.args.separator.now in
+    let digest = c.sha3_256-digest.ensures ∙ ap sha3 (string-read at_after_write_string_written) in
     let state = c.tag_state-state.ensures ∙ ap tag_state (c.elements.ensures ∙ ap tag_elements digest) in
     let merged = answer_checked o _ c.check-merged.ensures c.if-merged-ne-ACCEPTED.false in
     (λ i.
     giving accepted (record {
       status = opened;
       field = c.args.field;
-      form = form c;
+      form = c.args.form;
       state = state i;
       words = (merged i).words;
       count = (merged i).count;
@@ -110,4 +119,4 @@ returns c =
       squeeze_position = 0;
       permutations = 0;
     }))
-    ∙ sym (start_opens _ _ o (named c) (formed c) (starts c))
+    ∙ sym (start_opens _ _ o (named at_else_not_is_field) (formed at_else_not_is_form) (starts at_else_merged_ne_accepted))
