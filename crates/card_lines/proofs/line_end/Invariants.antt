@@ -1,3 +1,4 @@
+-- The loop of `line_end` has passed over bytes before the first newline. Its measure is how many bytes are left.
 use mathlib.Core.Path.{◌≡◌}
 use Prim.Native.Nat.{◌+◌, ◌-◌, ◌≤◌}
 use lib.ListN.{length, drop}

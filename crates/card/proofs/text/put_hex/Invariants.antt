@@ -1,6 +1,6 @@
 -- The loop of `put_hex` has put the digits of the first bytes into their place.
 use mathlib.Core.Path.{◌≡◌}
-use Prim.Native.Nat.{◌-◌, ◌≤◌}
+use Prim.Native.Nat.{◌≤◌}
 use lib.ListN.{length, take}
 use Rattle.card_grammar.specs.Text.{hex}
 use Rattle.basics.specs.Lists.{placed}
