@@ -1,6 +1,6 @@
 -- START's one pass over the declared words. `pass_step` is what the pass does with one word: the contract of the private function that takes a word
 -- cites it, and the loop's invariant is the equation that stands here. `passed ws` is what document 02, P2, has the pass hold after the words ws, and `pass ws` the steps, word by word.
-use Rattle.std.specs.Prelude.{◌≡◌, refl, not, List, [], ◌∷◌, ◌++◌, ◌≢◌, ℕ, suc, ◌-◌, ◌*◌, ◌≤◌, ◌<◌, ltb, eqb, length, get_or, take, replicate}
+use Rattle.std.specs.Prelude.{◌≡◌, refl, not, List, [], ◌∷◌, ◌++◌, ◌≢◌, ℕ, zero, suc, ◌-◌, ◌*◌, ◌≤◌, ◌<◌, ltb, eqb, length, get_or, take, replicate}
 use Rattle.std.proofs.Common.{sym, ◌∙◌, arith, ne_eqb}
 use Rattle.std.proofs.lemmas.Bool.{eqb-false}
 use Rattle.basics.specs.Logic.{when◌then◌else◌, ◌or◌, any}
@@ -55,6 +55,7 @@ after_each_word v vs w = step_holds (v ∷ vs) w
 pub at_every_prefix : (ws : List ℕ) (k : ℕ) → 1 ≤ k → k ≤ length ws → pass (take k ws) ≡ passed (take k ws)
 unfolding pass held_after
 at_every_prefix [] k h l = absurd (omega arith)
+at_every_prefix (w ∷ ws) zero h l = elim h [ ]
 at_every_prefix (w ∷ ws) (suc k) h l = pass_from_law [] (take (suc k) (w ∷ ws))
 
 -- The number that it holds is that one. With it, it holds no words, and without one the merged words.
