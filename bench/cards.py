@@ -1,7 +1,7 @@
 #!/usr/bin/env python3
 """A book of a million cards: the program, the same job in Python (tests/cards.py), and the program on all cores by GNU parallel, in turn.
 
-  bench/cards.py target/bin/cards
+  bench/cards.py crates/cards/out/cards
 
 Medians of the rounds are printed; Python has one round.
 """

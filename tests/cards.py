@@ -3,8 +3,8 @@
 
   tests/cards.py book > crates/cards/stdin
   tests/cards.py oracle < crates/cards/stdin > crates/cards/stdout
-  tests/cards.py test target/bin/cards [SEED [LINES]]
-  tests/cards.py compare target/bin/cards
+  tests/cards.py test crates/cards/out/cards [SEED [LINES]]
+  tests/cards.py compare crates/cards/out/cards
   tests/cards.py answers < BOOK
 
 The stored answers are those of the second implementation, in Python, written from document 01 by other hands (tests/oracle). `test` does

@@ -1,36 +1,42 @@
 #!/usr/bin/env python3
-"""How long each crate takes in the gate, from what `rt ci` prints.
+"""When each crate was proved in the gate, and how many of its must-fail edits were tried, from what `rt ci` prints.
 
-  rt ci | tests/gate_times.py
+  rt ci | tests/gate_times.py FILE
 
-A row has the crate's own proofs, its must-fail edits, and what both take, in seconds of one core.
+Passes the lines on as they come, and writes a table to FILE. A row has the seconds since the start at which the crate was proved, or "kept" where an
+earlier run on this machine proved the same, and how many of its edits were refused. `rt ci` prints no time of its own.
 """
 import re
 import sys
+import time
 
-PROVED = re.compile(r"rt: (\w+) proved \((\d+) s\)")
-REFUSED = re.compile(r"rt: must-fail (\w+)/\w+: refused.*; (\d+) s\)")
+PROVED, KEPT = re.compile(r"rt: (\w+) proved$"), re.compile(r"rt: (\w+) is kept: ")
+REFUSED = re.compile(r"(?:rt: )?must-fail (\w+)/\S+: refused")
 
 
-def times(lines):
-    """Of each crate: seconds of its proofs, how many edits, and their seconds."""
-    found = {}
-    for line in lines:
-        proved, refused = PROVED.match(line), REFUSED.match(line)
-        if proved:
-            found.setdefault(proved[1], [0, 0, 0])[0] += int(proved[2])
+def table(rows, seconds):
+    yield "| crate | proved after, s | edits refused |"
+    yield "|---|---|---|"
+    for crate, (proved, edits) in rows.items():
+        yield f"| `{crate}` | {proved} | {edits or ''} |"
+    yield f"| all | {seconds} | {sum(edits for _, edits in rows.values())} |"
+
+
+def main(path):
+    rows, start = {}, time.monotonic()
+    for line in sys.stdin:
+        print(line, end="", flush=True)
+        seconds = round(time.monotonic() - start)
+        proved, kept, refused = PROVED.match(line), KEPT.match(line), REFUSED.match(line)
+        if proved or kept:
+            rows.setdefault((proved or kept)[1], ["", 0])[0] = seconds if proved else "kept"
         if refused:
-            row = found.setdefault(refused[1], [0, 0, 0])
-            row[1] += 1
-            row[2] += int(refused[2])
-    return found
+            rows.setdefault(refused[1], ["", 0])[1] += 1
+    with open(path, "w") as file:
+        file.write("\n".join(table(rows, round(time.monotonic() - start))) + "\n")
 
 
 if __name__ == "__main__":
-    rows = times(sys.stdin)
-    print("| crate | proofs, s | edits | edits, s | in all, s |")
-    print("|---|---|---|---|---|")
-    for crate, (proofs, edits, seconds) in sorted(rows.items(), key=lambda row: -row[1][0] - row[1][2]):
-        print(f"| `{crate}` | {proofs} | {edits or ''} | {seconds or ''} | {proofs + seconds} |")
-    proofs, edits, seconds = map(sum, zip(*rows.values()))
-    print(f"| all | {proofs} | {edits} | {seconds} | {proofs + seconds} |")
+    if len(sys.argv) != 2:
+        sys.exit(__doc__)
+    main(sys.argv[1])

@@ -6,7 +6,7 @@
   tests/mutants.py NAME..
 
 The proofs end at the library's functions, so what stands over them is only tested; this says what those tests notice. `test` puts one fault at a
-time into a copy of bindings/ under target/mutants, two at once, and runs the tests there, against the archive that `rt staticlib tuilarder` made in
+time into a copy of bindings/ under target/mutants, two at once, and runs the tests there, against the archive that `bindings/staticlib` made in
 target/staticlib, until one fails. NAME.. tries only these, and `list` says what each fault does. A fault that is none is in `NONE` with the reason.
 Fails where a fault survives, or one in `NONE` does not; where the crate or the header alone does not compile with a fault that is not in `COMPILER`,
 since a slip in the fault's own text would look like one that is noticed; where a text to replace does not stand once in its file; and where a
@@ -890,7 +890,7 @@ def worker(folder, kinds, waiting, results):
 
 def try_all(faults):
     if not os.path.isfile(ARCHIVE):
-        sys.exit("no archive at target/staticlib/libtuilarder.a (rt staticlib tuilarder makes it)")
+        sys.exit("no archive at target/staticlib/libtuilarder.a (bindings/staticlib makes it)")
     waiting, results = queue.Queue(), []
     for fault in faults:
         waiting.put(fault)

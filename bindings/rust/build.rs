@@ -1,9 +1,8 @@
-//! Links the static library: the one in `TUILARDER_ARCHIVE_DIR`, or else the one that `rt staticlib tuilarder` makes of this checkout. Either
+//! Links the static library: the one in `TUILARDER_ARCHIVE_DIR`, or else the one that `bindings/staticlib` makes of this checkout. Either
 //! has to be of the version that the crate is written for.
 
 use std::env;
 use std::fs;
-use std::io::ErrorKind;
 use std::path::{Path, PathBuf};
 use std::process::{exit, Command};
 
@@ -19,7 +18,7 @@ fn main() {
     let directory = env::var_os(DIRECTORY).filter(|directory| !directory.is_empty());
     let (archive, origin) = match &directory {
         Some(directory) => (given(Path::new(directory)), DIRECTORY),
-        None => (built(), "rt staticlib tuilarder"),
+        None => (built(), "bindings/staticlib"),
     };
     check_version(&archive, origin);
     // rt removes its own output when it starts from nothing, so cargo keeps a copy with what it builds
@@ -81,17 +80,17 @@ fn built() -> PathBuf {
         println!("cargo:rerun-if-changed={}", root.join(part).display());
     }
     // what rt says is for people: on this script's standard output cargo would read it
-    let output = match Command::new("rt").args(["staticlib", "tuilarder"]).current_dir(&root).output() {
+    let output = match Command::new(root.join("bindings/staticlib")).output() {
         Ok(output) => output,
-        Err(error) if error.kind() == ErrorKind::NotFound => fail(
-            "rt, of the Rattle kit, is not on the path. Put it there, or set TUILARDER_ARCHIVE_DIR to the directory of a libtuilarder.a",
-        ),
-        Err(error) => fail(&format!("rt: {error}")),
+        Err(error) => fail(&format!("bindings/staticlib: {error}")),
     };
     if !output.status.success() {
         eprint!("{}", String::from_utf8_lossy(&output.stdout));
         eprint!("{}", String::from_utf8_lossy(&output.stderr));
-        fail(&format!("rt staticlib tuilarder: {}", output.status));
+        fail(&format!(
+            "bindings/staticlib: {}. It needs rt, of the Rattle kit, on the path; or set TUILARDER_ARCHIVE_DIR to the directory of a libtuilarder.a",
+            output.status
+        ));
     }
     root.join("target/staticlib/libtuilarder.a")
 }
