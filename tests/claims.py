@@ -7,7 +7,7 @@
   tests/claims.py papers FOLDER
 
 `write` writes what documents have from the tree itself: into docs/CLAIMS.md the table of what each contract rules out, by the line `of:` of every
-must-fail edit, and how many lines there are to read; into README.md the closing lines of the gate and of `rt check cards`. `test` fails where a
+must-fail edit, and how many lines there are to read; into README.md the closing line of the gate and how many libraries are under `cards`. `test` fails where a
 document has not what `write` would write, where an edit names no contract, or one that is not in the tree, or changes a text that its file has not or
 has twice, where a public function has no `ensures`, has a `requires` or a `ghost`, under which it might say nothing, or has fewer than two edits,
 where the public functions whose contract is no equation, or one under a condition, are not those that docs/CLAIMS.md names, where a public constant
@@ -135,8 +135,8 @@ def closing():
 
 
 def checked():
-    """The last line of `rt check cards`."""
-    return f"rt: ok, {len(with_those_below('cards'))} crates proved"
+    """How many libraries are proved with the program `cards`."""
+    return f"the {len(with_those_below('cards')) - 1} libraries under it"
 
 
 def with_table(text):
@@ -152,7 +152,7 @@ def written():
     """Path and text of the documents as they have to be."""
     readme = re.sub(r"^\d+ passed, \d+ failed$", closing(), read(README), flags=re.MULTILINE)
     return {CLAIMS: with_lines(with_table(read(CLAIMS))),
-            README: re.sub(r"^rt: ok, \d+ crates proved$", checked(), readme, flags=re.MULTILINE)}
+            README: re.sub(r"the \d+ libraries under it", checked(), readme)}
 
 
 # ---- what the documents cite
@@ -281,7 +281,7 @@ def findings():
 def mistakes():
     return [
         (README, closing(), "1 passed, 0 failed", closing()),
-        (README, checked(), "rt: ok, 1 crates proved", checked()),
+        (README, checked(), "the 1 libraries under it", checked()),
         (CLAIMS, row("field::reduce", [edit for edit in edits() if "field::reduce" in edit.contracts]), "", "`field::reduce`"),
         (CLAIMS, "`field/sum_of_first`", "`field/sum_of_second`", "`field::add`"),
         (CLAIMS, "| `claims/ThirdDemand.third_demand` | `claims/", "| these theorems | `claims/", "these theorems"),
