@@ -1,6 +1,6 @@
 -- Laws of the product in blocks: its sums fit, and its rows are those of the matrix.
 -- Assumes nothing.
-use Rattle.std.proofs.Common.{◌≡◌, ℕ, zero, suc, ◌+◌, ◌-◌, ◌*◌, ◌/◌, ◌%◌, ◌^◌, ◌<◌, ◌≤◌, List, length, get_or, set, sym, refl, ap, ◌∙◌, subst, zero-le, not-suc-le-zero, add-zero, mod-lt, mod-eq_of_lt, zero-lt-suc, add-mul, mul-le-mul, add_comm, one-mul, zero-mul, mul-one, mul-add, arith, length-set, get_or-set_other, get_or-set_same}
+use Rattle.std.proofs.Common.{◌≡◌, ℕ, ◌+◌, ◌-◌, ◌*◌, ◌/◌, ◌%◌, ◌^◌, ◌<◌, ◌≤◌, List, length, get_or, set, sym, refl, ap, ◌∙◌, subst, zero-le, not-suc-le-zero, add-zero, mod-eq_of_lt, zero-lt-suc, add-mul, mul-le-mul, add_comm, one-mul, zero-mul, mul-one, mul-add, arith, length-set, get_or-set_other, get_or-set_same}
 use native.Mathlib.Nat.{le-pred_of_lt}
 use lib.ListN.{get_or-eq_default}
 use Rattle.basics.specs.Lists.{sum, Below}
@@ -14,7 +14,7 @@ use Rattle.poseidon_rounds.specs.Tables.{block_place, Blocks}
 use Rattle.poseidon_rounds.proofs.Congruence.{opposite, sum_congruent}
 use Rattle.poseidon_rounds.proofs.Linear.{sum_add}
 use Rattle.poseidon_rounds.proofs.Places.{either}
-use Rattle.poseidon_blocks.specs.Blocks.{block_products, PartialSum, Closed, BlockRow, TwoRows, Lowered, MatrixRow}
+use Rattle.poseidon_blocks.specs.Blocks.{block_products, PartialSum, Closed, BlockRow, Lowered, MatrixRow}
 use Rattle.poseidon_matrix.proofs.Laws.{sum_two, high_bound}
 use Rattle.poseidon_matrix.proofs.Rotation.{around}
 

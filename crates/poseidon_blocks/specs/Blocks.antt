@@ -1,5 +1,5 @@
 -- The product of a matrix in three blocks of 12 rows with a state. A half of the state stands twice in its list.
-use Rattle.std.specs.Prelude.{◌≡◌, ℕ, ◌+◌, ◌*◌, ◌%◌, ◌<◌, ◌≤◌, List, length, slice_index}
+use Rattle.std.specs.Prelude.{◌≡◌, ℕ, ◌+◌, ◌*◌, ◌%◌, ◌<◌, ◌≤◌, List, slice_index}
 use Rattle.basics.specs.Lists.{sum, Below}
 use Rattle.field.proofs.Congruence.{Congruent}
 use Rattle.montgomery.specs.Montgomery.{Modulus, Element}

@@ -1,6 +1,6 @@
 -- `poseidon_blocks::multiply` meets its contract.
 -- Assumes nothing.
-use Rattle.std.proofs.Common.{◌≡◌, ℕ, ◌+◌, ◌-◌, ◌*◌, ◌%◌, get_or, refl, subst, arith}
+use Rattle.std.proofs.Common.{◌≡◌, ℕ, ◌+◌, ◌*◌, ◌%◌, get_or, refl, subst, arith}
 use Rattle.poseidon_blocks.specs.Blocks.{MatrixRow}
 use Rattle.poseidon_blocks.proofs.Blocks.{halves_start, halves_step, halves_end, at_first_rows, at_last_rows}
 use Rattle.poseidon_blocks.proofs.multiply.Goals as goal

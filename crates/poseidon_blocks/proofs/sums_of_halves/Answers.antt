@@ -1,6 +1,6 @@
 -- `poseidon_blocks::sums_of_halves` meets its contract.
 -- Assumes nothing.
-use Rattle.std.proofs.Common.{◌-◌, refl, arith}
+use Rattle.std.proofs.Common.{refl, arith}
 use Rattle.poseidon_rounds.proofs.Places.{start, step, end}
 use Rattle.poseidon_blocks.proofs.sums_of_halves.Goals as goal
 

@@ -1,6 +1,6 @@
 -- `poseidon_blocks::two_rows` meets its contract.
 -- Assumes nothing.
-use Rattle.std.proofs.Common.{◌≡◌, ◌-◌, refl, arith, rules}
+use Rattle.std.proofs.Common.{◌≡◌, refl, arith, rules}
 use Rattle.poseidon_blocks.proofs.Blocks.{sum_start, block_row}
 use Rattle.poseidon_blocks.proofs.two_rows.Goals as goal
 
