@@ -5,7 +5,11 @@ ghost use Rattle.std.specs.Prelude.{◌≡◌, true, ◌≤◌, length};
 ghost use Rattle.card_lines.specs.Calls.{kept_of, next_kept, piece_kept};
 
 use card_lines::Fed;
-use libc::{STDERR_FILENO, STDIN_FILENO, STDOUT_FILENO};
+use std::io::Read;
+
+const STDOUT: i32 = 1;
+
+const STDERR: i32 = 2;
 
 // What the next call goes on with, and whether all output could be written.
 #[derive(Clone, Copy)]
@@ -18,9 +22,9 @@ struct State {
 fn write(output: &[u8], filled: usize) -> bool
     requires { filled ≤ length output.now }
 {
-    let is_written = io::write_all(STDOUT_FILENO, &output[..filled]);
+    let is_written = io::write_all(STDOUT, &output[..filled]);
     if !is_written {
-        io::write_all(STDERR_FILENO, b"cards: output could not be written\n");
+        io::write_all(STDERR, b"cards: output could not be written\n");
     }
     is_written
 }
@@ -56,24 +60,23 @@ fn answer_last(line: &[u8; 2049], fed: Fed, answer: &mut [u8; 1050]) {
 }
 
 fn say_not_read() {
-    io::write_all(STDERR_FILENO, b"cards: input could not be read\n");
+    io::write_all(STDERR, b"cards: input could not be read\n");
 }
 
 // A proved loop has to end, and nothing says that the input does. So it counts its turns down, from a number that no run uses up.
-fn main() {
+fn main(rt: HostRuntime) {
     let mut line = [0u8; 2049];
     let mut fed = card_lines::start();
     let mut input = io::large_buffer();
     let mut output = io::large_buffer();
+    let mut stdin = rt.stdin();
     let mut turns = u64::MAX;
     while turns > 0 {
         turns -= 1;
-        let got = libc::read(STDIN_FILENO, &mut input);
-        if got < 0 {
+        let Ok(count) = stdin.read(&mut input) else {
             say_not_read();
             return;
-        }
-        let count = io::count(got, &input);
+        };
         if count == 0 {
             break;
         }
