@@ -1,22 +1,22 @@
 -- Full rounds put together: what the loops fill, and that a round of the code is one of each instance whose tables it has.
 -- Assumes nothing.
-use Rattle.std.proofs.Common.{◌≡◌, ℕ, zero, suc, ◌+◌, ◌-◌, ◌*◌, ◌%◌, ◌^◌, ◌<◌, ◌≤◌, List, length, get_or, set, replicate, sym, refl, ap, ◌∙◌, subst, zero-le, not-suc-le-zero, add-zero, mod-eq_of_lt, zero-lt-suc, mul_assoc, mul_comm, add-mul, add_comm, zero-mul, mul_left_comm, add-one, arith, length-set, get_or-set_other, get_or-set_same}
+use Rattle.std.proofs.Common.{◌≡◌, ℕ, zero, suc, ◌+◌, ◌-◌, ◌*◌, ◌%◌, ◌^◌, ◌<◌, ◌≤◌, List, length, get_or, set, replicate, sym, refl, ap, ◌∙◌, subst, zero-le, not-suc-le-zero, add-zero, mod-eq_of_lt, zero-lt-suc, mul_assoc, mul_comm, add-mul, add_comm, zero-mul, mul_left_comm, arith, length-set, get_or-set_other, get_or-set_same}
 use lib.ListN.{get_or-eq_default}
 use Rattle.basics.specs.Lists.{sum, Below}
 use Rattle.basics.proofs.Below.{at_below, below_at}
 use Rattle.basics.proofs.Sums.{sum_same}
 use Rattle.field.proofs.Congruence.{Congruent, reflexive, transitive, add_congruent, mul_congruent}
-use Rattle.montgomery.specs.Montgomery.{Modulus, Element, scale, PowerOf, Power, Copies, Raised}
+use Rattle.montgomery.specs.Montgomery.{Modulus, Element, scale, PowerOf, Power, Copies}
 use Rattle.poseidon_rounds.specs.Instance.{Instance, matrix, constant, FullRound}
 use Rattle.poseidon_rounds.specs.Places.{Each, Alike}
-use Rattle.poseidon_rounds.specs.Tables.{Diagonals, Blocks, FullTable, Constants}
+use Rattle.poseidon_rounds.specs.Tables.{Diagonals, Blocks, FullTable}
 use Rattle.poseidon_rounds.proofs.Congruence.{opposite, sum_congruent, pow_congruent, cancel}
 use Rattle.poseidon_rounds.proofs.Places.{either}
 use Rattle.poseidon_rounds.proofs.PlainSums.{plain_sum_at}
-use Rattle.poseidon_matrix.specs.Matrix.{row_sum, Row, Product}
+use Rattle.poseidon_matrix.specs.Matrix.{row_sum, Product}
 use Rattle.poseidon_blocks.specs.Blocks as blocks
-use Rattle.poseidon_matrix.proofs.Rotation.{Twice, row_is_matrix}
-use Rattle.poseidon_full.specs.Full.{Summed, Sums, RaisedAt, Powers, PowersOnce, Numbers, Setting, Near, RoundOf, Round, FullRun, Rounds}
+use Rattle.poseidon_matrix.proofs.Rotation.{row_is_matrix}
+use Rattle.poseidon_full.specs.Full.{Sums, RaisedAt, Powers, PowersOnce, Numbers, Setting, Near, RoundOf, Round, FullRun, Rounds}
 
 -- the loop that raises all elements
 pub record Raising (power : ℕ) (x p out : List ℕ) (i : ℕ) : Type 0 where

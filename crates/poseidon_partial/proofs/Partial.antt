@@ -1,12 +1,12 @@
 -- Partial rounds put together: what the loops keep, and that they are the partial rounds of each instance whose tables they have.
 -- Assumes nothing.
-use Rattle.std.proofs.Common.{◌≡◌, ℕ, zero, suc, ◌+◌, ◌-◌, ◌*◌, ◌/◌, ◌%◌, ◌^◌, ◌<◌, ◌≤◌, List, length, get_or, set, sym, refl, ap, ◌∙◌, subst, suc-le-suc, zero-le, not-suc-le-zero, mod-lt, mod-eq_of_lt, zero-lt-suc, mul-le-mul, mul-zero, zero-add, add-one, arith, length-set, get_or-set_other, get_or-set_same}
+use Rattle.std.proofs.Common.{◌≡◌, ℕ, suc, ◌+◌, ◌-◌, ◌*◌, ◌/◌, ◌%◌, ◌^◌, ◌<◌, ◌≤◌, List, length, get_or, set, sym, refl, ap, ◌∙◌, subst, suc-le-suc, zero-le, not-suc-le-zero, mod-lt, mod-eq_of_lt, zero-lt-suc, mul-le-mul, mul-zero, zero-add, add-one, arith, length-set, get_or-set_other, get_or-set_same}
 use native.Mathlib.Nat.{le-pred_of_lt}
-use Rattle.basics.specs.Lists.{sum, Below}
+use Rattle.basics.specs.Lists.{sum}
 use Rattle.basics.proofs.Below.{below_at}
 use Rattle.basics.proofs.Sums.{sum_same}
 use Rattle.field.proofs.Congruence.{Congruent, reflexive, transitive, add_congruent, mul_congruent}
-use Rattle.montgomery.specs.Montgomery.{low_product, folded, Inverse, Modulus, Divided, scale, PowerOf, Power, Reduced, RaisedSmall}
+use Rattle.montgomery.specs.Montgomery.{low_product, folded, Divided, scale, Reduced, RaisedSmall}
 use Rattle.montgomery.proofs.Reduction.{low_product_law, Folded, fold_right}
 use Rattle.poseidon_rounds.specs.Instance.{Instance, PartialRound}
 use Rattle.poseidon_rounds.specs.Linear.{times}
@@ -14,7 +14,7 @@ use Rattle.poseidon_rounds.specs.Places.{Each}
 use Rattle.poseidon_rounds.specs.Sparse.{carried, lower, SparseTables, Represents}
 use Rattle.poseidon_rounds.proofs.Places.{either}
 use Rattle.poseidon_rounds.proofs.Sparse.{represents_step}
-use Rattle.poseidon_partial.specs.Partial.{NextElement, LowPart, row_term, NextElements, FirstElement, NextFirst, Rest, PartialSetting, PartialRun, PartialRounds}
+use Rattle.poseidon_partial.specs.Partial.{NextElement, LowPart, row_term, NextElements, NextFirst, Rest, PartialSetting, PartialRounds}
 
 term_bound : (a b : ℕ) → a < 2130706433 → b < 2131755009 → a * b ≤ 4542144106993811456
 term_bound a b ha hb = mul-le-mul (le-pred_of_lt ha) (le-pred_of_lt hb)

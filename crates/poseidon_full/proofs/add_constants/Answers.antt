@@ -1,6 +1,6 @@
 -- `poseidon_full::add_constants` meets its contract.
 -- Assumes nothing.
-use Rattle.std.proofs.Common.{◌-◌, sym, refl, ◌∙◌, mod-eq_of_lt, arith}
+use Rattle.std.proofs.Common.{sym, refl, ◌∙◌, mod-eq_of_lt, arith}
 use Rattle.poseidon_rounds.proofs.Places.{start, step, end}
 use Rattle.poseidon_rounds.proofs.PlainSums.{plain_sum_at}
 use Rattle.poseidon_full.proofs.add_constants.Goals as goal

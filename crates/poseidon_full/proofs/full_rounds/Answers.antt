@@ -1,6 +1,6 @@
 -- `poseidon_full::full_rounds` meets its contract.
 -- Assumes nothing.
-use Rattle.std.proofs.Common.{◌-◌, arith}
+use Rattle.std.proofs.Common.{arith}
 use Rattle.poseidon_full.proofs.Full.{running_start, running_step, running_end}
 use Rattle.poseidon_full.proofs.full_rounds.Goals as goal
 

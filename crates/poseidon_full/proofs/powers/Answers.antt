@@ -1,6 +1,6 @@
 -- `poseidon_full::powers` meets its contract.
 -- Assumes nothing.
-use Rattle.std.proofs.Common.{◌-◌, arith}
+use Rattle.std.proofs.Common.{arith}
 use Rattle.poseidon_full.proofs.Full.{raising_start, raising_step, raising_end}
 use Rattle.poseidon_full.proofs.powers.Goals as goal
 

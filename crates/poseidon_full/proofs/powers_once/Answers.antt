@@ -1,6 +1,6 @@
 -- `poseidon_full::powers_once` meets its contract.
 -- Assumes nothing.
-use Rattle.std.proofs.Common.{◌-◌, refl, arith}
+use Rattle.std.proofs.Common.{refl, arith}
 use Rattle.poseidon_rounds.proofs.Places.{start, step, end}
 use Rattle.poseidon_full.proofs.powers_once.Goals as goal
 

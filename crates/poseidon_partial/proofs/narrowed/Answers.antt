@@ -1,6 +1,6 @@
 -- `poseidon_partial::narrowed` meets its contract.
 -- Assumes nothing.
-use Rattle.std.proofs.Common.{◌-◌, refl, arith, rules}
+use Rattle.std.proofs.Common.{refl, arith, rules}
 use Rattle.poseidon_rounds.proofs.Places.{start, step, end}
 use Rattle.poseidon_partial.proofs.Partial.{rest_of}
 use Rattle.poseidon_partial.proofs.narrowed.Goals as goal

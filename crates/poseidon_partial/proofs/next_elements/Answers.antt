@@ -1,6 +1,6 @@
 -- `poseidon_partial::next_elements` meets its contract.
 -- Assumes nothing.
-use Rattle.std.proofs.Common.{ℕ, ◌+◌, ◌-◌, ◌*◌, ◌%◌, get_or, ap, ◌∙◌, subst, arith, rules}
+use Rattle.std.proofs.Common.{ℕ, ◌+◌, ◌*◌, ◌%◌, get_or, ap, ◌∙◌, subst, arith, rules}
 use Rattle.montgomery.specs.Montgomery.{low_product}
 use Rattle.poseidon_partial.specs.Partial.{NextElement}
 use Rattle.poseidon_partial.proofs.Partial.{spreading_start, spreading_step, spreading_end}

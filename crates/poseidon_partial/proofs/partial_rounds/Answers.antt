@@ -1,6 +1,6 @@
 -- `poseidon_partial::partial_rounds` meets its contract.
 -- Assumes nothing.
-use Rattle.std.proofs.Common.{◌-◌, refl, arith}
+use Rattle.std.proofs.Common.{refl, arith}
 use Rattle.montgomery.proofs.Powers.{raised_small_at}
 use Rattle.poseidon_partial.proofs.Partial.{going_start, going_step, going_end}
 use Rattle.poseidon_partial.proofs.partial_rounds.Goals as goal

@@ -1,6 +1,6 @@
 -- `poseidon_partial::widened` meets its contract.
 -- Assumes nothing.
-use Rattle.std.proofs.Common.{◌-◌, refl, arith}
+use Rattle.std.proofs.Common.{refl, arith}
 use Rattle.poseidon_rounds.proofs.Places.{start, step, end}
 use Rattle.poseidon_partial.proofs.widened.Goals as goal
 
