@@ -4,7 +4,7 @@ use mathlib.Core.Path.{◌≡◌, ◌∙◌, sym, ap, refl, subst}
 use mathlib.Core.Bool.{Bool, true}
 use mathlib.Core.List.{List, [], ◌∷◌}
 use mathlib.Core.Logic.{inl, inr}
-use Prim.Native.Nat.{ℕ, ◌+◌, ◌*◌, ◌/◌, ◌%◌, ◌<◌, ◌≤◌}
+use Prim.Native.Nat.{ℕ, ◌+◌, ◌/◌, ◌<◌, ◌≤◌}
 use native.Mathlib.Nat.{mod-lt}
 use native.Mathlib.Omega.{arith}
 use borrow.Author.Tests.{eqb-true}
@@ -18,9 +18,8 @@ use Rattle.field.specs.Field.{modulus, power, partial_rounds}
 use Rattle.field.specs.declared.Field.{Field}
 use Rattle.field.specs.declared.Field.TheVariants.{BabyBear, KoalaBear}
 use Rattle.field.proofs.Moduli.{positive, small, few_rounds}
-use Rattle.montgomery.specs.Montgomery.{Modulus, Power, Copies}
+use Rattle.montgomery.specs.Montgomery.{Modulus, Power}
 use Rattle.poseidon_rounds.specs.Instance.{instance_of}
-use Rattle.poseidon_rounds.specs.Places.{Each}
 use Rattle.poseidon_rounds.specs.Tables.{Diagonals, TablesOf}
 use Rattle.baby_bear_tables.specs.Tables as babyBear
 use Rattle.baby_bear_tables.proofs.Right as babyBearRight

@@ -1,24 +1,21 @@
 -- An unreduced sum goes through the power and the matrix as the reduced one does. Over any parameters.
 -- Assumes nothing.
-use mathlib.Core.Path.{◌≡◌, ◌∙◌, refl, sym, ap, subst}
+use mathlib.Core.Path.{◌≡◌, ◌∙◌, sym, ap}
 use mathlib.Core.List.{List}
-use mathlib.Core.Logic.{◌≢◌}
-use Prim.Native.Nat.{ℕ, zero, suc, ◌+◌, ◌*◌, ◌%◌, ◌^◌, ◌≤◌, ◌<◌}
-use native.Mathlib.Nat.{mod-lt, pow-zero, pow-suc}
+use Prim.Native.Nat.{ℕ, ◌+◌, ◌*◌, ◌%◌, ◌^◌, ◌<◌}
 use native.Mathlib.Omega.{arith}
-use borrow.Author.Tests.{lt-ltb, eqb-true, eqb-false}
+use borrow.Author.Tests.{eqb-true, eqb-false}
 use lib.Dec.{ltb, eqb}
 use lib.ListN.{length, get_or, set, length-set}
 use lib.Seq.{get_or-set_same, get_or-set_other}
 use Rattle.basics.specs.Logic.{when◌then◌else◌}
-use Rattle.basics.specs.Lists.{tabulate, sum, is_below, Below}
-use Rattle.basics.proofs.Below.{below_at, below_tabulate, below_larger}
-use Rattle.basics.proofs.Cases.{by, cases, all_set}
+use Rattle.basics.specs.Lists.{Below}
+use Rattle.basics.proofs.Below.{below_at, below_tabulate}
+use Rattle.basics.proofs.Cases.{cases}
 use Rattle.basics.proofs.Fill.{length_tabulate, tabulate_at, tabulate_same}
-use Rattle.field.proofs.Congruence.{Congruent, reflexive, remainder, transitive, add_congruent, mul_congruent}
+use Rattle.field.proofs.Congruence.{Congruent, reflexive, remainder, mul_congruent}
 use Rattle.poseidon_rounds.specs.PlainSums.{plain_sums}
 use Rattle.poseidon_rounds.proofs.Congruence.{pow_congruent, sum_congruent}
-use Rattle.poseidon_rounds.proofs.PlainSums.{plain_sum_at}
 use Rattle.poseidon.specs.Permutation.{Parameters, add_constants, raise_all, raise_first, raise, matrix, multiply}
 
 module _ (F : Parameters) where

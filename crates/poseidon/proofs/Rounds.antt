@@ -1,15 +1,15 @@
 -- The definition's rounds, element by element and with no remainder taken.
 -- Assumes nothing.
-use mathlib.Core.Path.{◌≡◌, ◌∙◌, sym, ap, ap₂, refl, subst}
+use mathlib.Core.Path.{◌≡◌, ◌∙◌, sym, ap, refl, subst}
 use mathlib.Core.List.{List, [], ◌∷◌}
 use Prim.Native.Nat.{ℕ, zero, suc, ◌+◌, ◌*◌, ◌%◌, ◌^◌, ◌<◌, ◌≤◌, zero-le, suc-le-suc}
-use native.Mathlib.Nat.{add-suc, add-zero, zero-add, mod-lt}
+use native.Mathlib.Nat.{add-suc, add-zero, mod-lt}
 use native.Mathlib.Omega.{arith}
 use borrow.Author.Tests.{lt-ltb, le-ltb}
 use lib.ListN.{length, get_or, set}
-use lib.Seq.{get_or-set_same, get_or-set_other}
+use lib.Seq.{get_or-set_same}
 use Rattle.basics.specs.Logic.{when◌then◌else◌}
-use Rattle.basics.specs.Lists.{sum, tabulate}
+use Rattle.basics.specs.Lists.{sum}
 use Rattle.basics.proofs.Fill.{tabulate_at, length_tabulate}
 use Rattle.poseidon.specs.Permutation.{Parameters, matrix, multiply, raise, raise_all, raise_first, add_constants, round, rounds, permutation}
 use Rattle.poseidon.specs.Steps.{instance, full_round, full_rounds, rounds_from}

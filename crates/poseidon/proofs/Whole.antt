@@ -3,24 +3,24 @@
 use mathlib.Core.Path.{◌≡◌, ◌∙◌, sym, ap, refl, subst}
 use mathlib.Core.List.{List}
 use Prim.Native.Nat.{ℕ, zero, suc, ◌+◌, ◌*◌, ◌%◌, ◌^◌, ◌<◌, ◌≤◌, zero-le, suc-le-suc}
-use native.Mathlib.Nat.{add-mul, add-zero, mul-le-mul, mod-lt, mod-mod, zero-lt-suc, le_of_suc-le-suc}
+use native.Mathlib.Nat.{add-mul, add-zero, mul-le-mul, mod-lt, mod-mod, le_of_suc-le-suc}
 use native.Mathlib.Omega.{arith}
 use lib.ListN.{length, get_or}
 use lib.Seq.{ext_get_or}
-use Rattle.basics.specs.Lists.{sum, Below, tabulate}
+use Rattle.basics.specs.Lists.{sum}
 use Rattle.basics.proofs.Fill.{tabulate_at, length_tabulate}
 use Rattle.field.proofs.Congruence.{Congruent, reflexive, transitive, add_congruent, mul_congruent}
-use Rattle.montgomery.specs.Montgomery.{low_product, Modulus, ReducedAny, Power}
+use Rattle.montgomery.specs.Montgomery.{low_product, Modulus}
 use Rattle.montgomery.proofs.Reduction.{low_product_law}
 use Rattle.poseidon_rounds.specs.Instance.{Instance, FullRound, PartialRound}
 use Rattle.poseidon_rounds.specs.Linear.{times}
 use Rattle.poseidon_rounds.specs.Places.{Each, Alike}
 use Rattle.poseidon_rounds.specs.Sparse.{running, carried, lower, Represents}
 use Rattle.poseidon_rounds.specs.Tables.{Diagonals, pre_sparse, addend_before, addend_after, TablesOf}
-use Rattle.poseidon_rounds.proofs.Congruence.{opposite, sum_congruent, cancel, equal_below}
+use Rattle.poseidon_rounds.proofs.Congruence.{sum_congruent, cancel, equal_below}
 use Rattle.poseidon_rounds.proofs.Sparse.{represents_start, represents_end}
 use Rattle.poseidon_rounds.specs.Instance as any
-use Rattle.poseidon_full.specs.Full.{Setting, Near, RoundOf, FullRun, Numbers}
+use Rattle.poseidon_full.specs.Full.{RoundOf, FullRun}
 use Rattle.poseidon_full.proofs.Full.{powers_alike}
 use Rattle.poseidon_partial.specs.Partial.{PartialRun}
 use Rattle.poseidon.specs.Permutation.{Parameters, permutation}

@@ -1,5 +1,5 @@
 -- Definitions that no public contract cites: what private functions of the crate take and give, and the rounds that the proofs go through.
-use Rattle.std.specs.Prelude.{List, ℕ, zero, suc, ◌+◌, ◌*◌, ◌%◌, get_or}
+use Rattle.std.specs.Prelude.{List, ℕ, zero, suc, ◌+◌, ◌%◌, get_or}
 use Rattle.basics.specs.Lists.{tabulate}
 use Rattle.field.specs.declared.Field.{Field}
 use Rattle.field.specs.declared.Field.TheVariants.{BabyBear, KoalaBear}

@@ -4,7 +4,6 @@ use mathlib.Core.Path.{◌≡◌, ◌∙◌, sym, ap, subst}
 use mathlib.Core.Bool.{Bool, true, false, not}
 use mathlib.Core.List.{List}
 use Prim.Native.Nat.{ℕ}
-use borrow.Author.Tests.{not-true, not-false}
 use Rattle.basics.specs.Logic.{all}
 use Rattle.basics.proofs.Cases.{if_true, if_false}
 use Rattle.field.specs.Field.{is_element, is_field, field_of}
@@ -32,14 +31,14 @@ module _ (number : ℕ) (s : List ℕ) (f : Field) (e : f ≡ field_of number) (
 
 pub returns-then-not-is_field : goal.returns-then-not-is_field
 unfolding permuted
-returns-then-not-is_field c = sym (if_true _ _ _ (ap not (sym c.is_field.ensures ∙ not-true _ c.if-not-is_field.true-raw)))
+returns-then-not-is_field c = sym (if_true _ _ _ (ap not (sym c.is_field.ensures ∙ c.if-not-is_field.true)))
 
 pub returns-then-is_reduced : goal.returns-then-is_reduced
 returns-then-is_reduced c =
-    taken _ _ _ c.field_of-named.ensures (sym c.is_field.ensures ∙ not-false _ c.if-not-is_field.false-raw)
+    taken _ _ _ c.field_of-named.ensures (sym c.is_field.ensures ∙ c.if-not-is_field.false)
     c.is_reduced.ensures c.if-is_reduced.true c.permutation.ensures
 
 pub returns-else-is_reduced : goal.returns-else-is_reduced
 returns-else-is_reduced c =
-    refused _ _ _ c.field_of-named.ensures (sym c.is_field.ensures ∙ not-false _ c.if-not-is_field.false-raw)
+    refused _ _ _ c.field_of-named.ensures (sym c.is_field.ensures ∙ c.if-not-is_field.false)
     c.is_reduced.ensures c.if-is_reduced.false

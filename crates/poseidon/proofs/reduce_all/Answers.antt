@@ -1,6 +1,5 @@
 -- `poseidon::reduce_all` meets its contract.
 -- Assumes nothing.
-use Prim.Native.Nat.{◌-◌}
 use Rattle.basics.proofs.Fill.{start, step, end}
 use Rattle.poseidon.specs.Steps.{remainders}
 use borrow.Author.Rules.{rules}
