@@ -15,4 +15,4 @@ slice_bounds-start-end-2 c = sym (length-take-le _ _ (search rules))
 -- each field ends no earlier than it begins
 pub returns : goal.returns
 returns c =
-    omega (arith, c.field_at-third.ensures.1.2, c.field_at-second.ensures.1.2, c.field_at-first.ensures.1.2)
+    omega (arith, c.field_at-third.ensures.bytes_len.2, c.field_at-second.ensures.bytes_len.2, c.field_at-first.ensures.bytes_len.2)
