@@ -219,7 +219,7 @@ first_kind_law first (w ∷ ws) e p = sym (same_true first (is_absorb w) (and_le
 -- the kind of the first call stays
 first_kind : List Phase → Bool
 first_kind [] = true
-first_kind (a ∷ ps) = a.absorbs
+first_kind (a ∷ rest) = a.absorbs
 
 join_first : (a : Phase) (ps : List Phase) → first_kind (join a ps) ≡ a.absorbs
 unfolding join first_kind
