@@ -1,3 +1,4 @@
+-- What the loop of `cutting::cut` keeps, and that it ends.
 use Prim.Native.Nat.{◌-◌}
 use Rattle.cutting.proofs.Steps.{Filled}
 use Rattle.cutting.proofs.cut.Given as goal

@@ -1,3 +1,4 @@
+-- What the loop of `sound_words::all_zero` keeps.
 use mathlib.Core.Path.{◌≡◌}
 use Prim.Native.Nat.{◌≤◌}
 use lib.Dec.{eqb}

@@ -1,3 +1,4 @@
+-- What the loop of `sound_words::alternate` keeps.
 use mathlib.Core.Path.{◌≡◌}
 use mathlib.Core.Bool.{true, not}
 use Prim.Native.Nat.{◌≤◌}

@@ -1,9 +1,7 @@
-use Prim.Native.Nat.{◌-◌, ◌≤◌}
+-- The loop of `tag_vectors::print_lines` ends.
+use Prim.Native.Nat.{◌-◌}
 use lib.ListN.{length}
 use Rattle.tag_vectors.proofs.print_lines.Given as goal
-
-abbrev pub invariant-loop-at : goal.invariant-loop-at
-invariant-loop-at l = 0 ≤ l.at
 
 abbrev pub decreases-loop-at : goal.decreases-loop-at
 decreases-loop-at l = length l.text - l.at

@@ -1,3 +1,4 @@
+-- What the loop of `pattern::pass::pass` keeps.
 use mathlib.Core.Path.{◌≡◌}
 use Prim.Native.Nat.{◌≤◌}
 use lib.ListN.{length, take}

@@ -1,3 +1,4 @@
+-- What the loop of `tag::bytes::put_words` keeps.
 use Prim.Native.Nat.{◌≤◌}
 use lib.ListN.{length, take}
 use Rattle.basics.proofs.Placed.{Begins}
