@@ -1,3 +1,4 @@
+-- The loop of `permutation_vectors::number_at` stays within ten digits.
 use Prim.Native.Nat.{◌-◌, ◌≤◌}
 use Rattle.permutation_vectors.proofs.number_at.Given as goal
 

@@ -1,3 +1,4 @@
+-- The loop of `permutation_vectors::permute_lines` stays within 238 lines.
 use Prim.Native.Nat.{◌-◌, ◌≤◌}
 use Rattle.permutation_vectors.proofs.permute_lines.Given as goal
 

@@ -1,3 +1,4 @@
+-- The loop of `permutation_vectors::print_elements` stays within 24 elements.
 use Prim.Native.Nat.{◌-◌, ◌≤◌}
 use Rattle.permutation_vectors.proofs.print_elements.Given as goal
 

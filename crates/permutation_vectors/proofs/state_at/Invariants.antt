@@ -1,3 +1,4 @@
+-- The loop of `permutation_vectors::state_at` stays within 24 elements.
 use Prim.Native.Nat.{◌-◌, ◌≤◌}
 use Rattle.permutation_vectors.proofs.state_at.Given as goal
 

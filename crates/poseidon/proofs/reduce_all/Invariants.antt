@@ -1,3 +1,4 @@
+-- The loop of `poseidon::reduce_all`: the places filled so far are reduced.
 use Prim.Native.Nat.{◌-◌, ◌%◌}
 use lib.ListN.{get_or}
 use Rattle.basics.proofs.Fill.{Filled}

@@ -1,3 +1,4 @@
+-- The loop of `poseidon::rescale`: the places filled so far are rescaled.
 use Prim.Native.Nat.{◌+◌, ◌-◌}
 use lib.ListN.{get_or}
 use Rattle.montgomery.specs.Montgomery.{low_product, ReducedAny}

@@ -1,3 +1,4 @@
+-- The loop of `poseidon_blocks::half_twice`: the places filled so far are the half's.
 use Rattle.std.proofs.Common.{◌≡◌, ◌+◌, ◌-◌, ◌%◌, get_or}
 use Rattle.poseidon_rounds.proofs.Places.{Filling}
 use Rattle.poseidon_blocks.proofs.half_twice.Given as goal

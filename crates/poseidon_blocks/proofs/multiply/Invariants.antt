@@ -1,3 +1,4 @@
+-- The loop of `poseidon_blocks::multiply`: the rows filled so far, in both halves, are the product's.
 use Rattle.std.proofs.Common.{◌+◌, ◌-◌, ◌*◌, ◌%◌, get_or}
 use Rattle.poseidon_blocks.specs.Blocks.{MatrixRow}
 use Rattle.poseidon_blocks.proofs.Blocks.{FillingHalves}

@@ -1,3 +1,4 @@
+-- The loop of `poseidon_blocks::sums_of_halves`: the places filled so far are the sums.
 use Rattle.std.proofs.Common.{◌-◌, get_or}
 use Rattle.poseidon_rounds.proofs.Places.{Filling}
 use Rattle.poseidon_blocks.specs.Blocks.{Lowered}

@@ -1,3 +1,4 @@
+-- The loop of `poseidon_blocks::two_rows`: three sums of products, as far as the diagonals so far.
 use Rattle.std.proofs.Common.{◌≡◌, ◌-◌, ◌%◌, ◌≤◌}
 use Rattle.poseidon_blocks.specs.Blocks.{PartialSum}
 use Rattle.poseidon_blocks.proofs.two_rows.Given as goal

@@ -1,3 +1,4 @@
+-- The loop of `poseidon_full::add_constants`: the places filled so far are the sums.
 use Rattle.std.proofs.Common.{◌-◌}
 use Rattle.poseidon_rounds.proofs.Places.{Filling}
 use Rattle.poseidon_full.specs.Full.{Summed}

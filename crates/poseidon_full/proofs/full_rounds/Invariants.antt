@@ -1,3 +1,4 @@
+-- The loop of `poseidon_full::full_rounds`: the state is the one after the rounds so far.
 use Rattle.std.proofs.Common.{◌-◌, ◌≤◌}
 use Rattle.poseidon_full.proofs.Full.{Running}
 use Rattle.poseidon_full.proofs.full_rounds.Given as goal

@@ -1,3 +1,4 @@
+-- The loop of `poseidon_full::powers`: the places filled so far are powers.
 use Rattle.std.proofs.Common.{◌-◌}
 use Rattle.poseidon_full.proofs.Full.{Raising}
 use Rattle.poseidon_full.proofs.powers.Given as goal

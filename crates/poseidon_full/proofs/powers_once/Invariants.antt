@@ -1,3 +1,4 @@
+-- The loop of `poseidon_full::powers_once`: the places filled so far are powers.
 use Rattle.std.proofs.Common.{◌-◌}
 use Rattle.poseidon_rounds.proofs.Places.{Filling}
 use Rattle.poseidon_full.specs.Full.{RaisedAt}

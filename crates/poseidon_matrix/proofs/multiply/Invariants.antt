@@ -1,3 +1,4 @@
+-- The loop of `poseidon_matrix::multiply`: the rows filled so far are the product's.
 use Rattle.std.proofs.Common.{◌+◌, ◌-◌, ◌*◌, ◌%◌, get_or}
 use Rattle.poseidon_rounds.proofs.Places.{Filling}
 use Rattle.poseidon_matrix.specs.Matrix.{Row}

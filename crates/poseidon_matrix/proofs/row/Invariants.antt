@@ -1,3 +1,4 @@
+-- The loop of `poseidon_matrix::row`: the parts summed apart make the sum of the products so far.
 use Rattle.std.proofs.Common.{◌≡◌, ◌+◌, ◌-◌, ◌*◌, ◌%◌, ◌≤◌}
 use Rattle.basics.specs.Lists.{sum, Below}
 use Rattle.poseidon_matrix.specs.Matrix.{two_products}

@@ -1,3 +1,4 @@
+-- The loop of `poseidon_partial::narrowed`: the places filled so far are the low 32 bits.
 use Rattle.std.proofs.Common.{◌≡◌, ◌-◌, ◌%◌, get_or}
 use Rattle.poseidon_rounds.proofs.Places.{Filling}
 use Rattle.poseidon_partial.proofs.narrowed.Given as goal

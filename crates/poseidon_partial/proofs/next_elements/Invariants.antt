@@ -1,3 +1,4 @@
+-- The loop of `poseidon_partial::next_elements`: the elements so far are the next ones, and their sum.
 use Rattle.std.proofs.Common.{◌-◌, ◌*◌, ◌%◌}
 use Rattle.poseidon_partial.proofs.Partial.{Spreading}
 use Rattle.poseidon_partial.proofs.next_elements.Given as goal

@@ -1,3 +1,4 @@
+-- The loop of `poseidon_partial::partial_rounds`: the state is the one after the rounds so far.
 use Rattle.std.proofs.Common.{◌-◌}
 use Rattle.poseidon_partial.proofs.Partial.{Going}
 use Rattle.poseidon_partial.proofs.partial_rounds.Given as goal

@@ -1,3 +1,4 @@
+-- The loop of `poseidon_partial::widened`: the places filled so far are the same numbers.
 use Rattle.std.proofs.Common.{◌≡◌, ◌-◌, get_or}
 use Rattle.poseidon_rounds.proofs.Places.{Filling}
 use Rattle.poseidon_partial.proofs.widened.Given as goal
