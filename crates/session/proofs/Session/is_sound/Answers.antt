@@ -8,17 +8,10 @@ use borrow.Author.Tests.{eq-eqb, ne_eqb}
 use lib.Dec.{eqb}
 use Rattle.basics.specs.Logic.{all}
 use Rattle.basics.proofs.Cases.{and_step, and_stop}
-use Rattle.field.specs.Field.{is_field, is_element}
+use Rattle.field.specs.Field.{is_element}
 use Rattle.field.specs.declared.Field.{Field}
-use Rattle.pattern.specs.Pattern.{sound_places}
-use Rattle.tag.specs.TagString.{is_form}
-use Rattle.counters.specs.Permutations.{permutations_at}
-use Rattle.counters.specs.Positions.{positions_at}
-use Rattle.progress.specs.Place.{sound_place}
 use Rattle.counters.specs.declared.positions.Positions.{Positions}
-use Rattle.session.specs.Record.{field_in}
 use Rattle.session.specs.Soundness.{sound}
-use Rattle.session.specs.Steps.{record_of}
 use Rattle.session.proofs.Session.is_sound.Goals as goal
 
 -- what was found of the elements in a field is so in another name of it
