@@ -12,6 +12,7 @@ use Rattle.seal.specs.Seal.{sound_lengths}
 use Rattle.seal.proofs.Lengths.{declarable}
 use borrow.Author.Rules.{rules}
 use Rattle.seal.proofs.are_sound_lengths.Goals as goal
+use Rattle.seal.proofs.are_sound_lengths.Goals.{At-loop-i}
 
 pub returns-then-lengths-eq0 : goal.returns-then-lengths-eq0
 unfolding sound_lengths
@@ -27,7 +28,7 @@ pub loop-i-init : goal.loop-i-init
 loop-i-init c = (search rules, refl)
 
 -- behind the tests of how many there are
-each : (c : tie.At-loop invariant-loop decreases-loop) → let lengths = c.args.lengths.now in sound_lengths lengths ≡ all declarable (drop c.loop-i.i lengths)
+each : (c : At-loop-i) → let lengths = c.args.lengths.now in sound_lengths lengths ≡ all declarable (drop c.loop-i.i lengths)
 unfolding sound_lengths
 each c =
     let size = length c.args.lengths.now in

@@ -8,13 +8,14 @@ use Rattle.session.specs.Record.{squeezed_all}
 use Rattle.seal.specs.Seal.{is_mark}
 use Rattle.seal.proofs.Calls.{squeezed_length, squeezed_written}
 use Rattle.seal.proofs.has_mark.Goals as goal
+use Rattle.seal.proofs.has_mark.Goals.{After-squeeze_step}
 
 -- what the record squeezes stands in the array
-mark : (c : tie.After-squeeze-step) → c.squeeze_step.new.1.0 ≡ squeezed_all c.args.«record» 8
+mark : (c : After-squeeze_step) → c.squeeze_step.new.output ≡ squeezed_all c.args.«record» 8
 mark c =
     c.squeeze_step.ensures.1 ∙ squeezed_written c.args.«record» (replicate 8 0) 8 refl c.requires.1
 
-eight : (c : tie.After-squeeze-step) → length c.squeeze_step.new.1.0 ≡ 8
+eight : (c : After-squeeze_step) → length c.squeeze_step.new.output ≡ 8
 eight c = ap length (mark c) ∙ squeezed_length 8 _
 
 pub slice_bounds-is_mark-end : goal.slice_bounds-is_mark-end

@@ -13,17 +13,18 @@ use Rattle.seal.proofs.Passes.{span, pass_begin_law, pass_room, pass_asked, pass
 use Rattle.seal.proofs.Blocks.{opens, Opens, minus_length, opened_one}
 use borrow.Author.Rules.{rules}
 use Rattle.seal.proofs.open_blocks.Goals as goal
+use Rattle.seal.proofs.open_blocks.Goals.{In-loop-i}
 
 pub loop-i-init : goal.loop-i-init
 loop-i-init c =
     pass_begin_law plain_blocks opens Opens _ _ _ _ (sym c.requires.1) c.requires.2
 
 -- the block that is next
-abbrev size : tie.In-loop invariant-loop decreases-loop → ℕ
+abbrev size : In-loop-i → ℕ
 size c = get_or c.args.lengths.now c.loop-i.i 0
 
 -- text and buffer have room for it
-room : (c : tie.In-loop invariant-loop decreases-loop) → let c = c in
+room : (c : In-loop-i) → let c = c in
     (c.loop-i.at + size c ≤ length c.args.note.now) × (c.loop-i.at + size c ≤ length c.loop-i.out)
 room c =
     let inv = c.loop-i.invariant in
@@ -40,8 +41,8 @@ overflow_add-end c = let fits = (room c).0 in search rules
 pub slice_bounds-open_block-end : goal.slice_bounds-open_block-end
 slice_bounds-open_block-end c = let fits = (room c).0 in search rules
 
-pub UNKNOWN-slice-bounds-open-block-end-2 : goal.UNKNOWN-slice-bounds-open-block-end-2
-UNKNOWN-slice-bounds-open-block-end-2 c = let fits = (room c).1 in search rules
+pub slice_bounds-open_block-end-in-loop-i : goal.slice_bounds-open_block-end-in-loop-i
+slice_bounds-open_block-end-in-loop-i c = let fits = (room c).1 in search rules
 
 pub open_block-next-requires : goal.open_block-next-requires
 unfolding Squeezes plain_blocks
