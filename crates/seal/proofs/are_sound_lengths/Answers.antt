@@ -38,14 +38,14 @@ pub returns-then-lengths-i-eq0 : goal.returns-then-lengths-i-eq0
 returns-then-lengths-i-eq0 c =
     let lengths = c.args.lengths.now in
     let i = c.loop-i.i in
-    sym (each c ∙ all_stop declarable lengths 0 i (search rules) (and_stop _ _ (lt-leb 1 (get_or lengths i 0) (search rules))))
+    sym (each (goal.at.returns-then-lengths-i-eq0 c).At-loop-i ∙ all_stop declarable lengths 0 i (search rules) (and_stop _ _ (lt-leb 1 (get_or lengths i 0) (search rules))))
 
 pub returns-then-lengths-i-gt-MAX_CALL : goal.returns-then-lengths-i-gt-MAX_CALL
 returns-then-lengths-i-gt-MAX_CALL c =
     let lengths = c.args.lengths.now in
     let i = c.loop-i.i in
     let long = lt-leb (get_or lengths i 0) 16777216 (search rules) in
-    sym (each c ∙ all_stop declarable lengths 0 i (search rules) (ap (λ (b : Bool). leb 1 (get_or lengths i 0) and b) long ∙ and_false _))
+    sym (each (goal.at.returns-then-lengths-i-gt-MAX_CALL c).At-loop-i ∙ all_stop declarable lengths 0 i (search rules) (ap (λ (b : Bool). leb 1 (get_or lengths i 0) and b) long ∙ and_false _))
 
 pub loop-i-preserved : goal.loop-i-preserved
 loop-i-preserved c =
@@ -56,4 +56,4 @@ loop-i-preserved c =
 
 pub returns : goal.returns
 returns c =
-    sym (each c ∙ all_end declarable c.args.lengths.now c.loop-i.i (search rules))
+    sym (each (goal.at.returns c).At-loop-i ∙ all_end declarable c.args.lengths.now c.loop-i.i (search rules))

@@ -19,12 +19,12 @@ eight : (c : After-squeeze_step) → length c.squeeze_step.new.output ≡ 8
 eight c = ap length (mark c) ∙ squeezed_length 8 _
 
 pub slice_bounds-is_mark-end : goal.slice_bounds-is_mark-end
-slice_bounds-is_mark-end c = sym (eight c)
+slice_bounds-is_mark-end c = sym (eight (goal.at.slice_bounds-is_mark-end c).After-squeeze_step)
 
 pub is_mark-requires : goal.is_mark-requires
-is_mark-requires c = (eight c, c.requires.0)
+is_mark-requires c = (eight (goal.at.is_mark-requires c).After-squeeze_step, c.requires.0)
 
 pub returns : goal.returns
 returns c =
     let given = c.args.given.now in
-    c.is_mark.ensures ∙ ap (λ (l : List ℕ). is_mark l given) (mark c)
+    c.is_mark.ensures ∙ ap (λ (l : List ℕ). is_mark l given) (mark (goal.at.returns c).After-squeeze_step)

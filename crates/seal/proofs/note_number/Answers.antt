@@ -80,83 +80,90 @@ pub returns-then-separator-gt-MAX_SEPARATOR : goal.returns-then-separator-gt-MAX
 unfolding note_rows first_number
 returns-then-separator-gt-MAX_SEPARATOR c =
     sym
-    (if_false _ _ _ (passed_1 c)
+    (if_false _ _ _ (passed_1 (goal.at.returns-then-separator-gt-MAX_SEPARATOR c).Else-not-is_field)
     ∙ if_true _ _ _ (lt-ltb 256 _ c.if-separator-gt-MAX_SEPARATOR.true))
 
 pub returns-then-not-are_sound_lengths : goal.returns-then-not-are_sound_lengths
 unfolding note_rows first_number
 returns-then-not-are_sound_lengths c =
+    let here = goal.at.returns-then-not-are_sound_lengths c in
     sym
-    (if_false _ _ _ (passed_1 c)
-    ∙ if_false _ _ _ (passed_2 c)
+    (if_false _ _ _ (passed_1 here.Else-not-is_field)
+    ∙ if_false _ _ _ (passed_2 here.Else-separator-gt-MAX_SEPARATOR)
     ∙ if_true _ _ _ (sym (ap not c.are_sound_lengths.ensures) ∙ c.if-not-are_sound_lengths.true-raw))
 
 pub returns-then-key-ne-KEY_LENGTH : goal.returns-then-key-ne-KEY_LENGTH
 unfolding note_rows first_number
 returns-then-key-ne-KEY_LENGTH c =
+    let here = goal.at.returns-then-key-ne-KEY_LENGTH c in
     sym
-    (if_false _ _ _ (passed_1 c)
-    ∙ if_false _ _ _ (passed_2 c)
-    ∙ if_false _ _ _ (passed_3 c)
+    (if_false _ _ _ (passed_1 here.Else-not-is_field)
+    ∙ if_false _ _ _ (passed_2 here.Else-separator-gt-MAX_SEPARATOR)
+    ∙ if_false _ _ _ (passed_3 here.Else-not-are_sound_lengths)
     ∙ if_true _ _ _ (ap not (ne_eqb _ 8 c.if-key-ne-KEY_LENGTH.true)))
 
 pub returns-then-nonce-ne-NONCE_LENGTH : goal.returns-then-nonce-ne-NONCE_LENGTH
 unfolding note_rows first_number
 returns-then-nonce-ne-NONCE_LENGTH c =
+    let here = goal.at.returns-then-nonce-ne-NONCE_LENGTH c in
     sym
-    (if_false _ _ _ (passed_1 c)
-    ∙ if_false _ _ _ (passed_2 c)
-    ∙ if_false _ _ _ (passed_3 c)
-    ∙ if_false _ _ _ (passed_4 c)
+    (if_false _ _ _ (passed_1 here.Else-not-is_field)
+    ∙ if_false _ _ _ (passed_2 here.Else-separator-gt-MAX_SEPARATOR)
+    ∙ if_false _ _ _ (passed_3 here.Else-not-are_sound_lengths)
+    ∙ if_false _ _ _ (passed_4 here.Else-key-ne-KEY_LENGTH)
     ∙ if_true _ _ _ (ap not (ne_eqb _ 8 c.if-nonce-ne-NONCE_LENGTH.true)))
 
 pub returns-then-text-size : goal.returns-then-text-size
 unfolding note_rows first_number
 returns-then-text-size c =
+    let here = goal.at.returns-then-text-size c in
     let args = c.args in
     sym
-    (if_false _ _ _ (passed_1 c)
-    ∙ if_false _ _ _ (passed_2 c)
-    ∙ if_false _ _ _ (passed_3 c)
-    ∙ if_false _ _ _ (passed_4 c)
-    ∙ if_false _ _ _ (passed_5 c)
+    (if_false _ _ _ (passed_1 here.Else-not-is_field)
+    ∙ if_false _ _ _ (passed_2 here.Else-separator-gt-MAX_SEPARATOR)
+    ∙ if_false _ _ _ (passed_3 here.Else-not-are_sound_lengths)
+    ∙ if_false _ _ _ (passed_4 here.Else-key-ne-KEY_LENGTH)
+    ∙ if_false _ _ _ (passed_5 here.Else-nonce-ne-NONCE_LENGTH)
     ∙ if_true _ _ _ (ap not (ne_eqb _ _ (λ e. c.if-text-size.true (e ∙ sym (ap (λ (k : ℕ). k + args.text_mark) c.total-size.ensures))))))
 
 pub returns-then-buffer-size : goal.returns-then-buffer-size
 unfolding note_rows first_number
 returns-then-buffer-size c =
+    let here = goal.at.returns-then-buffer-size c in
     let args = c.args in
     sym
-    (if_false _ _ _ (passed_1 c)
-    ∙ if_false _ _ _ (passed_2 c)
-    ∙ if_false _ _ _ (passed_3 c)
-    ∙ if_false _ _ _ (passed_4 c)
-    ∙ if_false _ _ _ (passed_5 c)
-    ∙ if_false _ _ _ (passed_6 c)
+    (if_false _ _ _ (passed_1 here.Else-not-is_field)
+    ∙ if_false _ _ _ (passed_2 here.Else-separator-gt-MAX_SEPARATOR)
+    ∙ if_false _ _ _ (passed_3 here.Else-not-are_sound_lengths)
+    ∙ if_false _ _ _ (passed_4 here.Else-key-ne-KEY_LENGTH)
+    ∙ if_false _ _ _ (passed_5 here.Else-nonce-ne-NONCE_LENGTH)
+    ∙ if_false _ _ _ (passed_6 here.Else-text-size)
     ∙ if_true _ _ _ (ap not (ne_eqb _ _ (λ e. c.if-buffer-size.true (e ∙ sym (ap (λ (k : ℕ). k + args.buffer_mark) c.total-size.ensures))))))
 
 pub returns-then-not-are_elements : goal.returns-then-not-are_elements
 unfolding note_rows first_number
 returns-then-not-are_elements c =
+    let here = goal.at.returns-then-not-are_elements c in
     sym
-    (if_false _ _ _ (passed_1 c)
-    ∙ if_false _ _ _ (passed_2 c)
-    ∙ if_false _ _ _ (passed_3 c)
-    ∙ if_false _ _ _ (passed_4 c)
-    ∙ if_false _ _ _ (passed_5 c)
-    ∙ if_false _ _ _ (passed_6 c)
-    ∙ if_false _ _ _ (passed_7 c)
-    ∙ if_true _ _ _ (sym (ap not (elements c)) ∙ c.if-not-are_elements.true-raw))
+    (if_false _ _ _ (passed_1 here.Else-not-is_field)
+    ∙ if_false _ _ _ (passed_2 here.Else-separator-gt-MAX_SEPARATOR)
+    ∙ if_false _ _ _ (passed_3 here.Else-not-are_sound_lengths)
+    ∙ if_false _ _ _ (passed_4 here.Else-key-ne-KEY_LENGTH)
+    ∙ if_false _ _ _ (passed_5 here.Else-nonce-ne-NONCE_LENGTH)
+    ∙ if_false _ _ _ (passed_6 here.Else-text-size)
+    ∙ if_false _ _ _ (passed_7 here.Else-buffer-size)
+    ∙ if_true _ _ _ (sym (ap not (elements here.After-are_elements)) ∙ c.if-not-are_elements.true-raw))
 
 pub returns : goal.returns
 unfolding note_rows first_number
 returns c =
+    let here = goal.at.returns c in
     sym
-    (if_false _ _ _ (passed_1 c)
-    ∙ if_false _ _ _ (passed_2 c)
-    ∙ if_false _ _ _ (passed_3 c)
-    ∙ if_false _ _ _ (passed_4 c)
-    ∙ if_false _ _ _ (passed_5 c)
-    ∙ if_false _ _ _ (passed_6 c)
-    ∙ if_false _ _ _ (passed_7 c)
-    ∙ if_false _ _ _ (sym (ap not (elements c)) ∙ c.if-not-are_elements.false-raw))
+    (if_false _ _ _ (passed_1 here.Else-not-is_field)
+    ∙ if_false _ _ _ (passed_2 here.Else-separator-gt-MAX_SEPARATOR)
+    ∙ if_false _ _ _ (passed_3 here.Else-not-are_sound_lengths)
+    ∙ if_false _ _ _ (passed_4 here.Else-key-ne-KEY_LENGTH)
+    ∙ if_false _ _ _ (passed_5 here.Else-nonce-ne-NONCE_LENGTH)
+    ∙ if_false _ _ _ (passed_6 here.Else-text-size)
+    ∙ if_false _ _ _ (passed_7 here.Else-buffer-size)
+    ∙ if_false _ _ _ (sym (ap not (elements here.After-are_elements)) ∙ c.if-not-are_elements.false-raw))

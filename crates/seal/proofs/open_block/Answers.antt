@@ -30,27 +30,30 @@ below c =
 
 pub take_from-requires : goal.take_from-requires
 take_from-requires c =
-    (sym (long c), rw c.field_of.ensures (below c))
+    let here = goal.at.take_from-requires c in
+    (sym (long here.After-squeeze_step-squeezed), rw c.field_of.ensures (below here.After-squeeze_step-squeezed))
 
 -- the block in its place has as many elements
 plain_long : (c : After-take_from) → length c.take_from.new.squeezed ≡ length c.args.cipher.now
 unfolding minus
 plain_long c =
-    ap length c.take_from.ensures ∙ zip_length _ c.args.cipher.now c.squeeze_step-squeezed.new.output (sym (long c)) ∙ long c
+    let here = goal.at.After-take_from c in
+    ap length c.take_from.ensures ∙ zip_length _ c.args.cipher.now c.squeeze_step-squeezed.new.output (sym (long here.After-squeeze_step-squeezed)) ∙ long here.After-squeeze_step-squeezed
 
 pub shape_of-plain : goal.shape_of-plain
 shape_of-plain c =
-    plain_long c ∙ c.requires.0
+    plain_long (goal.at.shape_of-plain c).After-take_from ∙ c.requires.0
 
 pub returns : goal.returns
 unfolding after_block
 returns c =
+    let here = goal.at.returns c in
     let r = c.args.«record» in
     let cipher = c.args.cipher.now in
     let plain = c.take_from.new.squeezed in
-    let left = c.squeeze_step-squeezed.ensures.0 ∙ ap (squeeze r) (sym (plain_long c ∙ c.requires.0)) in (
+    let left = c.squeeze_step-squeezed.ensures.0 ∙ ap (squeeze r) (sym (plain_long here.After-take_from ∙ c.requires.0)) in (
       c.take_from.ensures
           ∙ ap (λ (f : Field). minus f cipher c.squeeze_step-squeezed.new.output) c.field_of.ensures
-          ∙ ap (minus (field_in r) cipher) (stream c),
+          ∙ ap (minus (field_in r) cipher) (stream here.After-squeeze_step-squeezed),
       ap (λ (a : Answer). a.session) c.absorb_step-absorbed.ensures ∙ ap (λ (a : Answer). (absorb a.session plain).session) left,
     )

@@ -22,12 +22,13 @@ long : (c : After-squeeze_step-squeezed) → length c.squeeze_step-squeezed.new.
 long c = ap length (stream c) ∙ squeezed_length _ _
 
 pub add_to-requires : goal.add_to-requires
-add_to-requires c = sym (long c)
+add_to-requires c = sym (long (goal.at.add_to-requires c).After-squeeze_step-squeezed)
 
 pub shape_of-cipher : goal.shape_of-cipher
 unfolding plus
 shape_of-cipher c =
-    ap length c.add_to.ensures ∙ zip_length _ c.args.plain.now c.squeeze_step-squeezed.new.output (sym (long c)) ∙ long c ∙ c.requires.0
+    let here = goal.at.shape_of-cipher c in
+    ap length c.add_to.ensures ∙ zip_length _ c.args.plain.now c.squeeze_step-squeezed.new.output (sym (long here.After-squeeze_step-squeezed)) ∙ long here.After-squeeze_step-squeezed ∙ c.requires.0
 
 pub returns : goal.returns
 unfolding after_block
@@ -38,5 +39,5 @@ returns c =
       ap (λ (a : Answer). a.session) c.absorb_step-moved.ensures ∙ ap (λ (a : Answer). (absorb a.session plain).session) left,
       c.add_to.ensures
           ∙ ap (λ (f : Field). plus f plain c.squeeze_step-squeezed.new.output) c.field_of.ensures
-          ∙ ap (plus (field_in r) plain) (stream c),
+          ∙ ap (plus (field_in r) plain) (stream (goal.at.returns c).After-squeeze_step-squeezed),
     )
