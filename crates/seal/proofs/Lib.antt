@@ -2,6 +2,7 @@ pub mod Overwrite
 pub mod Lengths
 pub mod Marks
 pub mod Words
+pub mod Both
 pub mod Calls
 pub mod Passes
 pub mod Blocks

@@ -12,6 +12,7 @@ use Rattle.seal.specs.Seal.{sound_lengths}
 use Rattle.seal.proofs.Lengths.{declarable}
 use borrow.Author.Rules.{rules}
 use Rattle.seal.proofs.are_sound_lengths.Goals as goal
+use Rattle.seal.proofs.are_sound_lengths.Goals.{At-loop-i}
 
 pub returns-then-lengths-eq0 : goal.returns-then-lengths-eq0
 unfolding sound_lengths
@@ -27,7 +28,7 @@ pub loop-i-init : goal.loop-i-init
 loop-i-init c = (search rules, refl)
 
 -- behind the tests of how many there are
-each : (c : tie.At-loop invariant-loop decreases-loop) → let lengths = c.args.lengths.now in sound_lengths lengths ≡ all declarable (drop c.loop-i.i lengths)
+each : (c : At-loop-i) → let lengths = c.args.lengths.now in sound_lengths lengths ≡ all declarable (drop c.loop-i.i lengths)
 unfolding sound_lengths
 each c =
     let size = length c.args.lengths.now in
@@ -37,14 +38,14 @@ pub returns-then-lengths-i-eq0 : goal.returns-then-lengths-i-eq0
 returns-then-lengths-i-eq0 c =
     let lengths = c.args.lengths.now in
     let i = c.loop-i.i in
-    sym (each c ∙ all_stop declarable lengths 0 i (search rules) (and_stop _ _ (lt-leb 1 (get_or lengths i 0) (search rules))))
+    sym (each (goal.at.returns-then-lengths-i-eq0 c).At-loop-i ∙ all_stop declarable lengths 0 i (search rules) (and_stop _ _ (lt-leb 1 (get_or lengths i 0) (search rules))))
 
 pub returns-then-lengths-i-gt-MAX_CALL : goal.returns-then-lengths-i-gt-MAX_CALL
 returns-then-lengths-i-gt-MAX_CALL c =
     let lengths = c.args.lengths.now in
     let i = c.loop-i.i in
     let long = lt-leb (get_or lengths i 0) 16777216 (search rules) in
-    sym (each c ∙ all_stop declarable lengths 0 i (search rules) (ap (λ (b : Bool). leb 1 (get_or lengths i 0) and b) long ∙ and_false _))
+    sym (each (goal.at.returns-then-lengths-i-gt-MAX_CALL c).At-loop-i ∙ all_stop declarable lengths 0 i (search rules) (ap (λ (b : Bool). leb 1 (get_or lengths i 0) and b) long ∙ and_false _))
 
 pub loop-i-preserved : goal.loop-i-preserved
 loop-i-preserved c =
@@ -55,4 +56,4 @@ loop-i-preserved c =
 
 pub returns : goal.returns
 returns c =
-    sym (each c ∙ all_end declarable c.args.lengths.now c.loop-i.i (search rules))
+    sym (each (goal.at.returns c).At-loop-i ∙ all_end declarable c.args.lengths.now c.loop-i.i (search rules))

@@ -11,32 +11,20 @@ use Rattle.seal.proofs.Lengths.{lengths_sound, length_at}
 use Rattle.seal.proofs.Words.{declare_more, declare_last}
 use borrow.Author.Rules.{rules}
 use Rattle.seal.proofs.declare.Goals as goal
+use Rattle.seal.proofs.declare.Goals.{At-loop-i}
 
-few : (c : tie.At-loop invariant-loop decreases-loop) → length c.args.lengths.now ≤ 31
+few : (c : At-loop-i) → length c.args.lengths.now ≤ 31
 few c = (lengths_sound _ c.requires).few
 
 pub loop-i-init : goal.loop-i-init
 unfolding seal_words word_of when◌then◌else◌
 loop-i-init c = (search rules, refl, refl)
 
-pub UNKNOWN-overflow-mul-words-3 : goal.UNKNOWN-overflow-mul-words-3
-UNKNOWN-overflow-mul-words-3 c = let n = few c in search rules
-
 pub bounds-words-i : goal.bounds-words-i
-bounds-words-i c = let n = few c in search rules
-
-pub UNKNOWN-overflow-add-words-3 : goal.UNKNOWN-overflow-add-words-3
-UNKNOWN-overflow-add-words-3 c =
-    let lengths = c.args.lengths.now in
-    let d = lengths_sound lengths c.requires in
-    let h : c.loop-i.i < length lengths = search rules in
-    omega (arith, length_at lengths d.each c.loop-i.i h)
-
-pub UNKNOWN-overflow-mul-words-6 : goal.UNKNOWN-overflow-mul-words-6
-UNKNOWN-overflow-mul-words-6 c = let n = few c in search rules
+bounds-words-i c = let n = few (goal.at.bounds-words-i c).At-loop-i in search rules
 
 pub bounds-words-i-in-loop-i : goal.bounds-words-i-in-loop-i
-bounds-words-i-in-loop-i c = let n = few c in search rules
+bounds-words-i-in-loop-i c = let n = few (goal.at.bounds-words-i-in-loop-i c).At-loop-i in search rules
 
 pub loop-i-preserved : goal.loop-i-preserved
 loop-i-preserved c =
@@ -44,20 +32,24 @@ loop-i-preserved c =
     let words = c.loop-i.words in
     let i = c.loop-i.i in
     let inv = c.loop-i.invariant in
-    (search rules, simp length-set inv.1, declare_more lengths words i inv.1 inv.2 (search rules) (few c))
+    (search rules, simp length-set inv.1, declare_more lengths words i inv.1 inv.2 (search rules) (few (goal.at.loop-i-preserved c).At-loop-i))
 
-pub UNKNOWN-overflow-mul-words-8 : goal.UNKNOWN-overflow-mul-words-8
-UNKNOWN-overflow-mul-words-8 c = let n = few c in search rules
+pub overflow_add-words-in-loop-i-2 : goal.overflow_add-words-in-loop-i-2
+overflow_add-words-in-loop-i-2 c =
+    let lengths = c.args.lengths.now in
+    let d = lengths_sound lengths c.requires in
+    let h : c.loop-i.i < length lengths = search rules in
+    omega (arith, length_at lengths d.each c.loop-i.i h)
 
 pub bounds-words-lengths : goal.bounds-words-lengths
-bounds-words-lengths c = let n = few c in search rules
+bounds-words-lengths c = let n = few (goal.at.bounds-words-lengths c).At-loop-i in search rules
 
 pub returns : goal.returns
 returns c =
     let lengths = c.args.lengths.now in
     let inv = c.loop-i.invariant in
     let i = c.loop-i.i in
-    let n = few c in
+    let n = few (goal.at.returns c).At-loop-i in
     let end : length lengths ≡ i = search rules in
     ap (λ (k : ℕ). take (2 * k + 2) (set c.loop-i.words (2 * k + 1) 8)) end
     ∙ declare_last lengths c.loop-i.words i inv.1 inv.2 (search rules) (search rules)

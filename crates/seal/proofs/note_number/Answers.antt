@@ -15,84 +15,61 @@ use Rattle.field.specs.declared.Field.{Field}
 use Rattle.seal.specs.Seal.{sound_lengths, are_elements, note_rows}
 use Rattle.seal.proofs.Lengths.{lengths_sound, total_fits}
 use Rattle.seal.proofs.note_number.Goals as goal
-
--- the place where a branch begins, from the one behind it
-abbrev at_1 : tie.Else2 → tie.Else1
-at_1 c = c
-
-abbrev at-2 : tie.Else3 → tie.Else2
-at-2 c = c
-
-abbrev at-3 : tie.Else4 → tie.Else3
-at-3 c = c
-
-abbrev at-4 : tie.Else5 → tie.Else4
-at-4 c = c
-
-abbrev at_5 : tie.Else6 → tie.Else5
-at_5 c = c
-
-abbrev at-6 : tie.Else7 → tie.Else6
-at-6 c = c
-
-abbrev start : tie.Else1 → tie.Start
-start c = c
+use Rattle.seal.proofs.note_number.Goals.{After-are_elements, Else-buffer-size, Else-key-ne-KEY_LENGTH, Else-nonce-ne-NONCE_LENGTH, Else-not-are_sound_lengths, Else-not-is_field, Else-separator-gt-MAX_SEPARATOR, Else-text-size}
 
 -- what each leaves behind
-passed-1 : (c : tie.Else1) → not (is_field (start c).args.field) ≡ false
-passed-1 c = sym (ap not c.is_field.ensures) ∙ c.if-not-is_field.false-raw
+passed_1 : (c : Else-not-is_field) → not (is_field c.args.field) ≡ false
+passed_1 c = sym (ap not c.is_field.ensures) ∙ c.if-not-is_field.false-raw
 
-passed-2 : (c : tie.Else2) → ltb 256 (length (start (at_1 c)).args.separator.now) ≡ false
-passed-2 c = le-ltb 256 _ c.if-separator-gt-MAX_SEPARATOR.false
+passed_2 : (c : Else-separator-gt-MAX_SEPARATOR) → ltb 256 (length c.args.separator.now) ≡ false
+passed_2 c = le-ltb 256 _ c.if-separator-gt-MAX_SEPARATOR.false
 
-passed-3 : (c : tie.Else3) → not (sound_lengths (start (at_1 (at-2 c))).args.lengths.now) ≡ false
-passed-3 c = sym (ap not c.are_sound_lengths.ensures) ∙ c.if-not-are_sound_lengths.false-raw
+passed_3 : (c : Else-not-are_sound_lengths) → not (sound_lengths c.args.lengths.now) ≡ false
+passed_3 c = sym (ap not c.are_sound_lengths.ensures) ∙ c.if-not-are_sound_lengths.false-raw
 
-passed-4 : (c : tie.Else4) → not (eqb (length (start (at_1 (at-2 (at-3 c)))).args.key.now) 8) ≡ false
-passed-4 c = ap not (eq-eqb _ 8 c.if-key-ne-KEY_LENGTH.false)
+passed_4 : (c : Else-key-ne-KEY_LENGTH) → not (eqb (length c.args.key.now) 8) ≡ false
+passed_4 c = ap not (eq-eqb _ 8 c.if-key-ne-KEY_LENGTH.false)
 
-passed-5 : (c : tie.Else5) → not (eqb (length (start (at_1 (at-2 (at-3 (at-4 c))))).args.nonce.now) 8) ≡ false
-passed-5 c = ap not (eq-eqb _ 8 c.if-nonce-ne-NONCE_LENGTH.false)
+passed_5 : (c : Else-nonce-ne-NONCE_LENGTH) → not (eqb (length c.args.nonce.now) 8) ≡ false
+passed_5 c = ap not (eq-eqb _ 8 c.if-nonce-ne-NONCE_LENGTH.false)
 
-passed-6 : (c : tie.Else6) → let args = (start (at_1 (at-2 (at-3 (at-4 (at_5 c)))))).args in
-    not (eqb (length args.text.now) (total args.lengths.now + args.text-mark)) ≡ false
-passed-6 c =
-    let args = (start (at_1 (at-2 (at-3 (at-4 (at_5 c)))))).args in
-    ap not (eq-eqb _ _ (c.if-text-size.false ∙ ap (λ (k : ℕ). k + args.text-mark) c.total-size.ensures))
+passed_6 : (c : Else-text-size) → let args = c.args in
+    not (eqb (length args.text.now) (total args.lengths.now + args.text_mark)) ≡ false
+passed_6 c =
+    let args = c.args in
+    ap not (eq-eqb _ _ (c.if-text-size.false ∙ ap (λ (k : ℕ). k + args.text_mark) c.total-size.ensures))
 
-passed-7 : (c : tie.Else7) → let args = (start (at_1 (at-2 (at-3 (at-4 (at_5 (at-6 c))))))).args in
-    not (eqb args.buffer (total args.lengths.now + args.buffer-mark)) ≡ false
-passed-7 c =
-    let args = (start (at_1 (at-2 (at-3 (at-4 (at_5 (at-6 c))))))).args in
-    ap not (eq-eqb _ _ (c.if-buffer-size.false ∙ ap (λ (k : ℕ). k + args.buffer-mark) c.total-size.ensures))
+passed_7 : (c : Else-buffer-size) → let args = c.args in
+    not (eqb args.buffer (total args.lengths.now + args.buffer_mark)) ≡ false
+passed_7 c =
+    let args = c.args in
+    ap not (eq-eqb _ _ (c.if-buffer-size.false ∙ ap (λ (k : ℕ). k + args.buffer_mark) c.total-size.ensures))
 
 -- the lengths are sound, and their sum is small
 pub total-size-requires : goal.total-size-requires
-total-size-requires c = let at-lengths = at-3 (at-4 c) in sym at-lengths.before.are-sound-lengths.ensures ∙ not-false _ at-lengths.if3.left
+total-size-requires c = sym c.are_sound_lengths.ensures ∙ not-false _ c.if-not-are_sound_lengths.false-raw
 
-pub UNKNOWN-overflow-add-if6 : goal.UNKNOWN-overflow-add-if6
-UNKNOWN-overflow-add-if6 c =
-    let at-lengths = at-3 (at-4 c) in
-    let sound = sym at-lengths.before.are-sound-lengths.ensures ∙ not-false _ at-lengths.if3.left in
+pub overflow_add-size : goal.overflow_add-size
+overflow_add-size c =
+    let sound = sym c.are_sound_lengths.ensures ∙ not-false _ c.if-not-are_sound_lengths.false-raw in
     let small = total_fits _ (lengths_sound _ sound) in
     let size = c.total-size.ensures in
-    let mark = (start (at_1 (at-2 at-lengths))).requires in
+    let mark = c.requires in
     omega (arith, small, size, mark)
 
-pub UNKNOWN-overflow-add-if7 : goal.UNKNOWN-overflow-add-if7
-UNKNOWN-overflow-add-if7 c =
-    let at-lengths = at-3 (at-4 (at_5 c)) in
-    let sound = sym at-lengths.before.are-sound-lengths.ensures ∙ not-false _ at-lengths.if3.left in
+pub overflow_add-size-2 : goal.overflow_add-size-2
+overflow_add-size-2 c =
+    let sound = sym c.are_sound_lengths.ensures ∙ not-false _ c.if-not-are_sound_lengths.false-raw in
     let small = total_fits _ (lengths_sound _ sound) in
     let size = c.total-size.ensures in
-    let mark = (start (at_1 (at-2 at-lengths))).requires in
+    let mark = c.requires in
     omega (arith, small, size, mark)
 
 -- whether key, nonce and text are elements of the field that the number names
-elements : (c : tie.After-are-elements) → let args = (start (at_1 (at-2 (at-3 (at-4 (at_5 (at-6 c))))))).args in
+elements : (c : After-are_elements) → let args = c.args in
     c.are_elements.result ≡ are_elements (field_of args.field) args.key.now args.nonce.now args.text.now
 elements c =
-    let args = (start (at_1 (at-2 (at-3 (at-4 (at_5 (at-6 c))))))).args in
+    let args = c.args in
     c.are_elements.ensures ∙ ap (λ (f : Field). are_elements f args.key.now args.nonce.now args.text.now) c.field_of.ensures
 
 pub returns-then-not-is_field : goal.returns-then-not-is_field
@@ -103,83 +80,90 @@ pub returns-then-separator-gt-MAX_SEPARATOR : goal.returns-then-separator-gt-MAX
 unfolding note_rows first_number
 returns-then-separator-gt-MAX_SEPARATOR c =
     sym
-    (if_false _ _ _ (passed-1 c)
+    (if_false _ _ _ (passed_1 (goal.at.returns-then-separator-gt-MAX_SEPARATOR c).Else-not-is_field)
     ∙ if_true _ _ _ (lt-ltb 256 _ c.if-separator-gt-MAX_SEPARATOR.true))
 
 pub returns-then-not-are_sound_lengths : goal.returns-then-not-are_sound_lengths
 unfolding note_rows first_number
 returns-then-not-are_sound_lengths c =
+    let here = goal.at.returns-then-not-are_sound_lengths c in
     sym
-    (if_false _ _ _ (passed-1 (at_1 c))
-    ∙ if_false _ _ _ (passed-2 c)
+    (if_false _ _ _ (passed_1 here.Else-not-is_field)
+    ∙ if_false _ _ _ (passed_2 here.Else-separator-gt-MAX_SEPARATOR)
     ∙ if_true _ _ _ (sym (ap not c.are_sound_lengths.ensures) ∙ c.if-not-are_sound_lengths.true-raw))
 
 pub returns-then-key-ne-KEY_LENGTH : goal.returns-then-key-ne-KEY_LENGTH
 unfolding note_rows first_number
 returns-then-key-ne-KEY_LENGTH c =
+    let here = goal.at.returns-then-key-ne-KEY_LENGTH c in
     sym
-    (if_false _ _ _ (passed-1 (at_1 (at-2 c)))
-    ∙ if_false _ _ _ (passed-2 (at-2 c))
-    ∙ if_false _ _ _ (passed-3 c)
+    (if_false _ _ _ (passed_1 here.Else-not-is_field)
+    ∙ if_false _ _ _ (passed_2 here.Else-separator-gt-MAX_SEPARATOR)
+    ∙ if_false _ _ _ (passed_3 here.Else-not-are_sound_lengths)
     ∙ if_true _ _ _ (ap not (ne_eqb _ 8 c.if-key-ne-KEY_LENGTH.true)))
 
 pub returns-then-nonce-ne-NONCE_LENGTH : goal.returns-then-nonce-ne-NONCE_LENGTH
 unfolding note_rows first_number
 returns-then-nonce-ne-NONCE_LENGTH c =
+    let here = goal.at.returns-then-nonce-ne-NONCE_LENGTH c in
     sym
-    (if_false _ _ _ (passed-1 (at_1 (at-2 (at-3 c))))
-    ∙ if_false _ _ _ (passed-2 (at-2 (at-3 c)))
-    ∙ if_false _ _ _ (passed-3 (at-3 c))
-    ∙ if_false _ _ _ (passed-4 c)
+    (if_false _ _ _ (passed_1 here.Else-not-is_field)
+    ∙ if_false _ _ _ (passed_2 here.Else-separator-gt-MAX_SEPARATOR)
+    ∙ if_false _ _ _ (passed_3 here.Else-not-are_sound_lengths)
+    ∙ if_false _ _ _ (passed_4 here.Else-key-ne-KEY_LENGTH)
     ∙ if_true _ _ _ (ap not (ne_eqb _ 8 c.if-nonce-ne-NONCE_LENGTH.true)))
 
 pub returns-then-text-size : goal.returns-then-text-size
 unfolding note_rows first_number
 returns-then-text-size c =
-    let args = (start (at_1 (at-2 (at-3 (at-4 c))))).args in
+    let here = goal.at.returns-then-text-size c in
+    let args = c.args in
     sym
-    (if_false _ _ _ (passed-1 (at_1 (at-2 (at-3 (at-4 c)))))
-    ∙ if_false _ _ _ (passed-2 (at-2 (at-3 (at-4 c))))
-    ∙ if_false _ _ _ (passed-3 (at-3 (at-4 c)))
-    ∙ if_false _ _ _ (passed-4 (at-4 c))
-    ∙ if_false _ _ _ (passed-5 c)
-    ∙ if_true _ _ _ (ap not (ne_eqb _ _ (λ e. c.if-text-size.true (e ∙ sym (ap (λ (k : ℕ). k + args.text-mark) c.total-size.ensures))))))
+    (if_false _ _ _ (passed_1 here.Else-not-is_field)
+    ∙ if_false _ _ _ (passed_2 here.Else-separator-gt-MAX_SEPARATOR)
+    ∙ if_false _ _ _ (passed_3 here.Else-not-are_sound_lengths)
+    ∙ if_false _ _ _ (passed_4 here.Else-key-ne-KEY_LENGTH)
+    ∙ if_false _ _ _ (passed_5 here.Else-nonce-ne-NONCE_LENGTH)
+    ∙ if_true _ _ _ (ap not (ne_eqb _ _ (λ e. c.if-text-size.true (e ∙ sym (ap (λ (k : ℕ). k + args.text_mark) c.total-size.ensures))))))
 
 pub returns-then-buffer-size : goal.returns-then-buffer-size
 unfolding note_rows first_number
 returns-then-buffer-size c =
-    let args = (start (at_1 (at-2 (at-3 (at-4 (at_5 c)))))).args in
+    let here = goal.at.returns-then-buffer-size c in
+    let args = c.args in
     sym
-    (if_false _ _ _ (passed-1 (at_1 (at-2 (at-3 (at-4 (at_5 c))))))
-    ∙ if_false _ _ _ (passed-2 (at-2 (at-3 (at-4 (at_5 c)))))
-    ∙ if_false _ _ _ (passed-3 (at-3 (at-4 (at_5 c))))
-    ∙ if_false _ _ _ (passed-4 (at-4 (at_5 c)))
-    ∙ if_false _ _ _ (passed-5 (at_5 c))
-    ∙ if_false _ _ _ (passed-6 c)
-    ∙ if_true _ _ _ (ap not (ne_eqb _ _ (λ e. c.if-buffer-size.true (e ∙ sym (ap (λ (k : ℕ). k + args.buffer-mark) c.total-size.ensures))))))
+    (if_false _ _ _ (passed_1 here.Else-not-is_field)
+    ∙ if_false _ _ _ (passed_2 here.Else-separator-gt-MAX_SEPARATOR)
+    ∙ if_false _ _ _ (passed_3 here.Else-not-are_sound_lengths)
+    ∙ if_false _ _ _ (passed_4 here.Else-key-ne-KEY_LENGTH)
+    ∙ if_false _ _ _ (passed_5 here.Else-nonce-ne-NONCE_LENGTH)
+    ∙ if_false _ _ _ (passed_6 here.Else-text-size)
+    ∙ if_true _ _ _ (ap not (ne_eqb _ _ (λ e. c.if-buffer-size.true (e ∙ sym (ap (λ (k : ℕ). k + args.buffer_mark) c.total-size.ensures))))))
 
 pub returns-then-not-are_elements : goal.returns-then-not-are_elements
 unfolding note_rows first_number
 returns-then-not-are_elements c =
+    let here = goal.at.returns-then-not-are_elements c in
     sym
-    (if_false _ _ _ (passed-1 (at_1 (at-2 (at-3 (at-4 (at_5 (at-6 c)))))))
-    ∙ if_false _ _ _ (passed-2 (at-2 (at-3 (at-4 (at_5 (at-6 c))))))
-    ∙ if_false _ _ _ (passed-3 (at-3 (at-4 (at_5 (at-6 c)))))
-    ∙ if_false _ _ _ (passed-4 (at-4 (at_5 (at-6 c))))
-    ∙ if_false _ _ _ (passed-5 (at_5 (at-6 c)))
-    ∙ if_false _ _ _ (passed-6 (at-6 c))
-    ∙ if_false _ _ _ (passed-7 c)
-    ∙ if_true _ _ _ (sym (ap not (elements c)) ∙ c.if-not-are_elements.true-raw))
+    (if_false _ _ _ (passed_1 here.Else-not-is_field)
+    ∙ if_false _ _ _ (passed_2 here.Else-separator-gt-MAX_SEPARATOR)
+    ∙ if_false _ _ _ (passed_3 here.Else-not-are_sound_lengths)
+    ∙ if_false _ _ _ (passed_4 here.Else-key-ne-KEY_LENGTH)
+    ∙ if_false _ _ _ (passed_5 here.Else-nonce-ne-NONCE_LENGTH)
+    ∙ if_false _ _ _ (passed_6 here.Else-text-size)
+    ∙ if_false _ _ _ (passed_7 here.Else-buffer-size)
+    ∙ if_true _ _ _ (sym (ap not (elements here.After-are_elements)) ∙ c.if-not-are_elements.true-raw))
 
 pub returns : goal.returns
 unfolding note_rows first_number
 returns c =
+    let here = goal.at.returns c in
     sym
-    (if_false _ _ _ (passed-1 (at_1 (at-2 (at-3 (at-4 (at_5 (at-6 c)))))))
-    ∙ if_false _ _ _ (passed-2 (at-2 (at-3 (at-4 (at_5 (at-6 c))))))
-    ∙ if_false _ _ _ (passed-3 (at-3 (at-4 (at_5 (at-6 c)))))
-    ∙ if_false _ _ _ (passed-4 (at-4 (at_5 (at-6 c))))
-    ∙ if_false _ _ _ (passed-5 (at_5 (at-6 c)))
-    ∙ if_false _ _ _ (passed-6 (at-6 c))
-    ∙ if_false _ _ _ (passed-7 c)
-    ∙ if_false _ _ _ (sym (ap not (elements c)) ∙ c.if-not-are_elements.false-raw))
+    (if_false _ _ _ (passed_1 here.Else-not-is_field)
+    ∙ if_false _ _ _ (passed_2 here.Else-separator-gt-MAX_SEPARATOR)
+    ∙ if_false _ _ _ (passed_3 here.Else-not-are_sound_lengths)
+    ∙ if_false _ _ _ (passed_4 here.Else-key-ne-KEY_LENGTH)
+    ∙ if_false _ _ _ (passed_5 here.Else-nonce-ne-NONCE_LENGTH)
+    ∙ if_false _ _ _ (passed_6 here.Else-text-size)
+    ∙ if_false _ _ _ (passed_7 here.Else-buffer-size)
+    ∙ if_false _ _ _ (sym (ap not (elements here.After-are_elements)) ∙ c.if-not-are_elements.false-raw))

@@ -20,129 +20,126 @@ use Rattle.seal.proofs.Accepted.{Fit, Ready, fit_long, text_fits, plain_fits, bl
 use Rattle.seal.proofs.Outcomes.{open_accepted, open_differs, open_refused}
 use borrow.Author.Rules.{rules}
 use Rattle.seal.proofs.open.Goals as goal
-
-abbrev start : tie.Else1 → tie.Start
-start c = c
+use Rattle.seal.proofs.open.Goals.{After-has_mark, After-open_blocks-last, Else-number-ne-ACCEPTED}
 
 -- what the call got
-abbrev given : tie.Start → Context
-given s = context s.args.field s.args.key.now s.args.nonce.now s.args.separator.now s.args.lengths.now
+abbrev given : Else-number-ne-ACCEPTED → Context
+given c = context c.args.field c.args.key.now c.args.nonce.now c.args.separator.now c.args.lengths.now
 
-number : (c : tie.Else1) → first_number (note_rows (given (start c)) (start c).args.note.now 8 (length (start c).args.out.now) 0) ≡ accepted
+number : (c : Else-number-ne-ACCEPTED) → first_number (note_rows (given c) c.args.note.now 8 (length c.args.out.now) 0) ≡ accepted
 number c = sym c.note_number-number.ensures ∙ c.if-number-ne-ACCEPTED.false
 
-pass : (c : tie.Else1) → Passed (given (start c)) (start c).args.note.now 8 (length (start c).args.out.now) 0
+pass : (c : Else-number-ne-ACCEPTED) → Passed (given c) c.args.note.now 8 (length c.args.out.now) 0
 pass c = passed _ _ _ _ _ (number c)
 
-size : (c : tie.Else1) → length (start c).args.out.now ≡ total (start c).args.lengths.now
+size : (c : Else-number-ne-ACCEPTED) → length c.args.out.now ≡ total c.args.lengths.now
 size c = let p = pass c in omega (arith, p.buffer_long)
 
 pub returns-then-number-ne-ACCEPTED : goal.returns-then-number-ne-ACCEPTED
 returns-then-number-ne-ACCEPTED c =
     let number = c.note_number-number.ensures in
     ap (λ (n : ℕ). leaving n c.args.out.now) number
-    ∙ sym (open_refused (given c) c.args.note.now c.args.out.now (λ e. c.if-number-ne-ACCEPTED.true (number ∙ e)))
+    ∙ sym (open_refused (context c.args.field c.args.key.now c.args.nonce.now c.args.separator.now c.args.lengths.now) c.args.note.now c.args.out.now (λ e. c.if-number-ne-ACCEPTED.true (number ∙ e)))
 
 pub open_session-record-requires : goal.open_session-record-requires
-open_session-record-requires c = let p = pass c in (p.key_long, p.nonce_long, p.sound)
+open_session-record-requires c = let p = pass (goal.at.open_session-record-requires c).Else-number-ne-ACCEPTED in (p.key_long, p.nonce_long, p.sound)
 
 -- the plain blocks, which are what the session absorbs
-blocks-fit : (c : tie.Else1) → Fit (field_of (start c).args.field) (start c).args.lengths.now (unsealed (given (start c)) (start c).args.note.now)
+blocks_fit : (c : Else-number-ne-ACCEPTED) → Fit (field_of c.args.field) c.args.lengths.now (unsealed (given c) c.args.note.now)
 unfolding unsealed
-blocks-fit c =
+blocks_fit c =
     let p = pass c in
-    let args = (start c).args in
+    let args = c.args in
     let f = field_of args.field in
-    plain_fits f args.lengths.now p.lengths.each (keyed (given (start c))) (keyed_ready (given (start c)) p)
+    plain_fits f args.lengths.now p.lengths.each (keyed (given c)) (keyed_ready (given c) p)
     (text_fits f args.lengths.now args.note.now (omega (arith, p.text_long)) p.elements)
 
-accepts : (c : tie.Else1) → let blocks = unsealed (given (start c)) (start c).args.note.now in
-    let r = keyed (given (start c)) in
-    Squeezes r blocks × Ready (field_of (start c).args.field) [] (after_blocks r blocks)
+accepts : (c : Else-number-ne-ACCEPTED) → let blocks = unsealed (given c) c.args.note.now in
+    let r = keyed (given c) in
+    Squeezes r blocks × Ready (field_of c.args.field) [] (after_blocks r blocks)
 accepts c =
     let p = pass c in
-    let args = (start c).args in
-    blocks_accepted (field_of args.field) args.lengths.now p.lengths.each (keyed (given (start c))) (keyed_ready (given (start c)) p) (blocks-fit c)
+    let args = c.args in
+    blocks_accepted (field_of args.field) args.lengths.now p.lengths.each (keyed (given c)) (keyed_ready (given c) p) (blocks_fit c)
 
 pub open_blocks-last-requires : goal.open_blocks-last-requires
 unfolding unsealed
 open_blocks-last-requires c =
-    let p = pass c in
-    (omega (arith, p.text_long), sym (size c), rw c.open_session-record.ensures (accepts c).0)
+    let here = goal.at.open_blocks-last-requires c in
+    let p = pass here.Else-number-ne-ACCEPTED in
+    (omega (arith, p.text_long), sym (size here.Else-number-ne-ACCEPTED), rw c.open_session-record.ensures (accepts here.Else-number-ne-ACCEPTED).0)
 
 -- they stand in the buffer
-plain : (c : tie.After-open-blocks) → let c = c in
-    c.open_blocks-last.new.1.1.1.0 ≡ joined (unsealed (given (start c)) (start c).args.note.now)
+plain : (c : After-open_blocks-last) → c.open_blocks-last.new.out ≡ joined (unsealed (given (goal.at.After-open_blocks-last c).Else-number-ne-ACCEPTED) c.args.note.now)
 unfolding unsealed
 plain c =
-    let args = (start c).args in
+    let args = c.args in
     c.open_blocks-last.ensures.1
     ∙ ap (λ (r : Session). joined (plain_blocks r (blocks_of args.lengths.now args.note.now))) c.open_session-record.ensures
 
-plain-long : (c : tie.After-open-blocks) → length c.open_blocks-last.new.1.1.1.0 ≡ total (start c).args.lengths.now
-plain-long c = ap length (plain c) ∙ fit_long (field_of (start c).args.field) (blocks-fit c)
+plain_long : (c : After-open_blocks-last) → length c.open_blocks-last.new.out ≡ total c.args.lengths.now
+plain_long c = ap length (plain c) ∙ fit_long (field_of c.args.field) (blocks_fit (goal.at.After-open_blocks-last c).Else-number-ne-ACCEPTED)
 
-left : (c : tie.After-open-blocks) → let c = c in
-    c.open_blocks-last.result ≡ after_blocks (keyed (given (start c))) (unsealed (given (start c)) (start c).args.note.now)
+left : (c : After-open_blocks-last) → c.open_blocks-last.result ≡ after_blocks (keyed (given (goal.at.After-open_blocks-last c).Else-number-ne-ACCEPTED)) (unsealed (given (goal.at.After-open_blocks-last c).Else-number-ne-ACCEPTED) c.args.note.now)
 unfolding unsealed
 left c =
-    let args = (start c).args in
+    let args = c.args in
     c.open_blocks-last.ensures.0
     ∙ ap (λ (r : Session). after_blocks r (plain_blocks r (blocks_of args.lengths.now args.note.now))) c.open_session-record.ensures
 
 -- the mark behind the cipher elements
-behind : (c : tie.Else1) → let args = (start c).args in
+behind : (c : Else-number-ne-ACCEPTED) → let args = c.args in
     take (length args.note.now - length args.out.now) (drop (length args.out.now) args.note.now) ≡ drop (total args.lengths.now) args.note.now
 behind c =
-    let args = (start c).args in
+    let args = c.args in
     take_all (length args.note.now - length args.out.now) (drop (length args.out.now) args.note.now) (omega (arith, length-drop (length args.out.now) args.note.now))
     ∙ ap (λ (n : ℕ). drop n args.note.now) (size c)
 
-pub UNKNOWN-overflow-mul-has-mark : goal.UNKNOWN-overflow-mul-has-mark
-UNKNOWN-overflow-mul-has-mark c =
-    let few = total_fits _ (pass c).lengths in
-    record { fits = omega (arith, few, size c) }
-
-pub UNKNOWN-overflow-sub-has-mark : goal.UNKNOWN-overflow-sub-has-mark
-UNKNOWN-overflow-sub-has-mark c = let p = pass c in omega (arith, p.text_long, p.buffer_long)
+pub slice_bounds-has_mark-count : goal.slice_bounds-has_mark-count
+slice_bounds-has_mark-count c = let p = pass (goal.at.slice_bounds-has_mark-count c).Else-number-ne-ACCEPTED in omega (arith, p.text_long, p.buffer_long)
 
 pub slice_bounds-has_mark-start : goal.slice_bounds-has_mark-start
-slice_bounds-has_mark-start c = let p = pass c in omega (arith, p.text_long, p.buffer_long)
+slice_bounds-has_mark-start c = let p = pass (goal.at.slice_bounds-has_mark-start c).Else-number-ne-ACCEPTED in omega (arith, p.text_long, p.buffer_long)
 
 pub slice_bounds-has_mark-end : goal.slice_bounds-has_mark-end
 slice_bounds-has_mark-end c = search rules
 
 pub has_mark-requires : goal.has_mark-requires
 has_mark-requires c =
-    let args = (start c).args in
-    let p = pass c in (
-      ap length (behind c) ∙ omega (arith, length-drop (total args.lengths.now) args.note.now, p.text_long),
-      rw (left c) (mark_accepted (field_of args.field) _ (accepts c).1).0,
+    let here = goal.at.has_mark-requires c in
+    let args = c.args in
+    let p = pass here.Else-number-ne-ACCEPTED in (
+      ap length (behind here.Else-number-ne-ACCEPTED) ∙ omega (arith, length-drop (total args.lengths.now) args.note.now, p.text_long),
+      rw (left here.After-open_blocks-last) (mark_accepted (field_of args.field) _ (accepts here.Else-number-ne-ACCEPTED).1).0,
     )
 
 -- it is compared
-compared : (c : tie.After-has-mark) → let c = c in
-    c.has_mark.result ≡ has_mark (given (start c)) (start c).args.note.now
+compared : (c : After-has_mark) → c.has_mark.result ≡ has_mark (given (goal.at.After-has_mark c).Else-number-ne-ACCEPTED) c.args.note.now
 unfolding has_mark mark_of
 compared c =
-    c.has_mark.ensures ∙ ap₂ (λ (r : Session) (l : List ℕ). is_mark (squeezed_all r 8) l) (left c) (behind c)
+    let here = goal.at.After-has_mark c in
+    c.has_mark.ensures ∙ ap₂ (λ (r : Session) (l : List ℕ). is_mark (squeezed_all r 8) l) (left here.After-open_blocks-last) (behind here.Else-number-ne-ACCEPTED)
 
 pub shape_of-out-then-has_mark : goal.shape_of-out-then-has_mark
 shape_of-out-then-has_mark c =
-    plain-long c ∙ sym (size c)
+    let here = goal.at.shape_of-out-then-has_mark c in
+    plain_long here.After-open_blocks-last ∙ sym (size here.Else-number-ne-ACCEPTED)
 
 pub returns-then-has_mark : goal.returns-then-has_mark
 returns-then-has_mark c =
-    let args = (start c).args in
-    ap (leaving accepted) (plain c)
-    ∙ sym (open_accepted (given (start c)) args.note.now args.out.now (number c) (sym (compared c) ∙ c.if-has_mark.true))
+    let here = goal.at.returns-then-has_mark c in
+    let args = c.args in
+    ap (leaving accepted) (plain here.After-open_blocks-last)
+    ∙ sym (open_accepted (given here.Else-number-ne-ACCEPTED) args.note.now args.out.now (number here.Else-number-ne-ACCEPTED) (sym (compared here.After-has_mark) ∙ c.if-has_mark.true))
 
 pub shape_of-out : goal.shape_of-out
 shape_of-out c =
-    ap length c.clear.ensures ∙ length-replicate _ 0 ∙ plain-long c ∙ sym (size c)
+    let here = goal.at.shape_of-out c in
+    ap length c.clear.ensures ∙ length-replicate _ 0 ∙ plain_long here.After-open_blocks-last ∙ sym (size here.Else-number-ne-ACCEPTED)
 
 pub returns : goal.returns
 returns c =
-    let args = (start c).args in
-    ap (leaving mark_differs) (c.clear.ensures ∙ ap (λ (n : ℕ). replicate n 0) (plain-long c))
-    ∙ sym (open_differs (given (start c)) args.note.now args.out.now (number c) (sym (compared c) ∙ c.if-has_mark.false))
+    let here = goal.at.returns c in
+    let args = c.args in
+    ap (leaving mark_differs) (c.clear.ensures ∙ ap (λ (n : ℕ). replicate n 0) (plain_long here.After-open_blocks-last))
+    ∙ sym (open_differs (given here.Else-number-ne-ACCEPTED) args.note.now args.out.now (number here.Else-number-ne-ACCEPTED) (sym (compared here.After-has_mark) ∙ c.if-has_mark.false))

@@ -12,44 +12,48 @@ use Rattle.seal.specs.Seal.{after_block, minus}
 use Rattle.seal.proofs.Overwrite.{zip_length}
 use Rattle.seal.proofs.Calls.{squeezed_length, squeezed_written, squeezed_elements_law}
 use Rattle.seal.proofs.open_block.Goals as goal
+use Rattle.seal.proofs.open_block.Goals.{After-squeeze_step-squeezed, After-take_from}
 
 -- what the record squeezes for the block
-stream : (c : tie.After-squeeze-step) → let args = c.args in
-    c.squeeze_step-squeezed.new.1.0 ≡ squeezed_all args.«record» (length args.cipher.now)
+stream : (c : After-squeeze_step-squeezed) → let args = c.args in
+    c.squeeze_step-squeezed.new.output ≡ squeezed_all args.«record» (length args.cipher.now)
 stream c =
     c.squeeze_step-squeezed.ensures.1 ∙ squeezed_written c.args.«record» c.args.plain.now (length c.args.cipher.now) c.requires.0 c.requires.1
 
-long : (c : tie.After-squeeze-step) → length c.squeeze_step-squeezed.new.1.0 ≡ length c.args.cipher.now
+long : (c : After-squeeze_step-squeezed) → length c.squeeze_step-squeezed.new.output ≡ length c.args.cipher.now
 long c = ap length (stream c) ∙ squeezed_length _ _
 
 -- elements of the record's field
-below : (c : tie.After-squeeze-step) → Below (modulus (field_in c.args.«record»)) c.squeeze_step-squeezed.new.1.0
+below : (c : After-squeeze_step-squeezed) → Below (modulus (field_in c.args.«record»)) c.squeeze_step-squeezed.new.output
 below c =
     rw (stream c) (squeezed_elements_law c.args.«record» (length c.args.cipher.now) c.requires.1)
 
 pub take_from-requires : goal.take_from-requires
 take_from-requires c =
-    (sym (long c), rw c.field_of.ensures (below c))
+    let here = goal.at.take_from-requires c in
+    (sym (long here.After-squeeze_step-squeezed), rw c.field_of.ensures (below here.After-squeeze_step-squeezed))
 
 -- the block in its place has as many elements
-plain-long : (c : tie.After-take-from) → length c.take_from.new.1.1.0 ≡ length c.args.cipher.now
+plain_long : (c : After-take_from) → length c.take_from.new.squeezed ≡ length c.args.cipher.now
 unfolding minus
-plain-long c =
-    ap length c.take_from.ensures ∙ zip_length _ c.args.cipher.now c.squeeze_step-squeezed.new.1.0 (sym (long c)) ∙ long c
+plain_long c =
+    let here = goal.at.After-take_from c in
+    ap length c.take_from.ensures ∙ zip_length _ c.args.cipher.now c.squeeze_step-squeezed.new.output (sym (long here.After-squeeze_step-squeezed)) ∙ long here.After-squeeze_step-squeezed
 
 pub shape_of-plain : goal.shape_of-plain
 shape_of-plain c =
-    plain-long c ∙ c.requires.0
+    plain_long (goal.at.shape_of-plain c).After-take_from ∙ c.requires.0
 
 pub returns : goal.returns
 unfolding after_block
 returns c =
+    let here = goal.at.returns c in
     let r = c.args.«record» in
     let cipher = c.args.cipher.now in
-    let plain = c.take_from.new.1.1.0 in
-    let left = c.squeeze_step-squeezed.ensures.0 ∙ ap (squeeze r) (sym (plain-long c ∙ c.requires.0)) in (
+    let plain = c.take_from.new.squeezed in
+    let left = c.squeeze_step-squeezed.ensures.0 ∙ ap (squeeze r) (sym (plain_long here.After-take_from ∙ c.requires.0)) in (
       c.take_from.ensures
-          ∙ ap (λ (f : Field). minus f cipher c.squeeze_step-squeezed.new.1.0) c.field_of.ensures
-          ∙ ap (minus (field_in r) cipher) (stream c),
+          ∙ ap (λ (f : Field). minus f cipher c.squeeze_step-squeezed.new.output) c.field_of.ensures
+          ∙ ap (minus (field_in r) cipher) (stream here.After-squeeze_step-squeezed),
       ap (λ (a : Answer). a.session) c.absorb_step-absorbed.ensures ∙ ap (λ (a : Answer). (absorb a.session plain).session) left,
     )

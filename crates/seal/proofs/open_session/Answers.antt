@@ -3,12 +3,13 @@
 use mathlib.Core.Path.{sym, ap, ap₂, ◌∙◌}
 use mathlib.Core.List.{List}
 use Prim.Native.Nat.{ℕ}
-use lib.Seq.{length-take-le}
+use lib.ListN.{length}
 use Rattle.pattern.specs.Opening.{opening}
 use Rattle.session.specs.Calls.{start, absorb}
 use Rattle.session.specs.declared.Answer.{Answer}
 use Rattle.seal.specs.Seal.{note_form, started, keyed}
 use Rattle.seal.proofs.Lengths.{lengths_sound}
+use Rattle.seal.proofs.Pattern.{words_count}
 use borrow.Author.Rules.{rules}
 use Rattle.seal.proofs.open_session.Goals as goal
 
@@ -18,7 +19,7 @@ slice_bounds-words-end c =
     search rules
 
 pub slice_bounds-start-end : goal.slice_bounds-start-end
-slice_bounds-start-end c = sym (length-take-le _ c.declare-words.result (array-share-prefix-words c))
+slice_bounds-start-end c = sym (ap length c.declare-words.ensures ∙ words_count c.args.lengths.now)
 
 pub returns : goal.returns
 unfolding keyed started

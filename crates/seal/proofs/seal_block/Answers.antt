@@ -10,23 +10,25 @@ use Rattle.seal.specs.Seal.{after_block, plus}
 use Rattle.seal.proofs.Overwrite.{zip_length}
 use Rattle.seal.proofs.Calls.{squeezed_length, squeezed_written}
 use Rattle.seal.proofs.seal_block.Goals as goal
+use Rattle.seal.proofs.seal_block.Goals.{After-squeeze_step-squeezed}
 
 -- what the record squeezes for the block
-stream : (c : tie.After-squeeze-step) → let args = c.args in
-    c.squeeze_step-squeezed.new.1.0 ≡ squeezed_all args.«record» (length args.plain.now)
+stream : (c : After-squeeze_step-squeezed) → let args = c.args in
+    c.squeeze_step-squeezed.new.output ≡ squeezed_all args.«record» (length args.plain.now)
 stream c =
     c.squeeze_step-squeezed.ensures.1 ∙ squeezed_written c.args.«record» c.args.cipher.now (length c.args.plain.now) c.requires.0 c.requires.1
 
-long : (c : tie.After-squeeze-step) → length c.squeeze_step-squeezed.new.1.0 ≡ length c.args.plain.now
+long : (c : After-squeeze_step-squeezed) → length c.squeeze_step-squeezed.new.output ≡ length c.args.plain.now
 long c = ap length (stream c) ∙ squeezed_length _ _
 
 pub add_to-requires : goal.add_to-requires
-add_to-requires c = sym (long c)
+add_to-requires c = sym (long (goal.at.add_to-requires c).After-squeeze_step-squeezed)
 
 pub shape_of-cipher : goal.shape_of-cipher
 unfolding plus
 shape_of-cipher c =
-    ap length c.add_to.ensures ∙ zip_length _ c.args.plain.now c.squeeze_step-squeezed.new.1.0 (sym (long c)) ∙ long c ∙ c.requires.0
+    let here = goal.at.shape_of-cipher c in
+    ap length c.add_to.ensures ∙ zip_length _ c.args.plain.now c.squeeze_step-squeezed.new.output (sym (long here.After-squeeze_step-squeezed)) ∙ long here.After-squeeze_step-squeezed ∙ c.requires.0
 
 pub returns : goal.returns
 unfolding after_block
@@ -36,6 +38,6 @@ returns c =
     let left = c.squeeze_step-squeezed.ensures.0 ∙ ap (squeeze r) (sym c.requires.0) in (
       ap (λ (a : Answer). a.session) c.absorb_step-moved.ensures ∙ ap (λ (a : Answer). (absorb a.session plain).session) left,
       c.add_to.ensures
-          ∙ ap (λ (f : Field). plus f plain c.squeeze_step-squeezed.new.1.0) c.field_of.ensures
-          ∙ ap (plus (field_in r) plain) (stream c),
+          ∙ ap (λ (f : Field). plus f plain c.squeeze_step-squeezed.new.output) c.field_of.ensures
+          ∙ ap (plus (field_in r) plain) (stream (goal.at.returns c).After-squeeze_step-squeezed),
     )

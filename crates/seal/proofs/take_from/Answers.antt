@@ -17,8 +17,8 @@ unfolding minus
 loop-i-init c = over_begin _ _ (zip_length _ _ _ (search rules))
 
 -- what is squeezed is below p
-pub UNKNOWN-overflow-sub-add : goal.UNKNOWN-overflow-sub-add
-UNKNOWN-overflow-sub-add c =
+pub overflow_sub-p : goal.overflow_sub-p
+overflow_sub-p c =
     let f = c.args.field in
     let i = c.loop-i.i in
     let h : i < length c.args.squeezed.now = search rules in
