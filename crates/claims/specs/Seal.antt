@@ -13,7 +13,6 @@ use Rattle.field.specs.declared.Field.{Field}
 use Rattle.words.specs.Words.{word_of}
 use Rattle.pattern.specs.Pattern.{merged_words}
 use Rattle.pattern.specs.Opening.{opening}
-use Rattle.session.specs.Calls.{start}
 use Rattle.runs.specs.Calls.{Call, ABSORB, SQUEEZE, FINISH, accepts, left_by}
 use Rattle.runs.specs.Runs.{Run, absorbed_of, squeezed_of}
 use Rattle.seal.specs.Seal.{Context, context, Outcome, leaving, block_words, seal_words, started, plus, blocks_of, sound_lengths, are_elements, has_mark, note_rows, seal_rows, seal_note, open_note}
@@ -22,7 +21,7 @@ use Rattle.note_laws.specs.Conditions.{RightLengths}
 use Rattle.seal.proofs.Lengths.{lengths_sound}
 use Rattle.seal.proofs.Pattern.{words_count, words_merged}
 use Rattle.seal.proofs.Rows.{passed}
-use Rattle.seal.proofs.Outcomes.{seal_number, seal_accepted, seal_refused, open_accepted, open_differs, open_refused}
+use Rattle.seal.proofs.Outcomes.{seal_number, seal_accepted, open_accepted, open_differs}
 use Rattle.note_laws.proofs.Inverse.{sealed_opens, opened_seals, another_mark}
 use Rattle.note_laws.proofs.NoteRun.{note_run, note_accepted, note_absorbed, note_squeezed, note_added, accepted_at}
 use Rattle.note_laws.proofs.Refusals as refusals

@@ -1,5 +1,5 @@
 -- SHA3-256 and its permutation by rule: FIPS 202, sections 3, 4 and 6.
-use Rattle.std.specs.Prelude.{◌≡◌, refl, List, [], ◌∷◌, ◌++◌, ℕ, zero, suc, ◌+◌, ◌-◌, ◌*◌, ◌/◌, ◌%◌, ◌^◌, length, get_or, set, take, drop, replicate}
+use Rattle.std.specs.Prelude.{◌≡◌, refl, List, ◌++◌, ℕ, suc, ◌+◌, ◌-◌, ◌*◌, ◌/◌, ◌%◌, ◌^◌, length, get_or, set, take, drop, replicate}
 use Rattle.std.specs.Int.Bits.{bit_and, bit_xor}
 use Rattle.basics.specs.Lists.{tabulate, sum}
 use Rattle.keccak_tables.specs.Tables.{offsets, round_constants}
