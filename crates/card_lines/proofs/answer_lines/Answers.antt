@@ -25,7 +25,7 @@ some_left piece used h = omega (arith, length-drop used piece)
 front_inside : (buffer text : List ℕ) → length text ≤ length (placed buffer 0 text)
 front_inside buffer text = rw (placed_start buffer text) (omega (arith, length-append text (drop (length text) buffer)))
 
--- ---- what the call of `feed` on the rest of the piece gave: its numbers, and the answer that is left where it was lent
+-- ---- what the call of `feed` on the rest of the piece gave: its numbers, and the answer in the bytes lent for it
 module _ (line : List ℕ) (held : ℕ) (piece : List ℕ) (used : ℕ) (r : Fed)
     (gave : r ≡ fed line held (take (length piece - used) (drop used piece))) where
   fed_rest : r ≡ fed line held (drop used piece)

@@ -1,4 +1,4 @@
--- Before each turn of the loop of `answer_lines` `Turn` holds. The loop's measure is how many bytes of the piece are left.
+-- `Turn` holds before each turn of the loop of `answer_lines`. The measure is how many bytes are left.
 use Prim.Native.Nat.{◌-◌}
 use lib.ListN.{length}
 use Rattle.card_lines.proofs.Turns.{Turn}

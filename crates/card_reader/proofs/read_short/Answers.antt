@@ -1,4 +1,4 @@
--- `card_reader::read_short` meets its contract: what `Held` says holds after each byte, and gives the card that the line is.
+-- `card_reader::read_short` meets its contract: `Held` holds after each byte, and behind the last it gives the card.
 -- Assumes nothing.
 use mathlib.Core.Path.{sym, ap, ◌∙◌}
 use Rattle.card_reader.specs.Reading.{reading}

@@ -1,4 +1,4 @@
--- What is left of the calls on the piece leads to the same as all of them. The measure is how many bytes of it are left.
+-- What is left of the calls on the piece leads to the same as all of them. The measure is how many bytes are left.
 use Prim.Native.Nat.{◌-◌}
 use lib.ListN.{length}
 use Rattle.card_lines.specs.Calls.{kept_of, piece_kept}
