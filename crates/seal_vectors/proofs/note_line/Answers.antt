@@ -17,7 +17,7 @@ returns c =
       c.buffer_at-buffer.ensures.1,
       c.words_at-note.ensures.1,
       c.words_at-lengths.ensures.1,
-      c.field_at-field.ensures.1.2,
+      c.field_at-field.ensures.bytes_len.2,
       c.words_at-nonce.ensures.1,
       c.words_at-key.ensures.1,
       c.words_at-number.ensures.1,
