@@ -1,3 +1,4 @@
+-- The loop of `seal::are_sound_lengths` has passed over lengths that a pattern may declare.
 use mathlib.Core.Path.{◌≡◌}
 use Prim.Native.Nat.{◌-◌, ◌≤◌}
 use lib.ListN.{length, drop}

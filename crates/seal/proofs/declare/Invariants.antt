@@ -1,3 +1,4 @@
+-- The loop of `seal::declare` has written the words of the first i blocks behind the first word.
 use mathlib.Core.Path.{◌≡◌}
 use mathlib.Core.List.{◌++◌}
 use Prim.Native.Nat.{◌+◌, ◌*◌, ◌-◌, ◌≤◌}

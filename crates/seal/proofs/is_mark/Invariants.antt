@@ -1,3 +1,4 @@
+-- The loop of `seal::is_mark` has counted where the first k elements differ. Its measure is how many are left.
 use mathlib.Core.Path.{◌≡◌}
 use Prim.Native.Nat.{◌-◌, ◌≤◌}
 use lib.Dec.{eqb}

@@ -1,3 +1,4 @@
+-- The loop of `seal::key_and_nonce` has written the first i elements of the key and of the nonce.
 use Rattle.seal.proofs.Both.{Both}
 use Rattle.seal.proofs.key_and_nonce.Given as goal
 

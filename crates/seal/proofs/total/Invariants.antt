@@ -1,3 +1,4 @@
+-- The loop of `seal::total` has summed the first i lengths, each at most 16,777,216.
 use mathlib.Core.Path.{◌≡◌}
 use Prim.Native.Nat.{◌+◌, ◌-◌, ◌*◌, ◌≤◌}
 use lib.ListN.{length, drop}

@@ -1,3 +1,4 @@
+-- The loop of `seal_vectors::print_first` ends.
 use Prim.Native.Nat.{◌-◌, ◌≤◌}
 use Rattle.seal_vectors.proofs.print_first.Given as goal
 

@@ -1,3 +1,4 @@
+-- The loop of `seal_vectors::print_lines` ends.
 use Prim.Native.Nat.{◌-◌, ◌≤◌}
 use lib.ListN.{length}
 use Rattle.seal_vectors.proofs.print_lines.Given as goal
