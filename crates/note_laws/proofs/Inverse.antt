@@ -1,25 +1,21 @@
 -- What was sealed opens to the same blocks, and what opens was sealed.
 -- Assumes nothing.
 use mathlib.Core.Path.{◌≡◌, refl, sym, ap, ap₂, ◌∙◌}
-use mathlib.Core.Bool.{Bool, true, false}
-use mathlib.Core.List.{List, [], ◌∷◌, ◌++◌, append-nil}
+use mathlib.Core.Bool.{true}
+use mathlib.Core.List.{List, [], ◌++◌, append-nil}
 use mathlib.Core.Logic.{◌≢◌}
-use Prim.Native.Nat.{ℕ, ◌+◌, ◌≤◌}
+use Prim.Native.Nat.{ℕ, ◌+◌}
 use native.Mathlib.Omega.{arith}
-use borrow.Author.Tests.{eqb-true, eqb-false}
-use lib.Dec.{eqb}
-use lib.ListN.{length, replicate, take, drop, length-append, length-drop, take-append-drop}
-use lib.Seq.{take_all, take_at, drop_at, length-take-le}
+use lib.ListN.{length, replicate, take, drop, length-append, take-append-drop}
+use lib.Seq.{take_all, take_at, drop_at}
 use Rattle.basics.specs.Logic.{all}
 use Rattle.basics.specs.Lists.{joined, total}
 use Rattle.basics.specs.Numbers.{accepted, mark_differs}
-use Rattle.basics.specs.Refusals.{first_number}
 use Rattle.basics.proofs.Cases.{cases, all_both}
 use Rattle.field.specs.Field.{field_of, is_element}
 use Rattle.field.specs.declared.Field.{Field}
-use Rattle.session.specs.Record.{field_in, squeezed_all}
 use Rattle.session.specs.declared.Session.{Session}
-use Rattle.seal.specs.Seal.{Context, Outcome, leaving, keyed, after_blocks, cipher_blocks, plain_blocks, mark_of, blocks_of, sealed, unsealed, is_mark, has_mark, note_rows, seal_rows, seal_note, open_note}
+use Rattle.seal.specs.Seal.{Context, Outcome, leaving, keyed, after_blocks, cipher_blocks, plain_blocks, mark_of, blocks_of, sealed, unsealed, is_mark, has_mark, seal_rows, seal_note, open_note}
 use Rattle.seal.proofs.Calls.{squeezed_length, squeezed_elements_law}
 use Rattle.seal.proofs.Marks.{is_mark_same, same_is_mark}
 use Rattle.seal.proofs.Rows.{Passed, passed, passes}

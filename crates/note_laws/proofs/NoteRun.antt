@@ -1,35 +1,34 @@
 -- The calls of a note are a session of the third demand, and what it squeezes is what is added.
 -- Assumes nothing.
 use mathlib.Core.Path.{◌≡◌, refl, sym, ap, ap₂, subst, ◌∙◌}
-use mathlib.Core.Bool.{Bool, true}
+use mathlib.Core.Bool.{true}
 use mathlib.Core.List.{List, [], ◌∷◌, ◌++◌, zip_with, append_assoc, append-nil}
-use Prim.Native.Nat.{ℕ, zero, suc, ◌+◌, ◌%◌, ◌<◌}
+use Prim.Native.Nat.{ℕ, zero, suc, ◌+◌, ◌%◌}
 use native.Mathlib.Nat.{suc_inj, mod-eq_of_lt, zero-add}
 use native.Mathlib.Omega.{arith}
 use borrow.Author.Tests.{eq-eqb}
-use lib.ListN.{length, replicate, length-replicate, length-append, take}
+use lib.ListN.{length, replicate, length-append}
 use lib.Seq.{take_all}
-use Rattle.basics.specs.Logic.{when◌then◌else◌, all}
+use Rattle.basics.specs.Logic.{all}
 use Rattle.basics.specs.Lists.{Below, joined, total}
 use Rattle.basics.specs.Numbers.{accepted}
-use Rattle.basics.specs.Refusals.{first_number}
 use Rattle.basics.proofs.Below.{below_head, below_tail}
 use Rattle.basics.proofs.Cases.{if_true, and_left, and_right}
-use Rattle.field.specs.Field.{modulus, field_of, is_element}
+use Rattle.field.specs.Field.{modulus, field_of}
 use Rattle.field.specs.declared.Field.{Field}
 use Rattle.pattern.specs.Opening.{Opening, opening}
 use Rattle.session.specs.Record.{field_in, squeezed_all}
-use Rattle.session.specs.Calls.{absorb, squeeze, start, finish}
+use Rattle.session.specs.Calls.{squeeze, finish}
 use Rattle.session.specs.declared.Session.{Session}
-use Rattle.runs.specs.Calls.{Call, ABSORB, SQUEEZE, FINISH, answered, accepts, left, left_by, absorbed_in, absorbed, squeezed_in, squeezed}
+use Rattle.runs.specs.Calls.{Call, ABSORB, FINISH, answered, accepts, left, left_by, absorbed_in, absorbed, squeezed_in, squeezed}
 use Rattle.runs.specs.Runs.{Run, absorbed_of, squeezed_of}
 use Rattle.runs.proofs.Forks.{absorbed_append, squeezed_append}
-use Rattle.seal.specs.Seal.{Context, note_form, leaving, seal_words, started, keyed, keystream, after_block, after_blocks, plus, cipher_blocks, mark_of, blocks_of, sealed, seal_rows}
+use Rattle.seal.specs.Seal.{Context, note_form, seal_words, started, keyed, keystream, after_block, after_blocks, plus, cipher_blocks, mark_of, blocks_of, sealed}
 use Rattle.note_laws.specs.Calls.{block_calls, note_calls}
 use Rattle.seal.proofs.Lengths.{declarable}
 use Rattle.seal.proofs.Calls.{squeezed_length, squeezed_elements_law}
 use Rattle.seal.proofs.Rows.{Passed}
-use Rattle.seal.proofs.Accepted.{Fit, none, more, Ready, Block, text_fits, block_accepted, blocks_accepted, mark_accepted, start_accepts, key_accepted, keyed_ready}
+use Rattle.seal.proofs.Accepted.{Fit, none, more, Ready, text_fits, block_accepted, blocks_accepted, mark_accepted, start_accepts, key_accepted, keyed_ready}
 use Rattle.note_laws.proofs.RoundTrip.{joined_again}
 
 -- every call of a list is accepted

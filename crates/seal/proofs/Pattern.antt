@@ -8,7 +8,7 @@ use native.Mathlib.Omega.{arith}
 use borrow.Author.Tests.{le-leb, le-ltb}
 use lib.Dec.{ltb}
 use lib.ListN.{length}
-use Rattle.basics.specs.Logic.{◌or◌, same, all, any}
+use Rattle.basics.specs.Logic.{same, all, any}
 use Rattle.basics.specs.Lists.{Below}
 use Rattle.basics.specs.Numbers.{accepted}
 use Rattle.basics.proofs.Below.{below_nil, below_cons}

@@ -1,7 +1,7 @@
 -- `seal::add_to` meets its contract.
 -- Assumes nothing.
 use mathlib.Core.Path.{sym, ap, ◌∙◌}
-use Prim.Native.Nat.{ℕ, ◌+◌, ◌-◌, ◌%◌, ◌<◌}
+use Prim.Native.Nat.{ℕ, ◌+◌, ◌%◌, ◌<◌}
 use lib.ListN.{length, get_or}
 use Rattle.field.specs.Field.{modulus}
 use Rattle.seal.specs.Seal.{plus}

@@ -1,5 +1,4 @@
 -- The loop of `seal::add_to` has written the first i sums over what was squeezed.
-use Prim.Native.Nat.{◌-◌}
 use Rattle.seal.specs.Seal.{plus}
 use Rattle.seal.proofs.Overwrite.{Over}
 use Rattle.seal.proofs.add_to.Given as goal

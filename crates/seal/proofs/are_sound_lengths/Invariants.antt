@@ -1,6 +1,6 @@
 -- The loop of `seal::are_sound_lengths` has passed over lengths that a pattern may declare.
 use mathlib.Core.Path.{◌≡◌}
-use Prim.Native.Nat.{◌-◌, ◌≤◌}
+use Prim.Native.Nat.{◌≤◌}
 use lib.ListN.{length, drop}
 use Rattle.basics.specs.Logic.{all}
 use Rattle.seal.proofs.Lengths.{declarable}

@@ -1,6 +1,6 @@
 -- `seal::clear` meets its contract.
 -- Assumes nothing.
-use Prim.Native.Nat.{◌-◌, ◌<◌}
+use Prim.Native.Nat.{◌<◌}
 use lib.ListN.{length, length-replicate, get_or-replicate}
 use mathlib.Core.Path.{sym}
 use Rattle.seal.proofs.Overwrite.{over_begin, over_end, over_step}

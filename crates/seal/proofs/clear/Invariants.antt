@@ -1,5 +1,4 @@
 -- The loop of `seal::clear` has written zeros over the first i elements.
-use Prim.Native.Nat.{◌-◌}
 use lib.ListN.{length, replicate}
 use Rattle.seal.proofs.Overwrite.{Over}
 use Rattle.seal.proofs.clear.Given as goal

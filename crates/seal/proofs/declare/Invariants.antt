@@ -1,7 +1,7 @@
 -- The loop of `seal::declare` has written the words of the first i blocks behind the first word.
 use mathlib.Core.Path.{◌≡◌}
 use mathlib.Core.List.{◌++◌}
-use Prim.Native.Nat.{◌+◌, ◌*◌, ◌-◌, ◌≤◌}
+use Prim.Native.Nat.{◌+◌, ◌*◌, ◌≤◌}
 use lib.ListN.{length, take, drop}
 use Rattle.seal.specs.Seal.{block_words, seal_words}
 use Rattle.seal.proofs.declare.Given as goal

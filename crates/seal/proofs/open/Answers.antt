@@ -14,7 +14,6 @@ use Rattle.session.specs.Record.{squeezed_all}
 use Rattle.session.specs.declared.Session.{Session}
 use Rattle.seal.specs.Seal.{Context, context, leaving, keyed, after_blocks, plain_blocks, mark_of, unsealed, is_mark, has_mark, blocks_of, note_rows}
 use Rattle.seal.specs.Steps.{Squeezes}
-use Rattle.seal.proofs.Lengths.{total_fits}
 use Rattle.seal.proofs.Rows.{Passed, passed}
 use Rattle.seal.proofs.Accepted.{Fit, Ready, fit_long, text_fits, plain_fits, blocks_accepted, mark_accepted, keyed_ready}
 use Rattle.seal.proofs.Outcomes.{open_accepted, open_differs, open_refused}

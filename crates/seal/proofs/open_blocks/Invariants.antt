@@ -1,5 +1,4 @@
 -- The loop of `seal::open_blocks` has opened the first i blocks.
-use Prim.Native.Nat.{◌-◌}
 use Rattle.seal.specs.Seal.{plain_blocks}
 use Rattle.seal.proofs.Passes.{Passing}
 use Rattle.seal.proofs.Blocks.{opens, Opens}

@@ -16,7 +16,6 @@ use Rattle.session.specs.declared.Session.{Session}
 use Rattle.session.specs.declared.Answer.{Answer}
 use Rattle.seal.specs.Seal.{Context, context, leaving, keyed, after_blocks, cipher_blocks, mark_of, sealed, blocks_of, seal_rows}
 use Rattle.seal.specs.Steps.{Squeezes}
-use Rattle.seal.proofs.Lengths.{total_fits}
 use Rattle.seal.proofs.Calls.{squeezed_length, squeezed_written}
 use Rattle.seal.proofs.Parts.{out_long, second_long, both_written}
 use Rattle.seal.proofs.Rows.{Passed, passed}

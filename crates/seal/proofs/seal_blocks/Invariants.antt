@@ -1,5 +1,4 @@
 -- The loop of `seal::seal_blocks` has sealed the first i blocks.
-use Prim.Native.Nat.{◌-◌}
 use Rattle.seal.specs.Seal.{after_blocks, cipher_blocks}
 use Rattle.seal.specs.Steps.{Squeezes}
 use Rattle.seal.proofs.Passes.{Passing}

@@ -1,5 +1,4 @@
 -- The loop of `seal::take_from` has written the first i differences over what was squeezed.
-use Prim.Native.Nat.{◌-◌}
 use Rattle.seal.specs.Seal.{minus}
 use Rattle.seal.proofs.Overwrite.{Over}
 use Rattle.seal.proofs.take_from.Given as goal

@@ -1,6 +1,6 @@
 -- `seal::total` meets its contract.
 -- Assumes nothing.
-use Prim.Native.Nat.{◌-◌, ◌<◌}
+use Prim.Native.Nat.{◌<◌}
 use native.Mathlib.Omega.{arith}
 use lib.ListN.{length}
 use Rattle.seal.proofs.Lengths.{lengths_sound, length_at, total_step, total_end}

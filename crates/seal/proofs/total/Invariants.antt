@@ -1,6 +1,6 @@
 -- The loop of `seal::total` has summed the first i lengths, each at most 16,777,216.
 use mathlib.Core.Path.{◌≡◌}
-use Prim.Native.Nat.{◌+◌, ◌-◌, ◌*◌, ◌≤◌}
+use Prim.Native.Nat.{◌+◌, ◌*◌, ◌≤◌}
 use lib.ListN.{length, drop}
 use Rattle.basics.specs.Lists.{total}
 use Rattle.seal.proofs.total.Given as goal
