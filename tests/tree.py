@@ -27,7 +27,7 @@ def files(pattern):
 
 def depends():
     """The crates, each with those that it depends on."""
-    return {crate: libraries.split() for crate, libraries in re.findall(r"^(\w+):(.*)$", read("crates.txt"), re.MULTILINE)}
+    return {crate: libraries.split() for crate, libraries in re.findall(r"^(\w+)(?: staticlib)?:(.*)$", read("crates.txt"), re.MULTILINE)}
 
 
 def crates():
@@ -36,7 +36,7 @@ def crates():
 
 def not_listed():
     """Lines of crates.txt that are not read as a crate, and folders of crates that no line is of: the tests would pass these over."""
-    yield from (f"crates.txt: not read: {line}" for line in read("crates.txt").splitlines() if not re.fullmatch(r"(#.*)?|\w+:( \w+)*", line))
+    yield from (f"crates.txt: not read: {line}" for line in read("crates.txt").splitlines() if not re.fullmatch(r"(#.*)?|\w+( staticlib)?:( \w+)*", line))
     yield from (f"not in crates.txt: {crate}" for crate in sorted({path.split("/")[1] for path in files("crates/*/*")} - set(crates())))
 
 
