@@ -101,8 +101,8 @@ def place(path, text, pattern, rows, name, comment=marked):
     return path, found + [" ".join(rest)] * bool(rest), [f"{row.number} {name(row.name)}: {comment(row)}" for row in rows]
 
 
-def behind_heading(path):
-    return read(path).split("\n\n", 1)[1]
+def behind_heading(path, ends="\n\n"):
+    return read(path).split(ends, 1)[1]
 
 
 def between(path, begin, end):
@@ -116,7 +116,7 @@ def places():
     definitions = r"-- (?P<comment>.+)\nabbrev pub (?P<name>\w+) : ℕ\n(?P=name) = (?P<number>\d+)\n"
     header = r" */\* (?P<comment>.+) \*/\n *(?P<name>\w+) = (?P<number>\d+),?\n"
     rust = r"(?: */// .+\n)* *(?P<number>\d+) (?P<name>\w+) \"(?P<comment>.+)\",\n"
-    yield place(CODE, behind_heading(CODE), code, rows, snake, sentence)
+    yield place(CODE, behind_heading(CODE, "\npub mod bytes;\n"), code, rows, snake, sentence)
     yield place(DEFINITIONS, behind_heading(DEFINITIONS), definitions, rows, lower_snake)
     yield place(HEADER, between(HEADER, "enum tuilarder_number {\n", "};"), header, known, lambda name: "TUILARDER_" + snake(name))
     yield place(RUST, between(RUST, "\nrefusals! {\n", "}\n"), rust, known[1:], camel, lambda row: marked(row, row.message))
