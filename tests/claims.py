@@ -43,7 +43,7 @@ WORDS = {"requires", "ensures", "bool", "u32", "permutations", "axioms=", "nativ
          "tests/claims.py write", "of:", "libc::read", "libc::write", "memcpy", "memset", "target=x86_64-unknown-linux-gnu", "merge",
          "Pattern.antt", "specs/", "proofs/", "src/", "must-fail/"}
 # what the table says before edits of a function, by the folders that they change; a proof may follow a definition, so that a theorem refuses it
-CHANGES = {("src",): "", ("specs", "src"): "of program and definition: ", ("specs",): "of the definition: ", ("proofs", "specs"): "of the definition: "}
+CHANGES = {("src",): "", ("proofs", "src"): "", ("specs", "src"): "of program and definition: ", ("specs",): "of the definition: ", ("proofs", "specs"): "of the definition: "}
 # of a must-fail edit: its name, the contracts and theorems that rule it out, the folders that it changes, and what it puts for what in which files
 Edit = namedtuple("Edit", "name contracts changes replacements")
 
