@@ -58,7 +58,7 @@
 //! # Building
 //!
 //! The build script runs `bindings/staticlib` at the top of the checkout that this crate is part of, which proves the library and takes
-//! some two minutes; it needs the Rattle kit's `rt` on the path. With `TUILARDER_ARCHIVE_DIR` set to the directory of a `libtuilarder.a`,
+//! some minutes; it needs the Rattle kit's `rt` on the path. With `TUILARDER_ARCHIVE_DIR` set to the directory of a `libtuilarder.a`,
 //! it links that and runs nothing; an archive of another version is turned away, and an empty variable is as one that is not set. The library
 //! is for x86-64 Linux only. It needs `memcpy` and `memset`, which a program without `std` has to bring.
 //!
