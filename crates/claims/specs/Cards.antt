@@ -33,7 +33,7 @@ use Rattle.card_lines.specs.declared.Fed.{Fed}
 use Rattle.card_lines.proofs.Progress.{takes_some, takes_first, last_none, last_some}
 use Rattle.card_lines.proofs.Callers.{answered_some, pieces_output}
 use Rattle.card_lines.proofs.Cutting.{written_output, start_holds}
-use Rattle.claims.specs.Sessions.{count_of_session}
+use Rattle.runs.proofs.Counted.{count_whole}
 use Rattle.claims.specs.Fields.{fields_by_number, known_field_at_start}
 use Rattle.claims.specs.Forms.{forms_by_number}
 
@@ -97,7 +97,7 @@ unfolding full_permutations
 answer_is_of_session a f line c =
     answer_to_card line a.opening.separator a.opening.words c
     ∙ accepted_answer a.opening (start_accepted a.field a.form a.opening a.opens)
-    ∙ ap₂ (λ (form count : ℕ). ok_text (tag_string form a.opening) count) (sym f) (sym (count_of_session a))
+    ∙ ap₂ (λ (form count : ℕ). ok_text (tag_string form a.opening) count) (sym f) (sym (count_whole a))
 
 -- The bytes that a call wrote are the first ones of the array that it was lent, as many as the number in its answer says. Of `card::answer` they
 -- are the answer and a newline;
@@ -197,16 +197,18 @@ pub two_ways_of_cutting : (line line' : List ℕ) (pieces pieces' : List (List �
     → joined pieces ≡ joined pieces'
     → text_of_pieces (start_kept line) pieces ≡ text_of_pieces (start_kept line') pieces'
 two_ways_of_cutting line line' pieces pieces' long long' e =
-    output_of_pieces line pieces long ∙ ap output e ∙ sym (output_of_pieces line' pieces' long')
+    pieces_output pieces (start_kept line) [] (start_holds line long)
+    ∙ ap output e
+    ∙ sym (pieces_output pieces' (start_kept line') [] (start_holds line' long'))
 
 -- document 01's three lines
-line1 : List ℕ
+unfoldable pub line1 : List ℕ
 line1 = ascii "(card (domain 4142) (calls (a 3) (a 3) (s 3)))"
 
-line2 : List ℕ
+unfoldable pub line2 : List ℕ
 line2 = ascii "(card (domain) (calls (s 1)))"
 
-line3 : List ℕ
+unfoldable pub line3 : List ℕ
 line3 = ascii "(card (domain) (calls (a 0)))"
 
 card1 : CardOf line1 (0x41 ∷ 0x42 ∷ []) (0x80000003 ∷ 0x80000003 ∷ 3 ∷ [])
@@ -221,41 +223,22 @@ card3 : CardOf line3 [] (0x80000000 ∷ [])
 unfolding line3 all ◌and◌ hex_digit hex separator_text decimal_up_to decimal call_text calls_text card_text is_absorb length_of when◌then◌else◌
 card3 = record { short = lit≤ tt; bytes = refl; words = refl; text = refl }
 
-answer1 : answer line1 ≡ ascii "(ok 80000006000000034142 1)"
+pub answer1 : answer line1 ≡ ascii "(ok 80000006000000034142 1)"
 unfolding card_answer ok_text opening_number opening_rows word_rows first_number tag_string string_of tail_of word_bytes digits merged_words phases merge join phase_of word_of is_absorb length_of
     full_permutations permutations_at phase_permutations block_count sum hex_digit hex decimal_up_to decimal when◌then◌else◌ ◌or◌ same any
 answer1 = answer_to_card _ _ _ card1 ∙ refl
 
-answer2 : answer line2 ≡ ascii "(no 3)"
+pub answer2 : answer line2 ≡ ascii "(no 3)"
 unfolding card_answer no_text opening_number opening_rows word_rows first_number is_absorb length_of decimal_up_to decimal when◌then◌else◌ ◌or◌ any
 answer2 = answer_to_card _ _ _ card2 ∙ refl
 
-answer3 : answer line3 ≡ ascii "(no 2)"
+pub answer3 : answer line3 ≡ ascii "(no 2)"
 unfolding card_answer no_text opening_number opening_rows word_rows first_number is_absorb length_of decimal_up_to decimal when◌then◌else◌ ◌or◌ any
 answer3 = answer_to_card _ _ _ card3 ∙ refl
 
-three_lines : (a b c : List ℕ) → answer line1 ≡ a → answer line2 ≡ b → answer line3 ≡ c
+pub three_lines : (a b c : List ℕ) → answer line1 ≡ a → answer line2 ≡ b → answer line3 ≡ c
     → answers (line1 ∷ line2 ∷ line3 ∷ []) ≡ with_newline a ++ (with_newline b ++ (with_newline c ++ []))
 unfolding answers
 three_lines a b c e f g =
     ap₂ (λ (x y : List ℕ). with_newline x ++ y) e
     (ap₂ (λ (x y : List ℕ). with_newline x ++ y) f (ap (λ (x : List ℕ). with_newline x ++ []) g))
-
--- "Whole input and output"
-pub whole_example : output (ascii "(card (domain 4142) (calls (a 3) (a 3) (s 3)))\n(card (domain) (calls (s 1)))\n(card (domain) (calls (a 0)))\n")
-    ≡ ascii "(ok 80000006000000034142 1)\n(no 3)\n(no 2)\n"
-unfolding output lines before line1 line2 line3 when◌then◌else◌ with_newline
-whole_example = three_lines _ _ _ answer1 answer2 answer3
-
--- the same input in pieces, the first cut inside its second line, the second empty, the third cut before its last newline
-pub example_in_pieces : (line : List ℕ) → length line ≡ 2049
-    → text_of_pieces
-    (start_kept line)
-    (ascii "(card (domain 4142) (calls (a 3) (a 3) (s 3)))\n(card (dom"
-    ∷ []
-    ∷ ascii "ain) (calls (s 1)))\n(card (domain) (calls (a 0)))"
-    ∷ ascii "\n"
-    ∷ [])
-    ≡ ascii "(ok 80000006000000034142 1)\n(no 3)\n(no 2)\n"
-unfolding joined
-example_in_pieces line long = output_of_pieces line _ long ∙ whole_example

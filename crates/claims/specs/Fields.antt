@@ -159,7 +159,7 @@ arithmetic_of_each_field f a b = (
 pub inverses_of_each_field_undo : (f : Field) (k x : ℕ) → k < 47 → x * (k + 24) % modulus f * get_or (inverses f) k 0 % modulus f ≡ x % modulus f
 inverses_of_each_field_undo f k x h =
     let product = ap (λ (n : ℕ). n % modulus f) (mul_comm (k + 24) (get_or (inverses f) k 0)) ∙ inverses_rule f k h ∙ moduli.one_is_one f in
-    inverses_undo (modulus f) (k + 24) (get_or (inverses f) k 0) x product
+    congruence.inverse_undoes (modulus f) (k + 24) (get_or (inverses f) k 0) x product
 
 -- and each field's rounds go by remainders, and give 24 of its elements.
 pub rounds_of_each_field : (f : Field) (r : ℕ) (s t : List ℕ)

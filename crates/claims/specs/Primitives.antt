@@ -13,6 +13,7 @@ use Rattle.poseidon.proofs.Bounds.{permutation_state}
 use Rattle.poseidon.proofs.Matrix as rows
 use Rattle.generator.specs.Generator.{first_register, found, generation}
 use Rattle.generated_table.specs.GeneratedTable as table
+use Rattle.generated_table.proofs.GeneratedTable as table_of_run
 use Rattle.keccak_tables.specs.Tables.{offsets, round_constants}
 use Rattle.keccak_tables.specs.TableRules.{offsets_by_rule, round_constants_by_rule}
 use Rattle.keccak_tables.proofs.TablesByRule as rules
@@ -43,13 +44,13 @@ constants_are_elements = (entries.constants_length BabyBear, entries.constants_l
 -- "The 696 round constants come from Poseidon's Grain generator.": it finds 696, and leaves the table; "so 744 constants from the same generator
 -- with the register's 21 changed to 23"
 pub tables_generated : (found (first_register 21) 2013265921 696 262144 ≡ constants BabyBear) × (found (first_register 23) 2130706433 744 262144 ≡ constants KoalaBear)
-tables_generated = (table.table_found BabyBear, table.table_found KoalaBear)
+tables_generated = (table_of_run.table_found BabyBear, table_of_run.table_found KoalaBear)
 
 -- "in the generator, whose list has 744 places in either field": field 1's 696 constants with 48 zeros behind them, field 2's 744;
 pub generator_by_field : (generation 1 ≡ record { number = accepted; constants = constants BabyBear ++ replicate 48 0; count = 696 })
     × (generation 2 ≡ record { number = accepted; constants = constants KoalaBear; count = 744 })
 unfolding constants
-generator_by_field = (table.field_1_generated, table.field_2_generated)
+generator_by_field = (table_of_run.field_1_generated, table_of_run.field_2_generated)
 
 -- "18: field number neither 1 nor 2", "and then holds zeros, none found"
 pub generator_without_field : (field : ℕ) → is_field field ≡ false → generation field ≡ record { number = field_unknown; constants = replicate 744 0; count = 0 }

@@ -97,4 +97,4 @@ tag_strings_tell = strings_tell
 -- "Among form 2 sessions of one field, tag strings tell patterns and separators whatever the lengths."
 pub form_2_strings_tell : (a b : Opening) → opening_number a ≡ accepted → opening_number b ≡ accepted
     → (tag_string 2 a ≡ tag_string 2 b) ↔ ((phases a.words ≡ phases b.words) × (a.separator ≡ b.separator))
-form_2_strings_tell a b e f = tag_strings_tell 2 forms_by_number.1 a b e f (λ z. absurd (omega (arith, z)))
+form_2_strings_tell a b e f = strings_tell 2 forms_by_number.1 a b e f (λ z. absurd (omega (arith, z)))

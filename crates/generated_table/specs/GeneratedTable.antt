@@ -14,70 +14,42 @@ use Rattle.generator.specs.Generator.{first_register, new_bits, output_bits, can
 use Rattle.generated_table.specs.OnNumbers.{bits_of, next, step, after, after_bound, dropped, emitted, value_after, size_after, run, run_is}
 
 -- the register at its start
-abbrev start : Field → List ℕ
+abbrev pub start : Field → List ℕ
 start f = first_register (partial_rounds f)
 
 -- the same as a number
-register_number : Field → ℕ
+unfoldable pub register_number : Field → ℕ
 register_number f = sum 80 (λ k. get_or (start f) k 0 * 2 ^ k)
 
 -- that of each field by itself, so that its run computes it once
-baby_bear_first : ℕ
+unfoldable pub baby_bear_first : ℕ
 baby_bear_first = register_number BabyBear
 
-koala_bear_first : ℕ
+unfoldable pub koala_bear_first : ℕ
 koala_bear_first = register_number KoalaBear
 
-first : Field → ℕ
+unfoldable pub first : Field → ℕ
 first BabyBear = baby_bear_first
 first KoalaBear = koala_bear_first
 
-first_is : (f : Field) → start f ≡ bits_of (first f)
+pub first_is : (f : Field) → start f ≡ bits_of (first f)
 unfolding first_register digits bits_of tabulate first baby_bear_first koala_bear_first register_number sum
 first_is BabyBear = refl
 first_is KoalaBear = refl
 
-first_bound : (f : Field) → first f < 2 ^ 80
+pub first_bound : (f : Field) → first f < 2 ^ 80
 unfolding first baby_bear_first koala_bear_first register_number first_register digits sum
 first_bound BabyBear = lit< tt
 first_bound KoalaBear = lit< tt
 
 -- the first constants of all 130,992 pairs
-baby_bear_computed : take (constant_count BabyBear) (run (modulus BabyBear) 130992 (after 160 baby_bear_first) 0 0) ≡ baby_bear_constants
+pub baby_bear_computed : take (constant_count BabyBear) (run (modulus BabyBear) 130992 (after 160 baby_bear_first) 0 0) ≡ baby_bear_constants
 unfolding run after step next emitted value_after size_after baby_bear_first register_number first_register digits sum when◌then◌else◌ baby_bear_constants
 baby_bear_computed = refl
 
-koala_bear_computed : take (constant_count KoalaBear) (run (modulus KoalaBear) 130992 (after 160 koala_bear_first) 0 0) ≡ koala_bear_constants
+pub koala_bear_computed : take (constant_count KoalaBear) (run (modulus KoalaBear) 130992 (after 160 koala_bear_first) 0 0) ≡ koala_bear_constants
 unfolding run after step next emitted value_after size_after koala_bear_first register_number first_register digits sum when◌then◌else◌ koala_bear_constants
 koala_bear_computed = refl
-
-computed : (f : Field) → take (constant_count f) (run (modulus f) 130992 (after 160 (first f)) 0 0) ≡ constants f
-unfolding first constants
-computed BabyBear = baby_bear_computed
-computed KoalaBear = koala_bear_computed
-
-pub table_found : (f : Field) → found (first_register (partial_rounds f)) (modulus f) (constant_count f) 262144 ≡ constants f
-unfolding found number number_after
-table_found f =
-    ap (λ (bits : List ℕ). take (constant_count f) (kept (modulus f) (candidates (output_bits bits))))
-    (ap (λ (r : List ℕ). drop 160 (new_bits 262144 r)) (first_is f) ∙ dropped 160 (first f) (first_bound f) 262144)
-    ∙ ap (take (constant_count f)) (run_is (modulus f) 130992 (after 160 (first f)) [] (after_bound 160 (first f) (first_bound f)) (lit< tt))
-    ∙ computed f
-
--- "The 696 round constants come from Poseidon's Grain generator."; "so 744 constants from the same generator"
-pub table_generated : (f : Field) → generated f ≡ constants f
-unfolding generated
-table_generated = table_found
-
--- "whose list has 744 places in either field": 696 constants and 48 zeros for field 1
-pub field_1_generated : generation 1 ≡ record { number = accepted; constants = baby_bear_constants ++ replicate 48 0; count = 696 }
-unfolding generation with_constants is_field field_of ◌or◌ when◌then◌else◌ constants baby_bear_constants
-field_1_generated = ap (with_constants accepted) (table_generated BabyBear)
-
--- 744 for field 2
-pub field_2_generated : generation 2 ≡ record { number = accepted; constants = koala_bear_constants; count = 744 }
-unfolding generation with_constants is_field field_of ◌or◌ when◌then◌else◌ constants koala_bear_constants
-field_2_generated = ap (with_constants accepted) (table_generated KoalaBear)
 
 -- "18: field number neither 1 nor 2 .. in the generator, whose list .. then holds zeros, none found"
 pub no_field_generated : (field : ℕ) → is_field field ≡ false → generation field ≡ record { number = field_unknown; constants = replicate 744 0; count = 0 }

@@ -30,21 +30,21 @@ use Rattle.runs.specs.Calls.{Call, ABSORB, SQUEEZE, answered, left, left_by}
 use Rattle.sample_records.specs.SampleRecords.{record4, record5, record6, record7, started4, started5, started6, started7}
 
 -- two lists are equal
-same_list : List ℕ → List ℕ → Bool
+unfoldable pub same_list : List ℕ → List ℕ → Bool
 same_list [] [] = true
 same_list [] (y ∷ ys) = false
 same_list (x ∷ xs) [] = false
 same_list (x ∷ xs) (y ∷ ys) = eqb x y and same_list xs ys
 
 -- "B1 80000003 80000003 00000003, separator 4142: 80000006000000034142."
-b1 : List Bool
+unfoldable pub b1 : List Bool
 b1 =
     eqb (start_number 1 1 (opening (0x80000003 ∷ 0x80000003 ∷ 3 ∷ []) (0x41 ∷ 0x42 ∷ []))) accepted
     ∷ same_list (tag_string 1 (opening (0x80000003 ∷ 0x80000003 ∷ 3 ∷ []) (0x41 ∷ 0x42 ∷ []))) (0x80 ∷ 0 ∷ 0 ∷ 6 ∷ 0 ∷ 0 ∷ 0 ∷ 3 ∷ 0x41 ∷ 0x42 ∷ [])
     ∷ []
 
 -- "B2 80000001 00000001, separator 8000000200000002, gives the same string as 80000001 00000001 80000002 00000002 with none."
-b2 : List Bool
+unfoldable pub b2 : List Bool
 b2 =
     eqb (start_number 1 1 (opening (0x80000001 ∷ 1 ∷ []) (0x80 ∷ 0 ∷ 0 ∷ 2 ∷ 0 ∷ 0 ∷ 0 ∷ 2 ∷ []))) accepted
     ∷ eqb (start_number 1 1 (opening (0x80000001 ∷ 1 ∷ 0x80000002 ∷ 2 ∷ []) [])) accepted
@@ -54,7 +54,7 @@ b2 =
     ∷ []
 
 -- document 02: "case B2 shows two of those protocols sharing a tag. The trade's rule here becomes form 2": its two strings there, which differ
-b2_in_form2 : List Bool
+unfoldable pub b2_in_form2 : List Bool
 b2_in_form2 =
     same_list
     (tag_string 2 (opening (0x80000001 ∷ 1 ∷ []) (0x80 ∷ 0 ∷ 0 ∷ 2 ∷ 0 ∷ 0 ∷ 0 ∷ 2 ∷ [])))
@@ -69,7 +69,7 @@ b2_in_form2 =
     ∷ []
 
 -- "B3 fffffffe 80000001 00000001: accepted, merged ffffffff 00000001."; document 02, of number 5: "its example and B3 now get the new number"
-b3 : List Bool
+unfoldable pub b3 : List Bool
 b3 =
     eqb (start_number 1 1 (opening (0xfffffffe ∷ 0x80000001 ∷ 1 ∷ []) [])) call_too_long
     ∷ eqb (start_number 1 1 (opening (0xffffffff ∷ 0x80000001 ∷ 1 ∷ []) [])) call_too_long
@@ -77,42 +77,42 @@ b3 =
     ∷ []
 
 -- the permutations that calls on a record count, and what FINISH answers then
-by_calls : Session → List Call → List ℕ
+unfoldable pub by_calls : Session → List Call → List ℕ
 by_calls r cs = let t = left_by r cs in t.permutations ∷ (finish t).number ∷ []
 
 -- "B4 ABSORB 8, SQUEEZE 1: 1 permutation.", by the formula, and by running the calls on the record that START gives
-words4 : List ℕ
+unfoldable pub words4 : List ℕ
 words4 = 0x80000008 ∷ 1 ∷ []
 
-b4 : Session → List Bool
+unfoldable pub b4 : Session → List Bool
 b4 r = eqb (full_permutations words4) 1 ∷ same_list (by_calls r (ABSORB (replicate 8 5) ∷ SQUEEZE 1 ∷ [])) (1 ∷ accepted ∷ []) ∷ []
 
 -- "B5 9 and 1: 2."
-words5 : List ℕ
+unfoldable pub words5 : List ℕ
 words5 = 0x80000009 ∷ 1 ∷ []
 
-b5 : Session → List Bool
+unfoldable pub b5 : Session → List Bool
 b5 r = eqb (full_permutations words5) 2 ∷ same_list (by_calls r (ABSORB (replicate 9 5) ∷ SQUEEZE 1 ∷ [])) (2 ∷ accepted ∷ []) ∷ []
 
 -- "B6 1 and 9: 2."
-words6 : List ℕ
+unfoldable pub words6 : List ℕ
 words6 = 0x80000001 ∷ 9 ∷ []
 
-b6 : Session → List Bool
+unfoldable pub b6 : Session → List Bool
 b6 r = eqb (full_permutations words6) 2 ∷ same_list (by_calls r (ABSORB (5 ∷ []) ∷ SQUEEZE 9 ∷ [])) (2 ∷ accepted ∷ []) ∷ []
 
 -- "B7 8, 8, 1, 1, kinds alternating: 2."
-words7 : List ℕ
+unfoldable pub words7 : List ℕ
 words7 = 0x80000008 ∷ 8 ∷ 0x80000001 ∷ 1 ∷ []
 
-b7 : Session → List Bool
+unfoldable pub b7 : Session → List Bool
 b7 r =
     eqb (full_permutations words7) 2
     ∷ same_list (by_calls r (ABSORB (replicate 8 5) ∷ SQUEEZE 8 ∷ ABSORB (5 ∷ []) ∷ SQUEEZE 1 ∷ [])) (2 ∷ accepted ∷ [])
     ∷ []
 
 -- "B8 inverse of 24: 1929379841; of 32: 1950351361.": the products are 1, and the inverses stand in row 0 of the matrix, in columns 0 and 8.
-b8 : List Bool
+unfoldable pub b8 : List Bool
 b8 =
     eqb (24 * 1929379841 % modulus BabyBear) 1
     ∷ eqb (matrix (parameters BabyBear) 0 0) 1929379841
@@ -121,7 +121,7 @@ b8 =
     ∷ []
 
 -- document 02: "the same 47 sums inverted in its own field": B8 modulo 2130706433
-b8_in_field2 : List Bool
+unfoldable pub b8_in_field2 : List Bool
 b8_in_field2 =
     eqb (24 * 621456043 % modulus KoalaBear) 1
     ∷ eqb (matrix (parameters KoalaBear) 0 0) 621456043
@@ -130,36 +130,36 @@ b8_in_field2 =
     ∷ []
 
 -- what a partial round raises x to
-raised : Field → ℕ → ℕ
+unfoldable pub raised : Field → ℕ → ℕ
 raised f x = get_or (raise_first (parameters f) (x ∷ replicate 23 0)) 0 0
 
 -- "B9 seventh power of 2: 128; of p − 1: p − 1."
-b9 : List Bool
+unfoldable pub b9 : List Bool
 b9 = eqb (raised BabyBear 2) 128 ∷ eqb (raised BabyBear (modulus BabyBear - 1)) (modulus BabyBear - 1) ∷ []
 
 -- document 02: "Field 2 uses the third power": of 2, of p − 1, and of 1287, the least number whose third power is above p
-b9_in_field2 : List Bool
+unfoldable pub b9_in_field2 : List Bool
 b9_in_field2 =
     eqb (raised KoalaBear 2) 8 ∷ eqb (raised KoalaBear (modulus KoalaBear - 1)) (modulus KoalaBear - 1) ∷ eqb (raised KoalaBear 1287) 1040470 ∷ []
 
 -- "B10 digest word ffffffff: 1073741823.", at each of the eight words
-b10 : List Bool
+unfoldable pub b10 : List Bool
 b10 = same_list (tag_elements (replicate 32 0xff)) (replicate 8 1073741823) ∷ []
 
 -- all tests, with a record for each of B4 to B7
-samples_with : Session → Session → Session → Session → List Bool
+unfoldable pub samples_with : Session → Session → Session → Session → List Bool
 samples_with r4 r5 r6 r7 = b1 ++ b2 ++ b2_in_form2 ++ b3 ++ b4 r4 ++ b5 r5 ++ b6 r6 ++ b7 r7 ++ b8 ++ b8_in_field2 ++ b9 ++ b9_in_field2 ++ b10
 
 -- the record that START gives to field 1, form 1, words and the empty separator
-started : List ℕ → Session
+unfoldable pub started : List ℕ → Session
 started ws = (start 1 1 (opening ws [])).session
 
 -- all tests, where those of B4 to B7 run on the records that START gives to their words
-pub samples : List Bool
+unfoldable pub samples : List Bool
 samples = samples_with (started words4) (started words5) (started words6) (started words7)
 
 -- The tests pass on the records with computed digests.
-computed : all (λ sample. sample) (samples_with record4 record5 record6 record7) ≡ true
+pub computed : all (λ sample. sample) (samples_with record4 record5 record6 record7) ≡ true
 unfolding samples_with b1 b2 b2_in_form2 b3 b4 b5 b6 b7 b8 b8_in_field2 b9 b9_in_field2 b10 same_list full_permutations by_calls raised
     record4 record5 record6 record7 words4 words5 words6 words7 alternate sound_words sound_places
     all any ◌and◌ ◌or◌ when◌then◌else◌ same tabulate sum digits number number_after
@@ -171,12 +171,6 @@ unfolding samples_with b1 b2 b2_in_form2 b3 b4 b5 b6 b7 b8 b8_in_field2 b9 b9_in
     block_count phase_permutations permutations_at in_last_block positions_after positions_at sound_place sound
     giving in_pattern record_rows call_rows absorb_rows finish_rows wipes answer_of absorb squeeze finish answered left left_by
 computed = refl
-
--- Every test of every sample passes, and there are 33: two of B1, three of B2, three of it in form 2, three of B3, two each of B4 to B7, four of B8 and four in field 2, two of B9 and
--- three in field 2, and one of B10.
-pub samples_hold : (length samples ≡ 33) × (all (λ sample. sample) samples ≡ true)
-unfolding samples samples_with b1 b2 b2_in_form2 b3 b4 b5 b6 b7 b8 b8_in_field2 b9 b9_in_field2 b10 started words4 words5 words6 words7
-samples_hold = (refl, (λ i. all (λ sample. sample) (samples_with (started4 i) (started5 i) (started6 i) (started7 i))) ∙ computed)
 
 -- What each permutation makes of the state 0, 1, .., 23, by the second implementation (tests/oracle).
 pub permutations_of_one_state : let s = tabulate 24 (λ k. k) in
