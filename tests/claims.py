@@ -202,7 +202,9 @@ def untried():
         if not edit.contracts:
             yield f"{edit.name}: no line `of:` that names a contract or a theorem"
         yield from (f"{edit.name}: not in the tree: {name}" for name in edit.contracts if name not in known)
-        if edit.changes not in CHANGES:
+        # of theorems that stand in proofs/ the statement is changed there
+        theorem = edit.changes == ("proofs",) and not any("::" in name for name in edit.contracts)
+        if edit.changes not in CHANGES and not theorem:
             yield f"{edit.name}: changes neither program nor definition"
         yield from not_once(edit)
     for function in public_functions():
