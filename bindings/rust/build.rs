@@ -76,8 +76,17 @@ fn given(directory: &Path) -> PathBuf {
 /// The archive that `rt` makes. It is no reason to run again, since `rt` writes it while this script runs.
 fn built() -> PathBuf {
     let root = Path::new(&variable("CARGO_MANIFEST_DIR")).join("../..");
-    for part in ["crates", "crates.txt"] {
-        println!("cargo:rerun-if-changed={}", root.join(part).display());
+    println!("cargo:rerun-if-changed={}", root.join("crates.txt").display());
+    // not a whole crate: what `rt` makes stands in it too
+    let crates = fs::read_dir(root.join("crates")).unwrap_or_else(|error| fail(&format!("crates: {error}")));
+    for path in crates.flatten().map(|entry| entry.path()) {
+        for part in ["src", "specs", "proofs"]
+            .map(|part| path.join(part))
+            .iter()
+            .filter(|part| part.exists())
+        {
+            println!("cargo:rerun-if-changed={}", part.display());
+        }
     }
     // what rt says is for people: on this script's standard output cargo would read it
     let output = match Command::new(root.join("bindings/staticlib")).output() {
