@@ -39,7 +39,7 @@ DEFINITION = r"^(?:unfoldable pub|abbrev pub|pub record|pub data) (\S+)"
 NO_EQUATION = "## Public contracts that are no equation"
 # words in docs/CLAIMS.md that name nothing in the tree
 WORDS = {"requires", "ensures", "bool", "u32", "permutations", "axioms=", "native=nat,char,string", "logic-built=trusted",
-         "libraries-built=trusted", "rattle-kit-5b-plain", "rt ci", "rt version", "tests/claims.py test", "tests/claims.py papers FOLDER",
+         "libraries-built=trusted", "statements=trusted", "cpu=x86-64-v2", "os::c::rattle_errno", "rattle-kit-13f", "rt ci", "rt version", "tests/claims.py test", "tests/claims.py papers FOLDER",
          "tests/claims.py write", "of:", "libc::read", "libc::write", "memcpy", "memset", "target=x86_64-unknown-linux-gnu", "merge",
          "Pattern.antt", "specs/", "proofs/", "src/", "must-fail/"}
 # what the table says before edits of a function, by the folders that they change; a proof may follow a definition, so that a theorem refuses it
