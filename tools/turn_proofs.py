@@ -1,5 +1,11 @@
 #!/usr/bin/env python3
-# usage: turn_proofs.py CRATE NAMES_JSON   (cwd = repo top): Proof.antt -> Invariants.antt + Answers.antt
+"""Turns walks, proofs/F/Proof.antt, into Invariants.antt and Answers.antt, once, after snake_names.py.
+
+usage: tools/turn_proofs.py CRATE NAMES.json [WORD..]       at the top of the repository
+
+NAMES.json is what `rattle check --generated DIR --old-names` writes of the crate: the old and the new name of each goal and place. WORD.. takes only proofs
+whose paths have one of them. What it can't turn it says: helper lemmas over a place of the walk ('helper with tie'), goals that it doesn't find ('need?').
+"""
 import sys,os,re,json,glob
 crate,namesf=sys.argv[1:3]
 only=sys.argv[3:]
@@ -8,19 +14,6 @@ def canon(s):
     s=re.sub(r"_(law|diagonals)$","",s)
     return re.sub(r"[-_]","",s).lower()
 IDENT=r"[A-Za-z_][\w'\-₀]*"
-def blocks(text):
-    """top-level items: (signature lines, body)"""
-    lines=text.split('\n'); out=[]; cur=[]; pend=[]
-    for ln in lines:
-        if ln.startswith(' ') or ln.strip()=='' :
-            cur.append(ln); continue
-        if ln.startswith('unfolding'):
-            cur.append(ln); continue
-        cur_name=out and None
-        cur=[ln] if False else cur
-        out_line=ln
-        out.append(ln); cur=[]
-    return out
 def items(text):
     """list of dict(kind, name, sig, lines, comment)"""
     res=[]; comment=[]
