@@ -27,5 +27,5 @@ pub example_in_pieces : (line : List ℕ) → length line ≡ 2049
     ∷ ascii "\n"
     ∷ [])
     ≡ ascii "(ok 80000006000000034142 1)\n(no 3)\n(no 2)\n"
-unfolding joined
-example_in_pieces line long = pieces_output _ (start_kept line) [] (start_holds line long) ∙ whole_example
+unfolding joined output lines before line1 line2 line3 when◌then◌else◌ with_newline
+example_in_pieces line long = pieces_output _ (start_kept line) [] (start_holds line long) ∙ three_lines _ _ _ answer1 answer2 answer3
