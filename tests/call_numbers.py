@@ -116,7 +116,9 @@ def places():
     definitions = r"-- (?P<comment>.+)\nabbrev pub (?P<name>\w+) : ℕ\n(?P=name) = (?P<number>\d+)\n"
     header = r" */\* (?P<comment>.+) \*/\n *(?P<name>\w+) = (?P<number>\d+),?\n"
     rust = r"(?: */// .+\n)* *(?P<number>\d+) (?P<name>\w+) \"(?P<comment>.+)\",\n"
-    yield place(CODE, behind_heading(CODE, "\npub mod bytes;\n"), code, rows, snake, sentence)
+    variants = r" *// (?P<comment>.+)\n *(?P<name>\w+) = (?P<number>\d+),\n"
+    yield place(CODE, between(CODE, "answer_number};\n", "\n// Why"), code, rows[:1], snake, sentence)
+    yield place(CODE, between(CODE, "\npub enum Refusal {\n", "}\n"), variants, rows[1:], camel, sentence)
     yield place(DEFINITIONS, behind_heading(DEFINITIONS), definitions, rows, lower_snake)
     yield place(HEADER, between(HEADER, "enum tuilarder_number {\n", "};"), header, known, lambda name: "TUILARDER_" + snake(name))
     yield place(RUST, between(RUST, "\nrefusals! {\n", "}\n"), rust, known[1:], camel, lambda row: marked(row, row.message))
@@ -238,7 +240,7 @@ def findings():
 MISTAKES = [
     (NUMBERS, "| 7 | record not open", "| 17 | record not open", "one after the other"),
     (NUMBERS, "| record not open |", "| record not sound |", "the name record not sound"),
-    (NUMBERS, "| 14 | not card |", "| 14 | not card line |", "NOT_CARD"),
+    (NUMBERS, "| 14 | not card |", "| 14 | not card line |", "14 NotCard"),
     (NUMBERS, "| 22 | form", "| 22 | another one | of something | | | an example | write |\n| 23 | form", "TUILARDER_ANOTHER_ONE"),
     (NUMBERS, "80000001 00000001 | |", "80000001 00000001 | START, write, cards |", "START gives [0, 1, 2, 3, 6, 18, 19, 22]"),
     (NUMBERS, "| | | | owner |", "| | | | check owners, owner |", "check owners gives [0, 15, 16]"),
@@ -259,9 +261,10 @@ MISTAKES = [
     (NUMBERS, "| not a card line | | | (card) | cards |", "| not a card line | | | (card) | |", "NotCard"),
     (NUMBERS, "| permute | `tuilarder_permute` |", "| permute | |", "lacks tuilarder_permute"),
     (NUMBERS, "| FINISH |\n| 12", "| FINISH, SHUT |\n| 12", "no call SHUT"),
-    (CODE, "u32 = 6;", "u32 = 5;", "SEPARATOR_TOO_LONG"),
+    (CODE, "u32 = 0;", "u32 = 23;", "23 ACCEPTED"),
+    (CODE, "SeparatorTooLong = 6", "SeparatorTooLong = 5", "5 SeparatorTooLong"),
     (CODE, "// Record not open.", "// The record is closed.", "The record is closed."),
-    (CODE, "pub const NOT_CARD", "pub const OTHER: u32 = 15;\n\npub const NOT_CARD", "OTHER"),
+    (CODE, "NotCard = 14,", "NotCard = 14,\n\n    Other = 15,", "Other"),
     (DEFINITIONS, "last_word_absorb = 4", "last_word_absorb = 3", "last_word_absorb"),
     (DEFINITIONS, "-- not a card line\nabbrev pub not_card : ℕ\nnot_card = 14\n", "", "not_card"),
     (HEADER, "TUILARDER_BUFFER_TOO_SHORT = 12", "TUILARDER_BUFFER_SHORT = 12", "TUILARDER_BUFFER_SHORT"),

@@ -30,8 +30,9 @@ from second_implementation import LANDED
 from tree import crates, depends, files, not_listed, read, report, trials, write
 
 README, ARCHITECTURE = "README.md", "docs/ARCHITECTURE.md"
-# docs/PORT.md has names as they were before
-DOCUMENTS = [README] + [path for path in files("docs/*.md") if path != "docs/PORT.md"]
+# these two have names as they were before
+BEFORE = {"docs/PORT.md", "docs/DESIGN-PASS.md"}
+DOCUMENTS = [README] + [path for path in files("docs/*.md") if path not in BEFORE]
 RULED_OUT = "## What each public contract rules out"
 READING, ALONE, HELD = "## What to read, in which order", "## Definitions that no contract cites", "## What holds definitions fast"
 # a definition, a record or a type of cases, by its name
@@ -297,7 +298,7 @@ def mistakes():
         ("crates/field/must-fail/sum_of_first.edit", "file: src/", "file: proofs/", "changes neither"),
         ("crates/field/must-fail/sum_of_first.edit", "old: ", "old: untold ", "field/sum_of_first: 0 times in crates/field/src/lib.rt"),
         ("crates/field/src/lib.rt", "\npub fn ", "\npub fn untold() {}\n\npub fn ", "fewer than two edits of field::untold"),
-        (CLAIMS, "| `poseidon::permutation_by` | the lists", "| the lists", "the contract of poseidon::permutation_by is no equation"),
+        (CLAIMS, "| `poseidon::permutation_by` | the tables", "| the lists", "the contract of poseidon::permutation_by is no equation"),
         (CLAIMS, "| `montgomery::reduce` | `", "| `montgomery::product` | `", "named as a contract that is no equation: montgomery::product"),
         ("crates/field/src/lib.rt", "{ result ≡ is_field number }", "{ number ≡ 1 → result ≡ is_field number }", "the contract of field::is_field is no equation"),
         ("crates/field/src/lib.rt", "{ result ≡ is_field number }", "{ Named number result }", "the contract of field::is_field is no equation"),
@@ -330,7 +331,7 @@ def public_mistakes():
         put(f"pub fn untold()\n    ghost {{ ℕ }}\n{says}{{}}", "field::untold is public and has a `ghost`"),
         put("mod inner {\npub fn untold() {}\n}\npub use inner::{untold as told};", "a `use` under another name"),
         put("pub use basics::ACCEPTED as MODULUS;", "a `use` under another name"),
-        put("pub enum Figure { Modulus = 17 }", "an enum whose cases have numbers: Figure"),
+        put("pub enum Figure { Modulus = 17 }", "public constant field::Figure::Modulus: 17 in the code, nothing in the table"),
         put(f"mod inner {{\npub fn untold()\n{says}{{}}\n}}\npub use inner::untold;", "fewer than two edits of field::inner::untold"),
         put(f"{method}{asks}{says}{{}}\n}}", "field::Other::untold is public and has a `requires`"),
         put("pub use std::num::wrapping_add_u32;", "a `pub use` of something outside of the tree"),

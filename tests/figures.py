@@ -85,7 +85,7 @@ def not_defined(row, known):
 def findings():
     """Numbers of calls have their rows in docs/NUMBERS.md."""
     code, rows, known = values([item for crate in crates() for item in items(crate)]), [*constants()], definitions()
-    figures = {f"basics::{call_numbers.snake(row.name)}": row.number for row in call_numbers.table()}
+    figures = {f"basics::Refusal::{call_numbers.camel(row.name)}" if row.number else "basics::ACCEPTED": row.number for row in call_numbers.table()}
     figures |= {row.name: row.figure for row in rows}
     for name in sorted(code.keys() | figures.keys()):
         if code.get(name) != figures.get(name):
@@ -100,7 +100,7 @@ MISTAKES = [
     ("crates/session/src/lib.rt", "Session::RATE + Session::CAPACITY", "Session::RATE * Session::CAPACITY", "session::Session::WIDTH: 128 in the code"),
     ("crates/session/src/lib.rt", "pub const RATE", "const RATE", "session::Session::RATE: nothing in the code, 8"),
     ("crates/pattern/src/lib.rt", "MAX_SEPARATOR: usize = 256;", "MAX_SEPARATOR: usize = 9999;", "pattern::MAX_SEPARATOR: 9999 in the code"),
-    ("crates/basics/src/lib.rt", "u32 = 14;", "u32 = 13;", "basics::NOT_CARD: 13 in the code, 14"),
+    ("crates/basics/src/lib.rt", "NotCard = 14,", "NotCard = 13,", "basics::Refusal::NotCard: 13 in the code, 14"),
     ("crates/pattern/specs/Opening.antt", "max_separator = 256", "max_separator = 255", "pattern/Opening.max_separator is 255"),
     (CLAIMS, "| 8 | 01: \"rate 8\" |", "| 8 | 01: \"capacity 16\" |", "session::Session::RATE: 8 is not in the quotation"),
     (CLAIMS, "01: \"rate 8\"", "01: \"a rate of 8\"", "session::Session::RATE: not of a sentence"),

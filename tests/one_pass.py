@@ -6,7 +6,7 @@
 
 `test` reads the source of the crate `pattern` and of the callers of `pattern::check`, and fails where one of these is not so:
 - `check` calls the function of the pass, `pass::pass`, once and in no loop, and does nothing else with the words lent than to take their number;
-- `pass` has one loop, over the places of the words in turn, which looks at one word and hands it to `pass_word`, the step, once;
+- `pass` has one loop, over the words and their places in turn, which looks at one word and hands it to `pass_word`, the step, once;
 - there is no other loop in the crate, and no function of it comes back to itself;
 - the contract of `pass_word` cites `pass_step`, and that of `pass` `held_after`;
 - START, writing and the answer to a card call `pattern::check` once each, and hand the words on to nothing else.
@@ -60,16 +60,17 @@ def called(function, names):
 def in_check(check):
     if count(check.body, r"\bpass :: pass \(") != 1:
         yield f"{LIB}: `check` does not call `pass::pass` exactly once"
-    rest = check.body.replace("pass :: pass ( & words [ . . count ] , & mut list )", "").replace("words . len ( )", "")
+    rest = check.body.replace("pass :: pass ( & words [ . . looked_at ] , & mut list )", "").replace("words . len ( )", "")
+    rest = rest.replace("words . is_empty ( )", "").replace("Words { words : list , count }", "")
     if count(rest, r"\bwords\b(?! :)"):
         yield f"{LIB}: `check` does more with the words than to take their number and to hand them to `pass::pass`"
 
 
 def in_pass(found):
-    if loops(found.body) != 1 or not count(found.body, r"\bfor i in 0 \. \. words \. len \( \) {"):
-        yield f"{PASS}: `pass` has not one loop, over the places of the words"
-    one = "pass_word ( list , held , i , words [ i ] )" in found.body
-    if not one or count(found.body, r"\bpass_word \(") != 1 or count(found.body, r"\bwords\b") != 2:
+    if loops(found.body) != 1 or not count(found.body, r"\bfor \( n , word \) in words \. iter \( \) \. enumerate \( \) {"):
+        yield f"{PASS}: `pass` has not one loop, over the words and their places"
+    one = "pass_word ( list , held , n , * word )" in found.body
+    if not one or count(found.body, r"\bpass_word \(") != 1 or count(found.body, r"\bwords\b") != 1:
         yield f"{PASS}: `pass` does not hand each word to `pass_word` exactly once"
 
 
@@ -116,31 +117,31 @@ def findings():
             *(finding for caller in CALLERS for finding in in_caller(*caller))]
 
 
-CHECK, LOOP = "\npub fn check(", "    for i in 0..words.len() {"
-CALL, STEP = "    let passed = pass::pass(&words[..count], &mut list);\n", "        let next = pass_word(list, held, i, words[i]);\n"
+CHECK, LOOP = "\npub fn check(", "    for (n, word) in words.iter().enumerate() {"
+CALL, STEP = "    let passed = pass::pass(&words[..looked_at], &mut list);\n", "        held = pass_word(list, held, n, *word);\n"
 MISTAKES = [
-    (LIB, CALL, "    let passed = pass::Held { number: 0, count };\n", "`check` does not call `pass::pass` exactly once"),
+    (LIB, CALL, "    let passed = Ok(looked_at);\n", "`check` does not call `pass::pass` exactly once"),
     (LIB, CALL, 2 * CALL, "`check` does not call `pass::pass` exactly once"),
-    (LIB, CALL, "    // pass::pass(&words[..count], &mut list)\n", "`check` does not call `pass::pass` exactly once"),
+    (LIB, CALL, "    // pass::pass(&words[..looked_at], &mut list)\n", "`check` does not call `pass::pass` exactly once"),
     (LIB, CALL, f"    while again {{\n{CALL}    }}\n", "`check` has a loop"),
     (LIB, CALL, f"    let zero = looked_through(words);\n{CALL}", "`check` does more with the words"),
     (LIB, CALL, f"    let first = words[0];\n{CALL}", "`check` does more with the words"),
     (LIB, CHECK, f"\nfn some(list: &[u32; 64]) -> u32 {{\n    for i in 0..64 {{\n    }}\n    list[0]\n}}\n{CHECK}", "`some` has a loop"),
     (LIB, CHECK, f"\nfn from(i: u32) -> u32 {{\n    if i == 64 {{ 0 }} else {{ from(i + 1) }}\n}}\n{CHECK}", "`from` comes back to itself"),
-    (LIB, "    if separator_length > MAX_SEPARATOR {", "    check(&[], &[]);\n    if separator_length > MAX_SEPARATOR {", "comes back to itself"),
+    (LIB, "    (separator_length > MAX_SEPARATOR)", "    check(&[], &[]);\n    (separator_length > MAX_SEPARATOR)", "comes back to itself"),
     (LIB, "pub fn check(", "pub fn checked(", "not there: check"),
     (PASS, STEP, 2 * STEP, "`pass` does not hand each word to `pass_word` exactly once"),
-    (PASS, STEP, STEP.replace("words[i]", "words[0]"), "`pass` does not hand each word to `pass_word` exactly once"),
-    (PASS, STEP, f"        let last = words[i - 1];\n{STEP}", "`pass` does not hand each word to `pass_word` exactly once"),
-    (PASS, LOOP, LOOP.replace("0..", "1.."), "`pass` has not one loop"),
-    (PASS, LOOP, f"{LOOP}\n        for j in 0..i {{\n        }}", "`pass` has not one loop"),
-    (PASS, "    2 * (number as u64)\n", "    while number < 2 {\n    }\n    2 * (number as u64)\n", "`rank_of` has a loop"),
+    (PASS, STEP, STEP.replace("*word", "words[0]"), "`pass` does not hand each word to `pass_word` exactly once"),
+    (PASS, STEP, f"        let last = words[n - 1];\n{STEP}", "`pass` does not hand each word to `pass_word` exactly once"),
+    (PASS, LOOP, LOOP.replace(".iter()", ".iter().skip(1)"), "`pass` has not one loop"),
+    (PASS, LOOP, f"{LOOP}\n        for j in 0..n {{\n        }}", "`pass` has not one loop"),
+    (PASS, "    2 * u64::from(u32::from(refusal))\n", "    while true {\n    }\n    2 * u64::from(u32::from(refusal))\n", "`rank_of` has a loop"),
     (PASS, "≡ pass_step n (held_after ws) word)", "≡ held_after (ws ++ (word ∷ [])))", "the contract of `pass_word` does not cite `pass_step`"),
     (PASS, "≡ held_after words.now }", "≡ passed words.now }", "the contract of `pass` does not cite `held_after`"),
     (PASS, "fn pass_word(", "fn pass_one(", "not there: pass_word"),
-    *((path, "pattern::check(words, separator);", "pattern::check(words, separator);\n    pattern::check(words, separator);",
+    *((path, "pattern::check(words, separator)", "pattern::check(words, separator) + pattern::check(words, separator)",
        f"`{name}` does not call `pattern::check` exactly once") for path, name in CALLERS),
-    ("crates/session/src/lib.rt", "pattern::check(words, separator);", "pattern::check(words, separator);\n        let again = sum_of(words);",
+    ("crates/session/src/lib.rt", "pattern::check(words, separator)?;", "pattern::check(words, separator)?;\n        let again = sum_of(words);",
      "`start` does more with the words"),
 ]
 

@@ -16,7 +16,11 @@ from tree import files, read
 # constant's value or of what a `use` names; crate::module:: that it stands in; and what stands in each `ensures` of a function
 Item = namedtuple("Item", "name kind public words module ensures")
 CLAUSES = {"ghost", "requires", "ensures"}
-ATTRIBUTES = {"unsafe ( no_mangle )", "repr ( C )", "derive ( Clone , Copy )"}
+ATTRIBUTES = {"unsafe ( no_mangle )", "repr ( C )", "must_use", "inline"}
+# what is derived says nothing that a contract of the tree does not say
+DERIVES = re.compile(r"derive \( (?:(?:Clone|Copy|Debug|PartialEq|Eq|PartialOrd|Ord|Hash|Default|Drop)(?: , )?)+ \)")
+# traits of the library, which a caller may call through
+LIBRARY_TRAITS = {"From", "TryFrom", "Into", "Iterator", "Display", "Debug", "Error", "Clone", "PartialEq", "Eq", "Drop", "Default"}
 # attributes that choose tactics, of a file or of an item: they say nothing of the code
 TACTIC = re.compile(r"tactic \(.*\)")
 CLOSING = {"(": ")", "[": "]", "{": "}"}
@@ -90,7 +94,7 @@ def marks(words, at):
     while words[at] == "#":
         end = behind_group(words, at + 1)
         attribute = " ".join(words[at + 2:end - 1])
-        if attribute not in ATTRIBUTES and not TACTIC.fullmatch(attribute):
+        if attribute not in ATTRIBUTES and not TACTIC.fullmatch(attribute) and not DERIVES.fullmatch(attribute):
             raise Unreadable(f"#[{attribute}]")
         public, at = public or "no_mangle" in attribute, end
     if words[at] == "pub":
@@ -104,7 +108,8 @@ def marks(words, at):
 
 
 def function(words, at):
-    """The clauses of a function's contract, from its parameters on, what stands in those that are `ensures`, and the place behind its body."""
+    """The clauses of a function's contract, from its parameters on, what stands in those that are `ensures`, and the place behind its body, or, where
+    it has none, behind its end."""
     clauses, ensures = [], []
     at = behind_group(words, behind(words, at, {"("}))
     while words[at] != "{":
@@ -113,7 +118,7 @@ def function(words, at):
             ensures += [words[at + 1]] * (words[at] == "ensures")
             at += 2
         elif words[at] == ";":
-            raise Unreadable("a function without a body")
+            return clauses, ensures, at + 1
         else:
             at = behind_group(words, at)
     return clauses, ensures, behind_group(words, at)
@@ -127,22 +132,50 @@ def behind_tactic(words, at):
     return end
 
 
+def camel(words):
+    """A type as part of a name, as the kit has it: its words, each with a capital, without lifetimes."""
+    text = re.sub(r"' \w+", "", " ".join(words)).replace("&", " Ref ").replace("[", " Array ")
+    return "".join(word[0].upper() + word[1:].replace("_", "") for word in re.findall(r"\b[A-Za-z]\w*", text))
+
+
 def owner(words):
-    """The type of an `impl`, without lifetimes."""
-    return re.sub(r"<[^<>]*>", "", " ".join(words)).strip()
+    """The type of an `impl`, without lifetimes; with the trait behind it, if it is of one, as the kit names it."""
+    text = " ".join(words)
+    text = re.sub(r"^(<(?:[^<>]|<[^<>]*>)*>)? *", "", text)
+    text = re.split(r" where ", text)[0]
+    if " for " in text:
+        trait, type_ = text.split(" for ")
+        return camel([re.sub(r"<.*>", "", type_)]) + camel([re.sub(r"' \w+", "", trait)])
+    return re.sub(r"<.*>", "", text).strip()
 
 
-def items_of(words, prefix, module):
-    """The items of a module, or of an `impl` in it, whose names begin with the prefix."""
-    at = 0
+def cases(words, prefix, public, module):
+    """The cases of an enum that have numbers, as constants of these."""
+    for at, word in enumerate(words):
+        if word == "=":
+            yield Item(prefix + words[at - 1], "const", public, [words[at + 1]], module, [])
+
+
+def items_of(words, prefix, module, outside=False):
+    """The items of a module, or of an `impl` or a trait in it, whose names begin with the prefix. What an `impl` of a trait has is public as the
+    trait is, and of a trait from outside of the crate it is public."""
+    at, gives = 0, {}
     while at < len(words):
+        if words[at] == "ghost":
+            end = behind(words, at, {";"})
+            # what an `impl` says of a function of a trait from the library stands in a member of its own
+            gives[words[at + 1].removesuffix("_gives")], at = " ".join(words[at + 3:end]), end + 1
+            continue
         if words[at:at + 2] == ["#", "!"]:
             at = behind_tactic(words, at + 2)
             continue
         public, here = marks(words, at)
+        public = public or outside
         kind, name, ensures = words[here], words[here + 1], []
         if kind == "fn":
             found, ensures, at = function(words, here + 2)
+            if name in gives:
+                found, ensures = [*found, "ensures"], [*ensures, gives[name]]
         elif kind in ("use", "const"):
             begin = behind(words, here, {"="} if kind == "const" else {"use"}) + 1
             end = behind(words, begin, {";"})
@@ -152,14 +185,17 @@ def items_of(words, prefix, module):
         elif kind in ("struct", "enum", "type"):
             end = behind(words, here, {";", "{"})
             found, at = [], behind_group(words, end)
-            if kind == "enum" and "=" in words[end:at]:
-                raise Unreadable(f"an enum whose cases have numbers: {name}")
-        elif kind in ("mod", "impl"):
+            if kind == "enum":
+                yield from cases(words[end:at], f"{prefix}{name}::", public, module)
+        elif kind in ("mod", "impl", "trait"):
             begin = behind(words, here, {";", "{"})
-            name, at = owner(words[here + 1:begin]), behind_group(words, begin, functions=True)
+            header = words[here + 1:begin]
+            name, at = owner(header) if kind == "impl" else header[0], behind_group(words, begin, functions=True)
             inside = f"{prefix}{name}::"
-            yield from items_of(words[begin + 1:at - 1], inside, inside if kind == "mod" else module)
-            found = []
+            of_trait = kind == "impl" and "for" in header
+            known = of_trait and any(word in LIBRARY_TRAITS for word in header[:header.index("for")])
+            yield from items_of(words[begin + 1:at - 1], inside, inside if kind == "mod" else module, known)
+            kind, found = "impl of a trait" if of_trait else kind, []
         else:
             raise Unreadable(" ".join(words[at:at + 12]))
         yield Item(prefix + name, kind, public, found, module, ensures)

@@ -9,7 +9,7 @@ use lib.ListN.{take}
 use Rattle.basics.specs.Numbers.{accepted}
 use Rattle.basics.proofs.Cases.{if_true, if_false}
 use Rattle.pattern.specs.Opening.{Opening, opening_number, checked}
-use Rattle.pattern.specs.declared.WordList.{WordList}
+use Rattle.pattern.specs.Opening.{WordList}
 use Rattle.pattern.proofs.Checked.{number_checked, started, count_checked, words_checked}
 use Rattle.tag.specs.TagString.{tag_string}
 use Rattle.counters.specs.Permutations.{permutations_at, full_permutations}

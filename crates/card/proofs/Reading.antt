@@ -12,14 +12,14 @@ use Rattle.basics.specs.Numbers.{not_card}
 use Rattle.card_grammar.specs.Grammar.{Reading, card, none}
 use Rattle.card_grammar.specs.Card.{card_of}
 use Rattle.card_reader.specs.Reading.{reading}
-use Rattle.card_reader.specs.declared.Card.{Card}
+use Rattle.card_reader.specs.Reading.{CardRead}
 use Rattle.pattern.specs.Opening.{opening}
 use Rattle.card.specs.Answer.{no_text, card_answer, answer}
 use Rattle.card.proofs.Cut.{cut_answer_law}
 use Rattle.card.proofs.Laws.{answer_card, answer_none}
 
 -- a record holds a card, each list cut to its places
-pub record Holds (r : Reading) (c : Card) : Type 0 where
+pub record Holds (r : Reading) (c : CardRead) : Type 0 where
   pub separator : List ℕ
   pub words : List ℕ
   pub is : r ≡ card separator words
@@ -53,12 +53,12 @@ unfolding reading
 reading_none (card s ws) t = absurd (true≢false t)
 reading_none none t = refl
 
-module _ (line : List ℕ) (c : Card) (e : c ≡ reading (card_of line)) where
+module _ (line : List ℕ) (c : CardRead) (e : c ≡ reading (card_of line)) where
   pub holds : c.is_card ≡ true → Holds (card_of line) c
-  holds t = subst (Holds (card_of line)) (sym e) (reading_holds (card_of line) (sym (ap (λ (d : Card). d.is_card) e) ∙ t))
+  holds t = subst (Holds (card_of line)) (sym e) (reading_holds (card_of line) (sym (ap (λ (d : CardRead). d.is_card) e) ∙ t))
 
   pub answers_none : c.is_card ≡ false → answer line ≡ no_text not_card
-  answers_none t = answer_none line (reading_none (card_of line) (sym (ap (λ (d : Card). d.is_card) e) ∙ t))
+  answers_none t = answer_none line (reading_none (card_of line) (sym (ap (λ (d : CardRead). d.is_card) e) ∙ t))
 
   pub answers_card : c.is_card ≡ true → answer line ≡ card_answer (opening (take c.word_count c.words) (take c.separator_length c.separator))
   answers_card t =

@@ -4,20 +4,24 @@
 pub mod text;
 
 ghost use Rattle.std.specs.Prelude.{◌≡◌, ◌≤◌, length};
+ghost use Rattle.basics.specs.Answers.{number_of};
 ghost use Rattle.basics.specs.Lists.{placed};
 ghost use Rattle.pattern.specs.Opening.{opening};
 ghost use Rattle.tag.specs.TagString.{max_string};
 ghost use Rattle.card.specs.Answer.{ok_text, no_text, card_answer, answer, with_newline};
 
+use basics::Refusal;
+use progress::place::Place;
+
 // The bytes of the longest answer, with its newline.
 pub const LONGEST_ANSWER: usize = 1050;
 
 // Writes "(no N)" and a newline.
-fn put_no(buffer: &mut [u8; 1050], number: u32) -> usize
-    requires { number ≤ 99 }
-    ensures { (result ≡ length (with_newline (no_text number))) ×
-        (buffer.new ≡ placed buffer.old 0 (with_newline (no_text number))) }
+fn put_no(buffer: &mut [u8; 1050], refusal: Refusal) -> usize
+    ensures { (result ≡ length (with_newline (no_text (number_of refusal)))) ×
+        (buffer.new ≡ placed buffer.old 0 (with_newline (no_text (number_of refusal)))) }
 {
+    let number = u32::from(refusal);
     text::copy(buffer, 0, b"(no ");
     let number_end = text::put_decimal(buffer, 4, number as u64);
     text::copy(buffer, number_end, b")\n");
@@ -43,16 +47,18 @@ fn answer_card(words: &[u32], separator: &[u8], buffer: &mut [u8; 1050]) -> usiz
     ensures { (result ≡ length (with_newline (card_answer (opening words.now separator.now)))) ×
         (buffer.new ≡ placed buffer.old 0 (with_newline (card_answer (opening words.now separator.now)))) }
 {
-    let merged = pattern::check(words, separator);
-    if merged.number != basics::ACCEPTED {
-        return put_no(buffer, merged.number);
-    }
-    let list = merged.words;
-    let count = merged.count;
+    let merged = match pattern::check(words, separator) {
+        Ok(merged) => merged,
+        Err(refusal) => return put_no(buffer, refusal),
+    };
+    let list = merged.as_slice();
     let mut string = [0u8; tag::MAX_STRING];
-    let written = tag::write_string(tag::FORM_1, &list[..count], separator, &mut string);
-    let length = written.length;
-    let permutations = counters::permutations::permutations_at(&list[..count], count as u32, 0);
+    let length = tag::write_string(tag::FORM_1, list, separator, &mut string).unwrap();
+    let end = Place {
+        phase: merged.count as u32,
+        done: 0,
+    };
+    let permutations = counters::permutations::permutations_at(list, end);
     put_ok(buffer, &string[..length], permutations)
 }
 
@@ -61,13 +67,8 @@ pub fn answer(line: &[u8], buffer: &mut [u8; 1050]) -> usize
     ensures { (result ≡ length (with_newline (answer line.now))) ×
         (buffer.new ≡ placed buffer.old 0 (with_newline (answer line.now))) }
 {
-    let card = card_reader::read(line);
-    if !card.is_card {
-        return put_no(buffer, basics::NOT_CARD);
+    match card_reader::read(line) {
+        Some(card) => answer_card(card.words.as_slice(), card.separator.as_slice(), buffer),
+        None => put_no(buffer, Refusal::NotCard),
     }
-    let words = card.words;
-    let word_count = card.word_count;
-    let separator = card.separator;
-    let separator_length = card.separator_length;
-    answer_card(&words[..word_count], &separator[..separator_length], buffer)
 }

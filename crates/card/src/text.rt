@@ -7,14 +7,7 @@ ghost use Rattle.card_grammar.specs.Text.{hex_digit, hex, decimal};
 fn fitting(buffer: usize, at: usize, bytes: usize) -> usize
     ensures { result ≡ min (buffer - at) bytes }
 {
-    if at >= buffer {
-        return 0;
-    }
-    if bytes < buffer - at {
-        bytes
-    } else {
-        buffer - at
-    }
+    bytes.min(buffer.saturating_sub(at))
 }
 
 // Copies bytes to a place of the buffer, as many as it has room for there, and gives their number.
@@ -23,8 +16,8 @@ pub fn copy(buffer: &mut [u8], at: usize, bytes: &[u8]) -> usize
         (buffer.new ≡ placed buffer.old at (take (length buffer.old - at) bytes.now)) }
 {
     let count = fitting(buffer.len(), at, bytes.len());
-    for i in 0..count {
-        buffer[at + i] = bytes[i];
+    for (i, byte) in bytes[..count].iter().enumerate() {
+        buffer[at + i] = *byte;
     }
     count
 }
@@ -42,8 +35,7 @@ pub(crate) fn put_hex(buffer: &mut [u8], at: usize, bytes: &[u8]) -> usize
     ensures { (result ≡ at + length (hex bytes.now)) ×
         (buffer.new ≡ placed buffer.old at (hex bytes.now)) }
 {
-    for i in 0..bytes.len() {
-        let byte = bytes[i];
+    for (i, byte) in bytes.iter().enumerate() {
         buffer[at + 2 * i] = hex_digit(byte / 16);
         buffer[at + 2 * i + 1] = hex_digit(byte % 16);
     }

@@ -1,7 +1,7 @@
 // The machine that reads a card line, a byte at a time: where it stands, and what a byte does.
 
 // Where the machine stands in a line. Every number is a u32, even a small one: with one width the compiler keeps a mode in registers.
-#[derive(Clone, Copy)]
+#[derive(Clone, Copy, Debug, PartialEq, Eq)]
 pub enum Mode {
     // in "(card (domain", before the byte at that place
     Head(u32),
@@ -38,7 +38,7 @@ pub enum Mode {
 }
 
 // What a byte does: it moves the machine on, or ends a byte of the separator or a word.
-#[derive(Clone, Copy)]
+#[derive(Clone, Copy, Debug, PartialEq, Eq)]
 pub enum Move {
     To(Mode),
     Byte(u8),

@@ -27,21 +27,19 @@ pub struct Fed {
 fn line_end(piece: &[u8]) -> usize
     ensures { (result ≡ length (first_line piece.now)) × (result ≤ length piece.now) }
 {
-    let mut i: usize = 0;
-    while i < piece.len() {
-        if piece[i] == b'\n' {
+    for (i, byte) in piece.iter().enumerate() {
+        if *byte == b'\n' {
             return i;
         }
-        i += 1;
     }
-    i
+    piece.len()
 }
 
 // At most 2,049.
 fn within(held: usize) -> usize
     ensures { result ≡ min held 2049 }
 {
-    if held < PLACES { held } else { PLACES }
+    held.min(PLACES)
 }
 
 // Puts bytes behind the line in progress, as far as there are places, and gives its length.

@@ -1,57 +1,42 @@
 // The machine that reads a card line, a byte at a time.
 #![tactic(auto)]
 
-ghost use Rattle.std.specs.Prelude.{◌≡◌};
-ghost use Rattle.card_grammar.specs.Machine.{head_at, middle_at, hex_value, decimal_value, expected, move_of};
+ghost use Rattle.std.specs.Prelude.{◌≡◌, ◌<◌, MatchOption, slice_index};
+ghost use Rattle.card_grammar.specs.Machine.{hex_value, decimal_value, expected, move_of};
 
 use card_grammar::machine::{Mode, Move};
 
-fn head_at(place: u32) -> u8
-    ensures { result ≡ head_at place }
+// What stands before the separator of a card, and behind it.
+const HEAD: &[u8; 13] = b"(card (domain";
+
+const MIDDLE: &[u8; 8] = b") (calls";
+
+// The byte at a place of a text, and 0 behind it, which no byte of a text is.
+fn byte_at(text: &[u8], place: u32) -> u8
+    ensures { result ≡ slice_index text.now place }
 {
-    let text = b"(card (domain";
-    let i = place as usize;
-    if i < 13 { text[i] } else { 0 }
+    text.get(place as usize).copied().unwrap_or(0)
 }
 
-fn middle_at(place: u32) -> u8
-    ensures { result ≡ middle_at place }
+// The value of a lower-case hexadecimal digit.
+fn hex_value(byte: u8) -> Option<u8>
+    ensures { MatchOption result (hex_value byte ≡ 16) (λ value. (value < 16) × (value ≡ hex_value byte)) }
 {
-    let text = b") (calls";
-    let i = place as usize;
-    if i < 8 { text[i] } else { 0 }
+    match byte {
+        b'0'..=b'9' => Some(byte - b'0'),
+        b'a'..=b'f' => Some(byte - b'a' + 10),
+        _ => None,
+    }
 }
 
-// The value of a lower-case hexadecimal digit, and 16 for another byte.
-fn hex_value(byte: u8) -> u8
-    ensures { result ≡ hex_value byte }
+// The value of a decimal digit.
+fn decimal_value(byte: u8) -> Option<u8>
+    ensures { MatchOption result (decimal_value byte ≡ 10) (λ value. (value < 10) × (value ≡ decimal_value byte)) }
 {
-    if byte < b'0' {
-        return 16;
+    match byte {
+        b'0'..=b'9' => Some(byte - b'0'),
+        _ => None,
     }
-    if byte <= b'9' {
-        return byte - b'0';
-    }
-    if byte < b'a' {
-        return 16;
-    }
-    if byte <= b'f' {
-        return byte - b'a' + 10;
-    }
-    16
-}
-
-// The value of a decimal digit, and 10 for another byte.
-fn decimal_value(byte: u8) -> u8
-    ensures { result ≡ decimal_value byte }
-{
-    if byte < b'0' {
-        return 10;
-    }
-    if byte <= b'9' {
-        return byte - b'0';
-    }
-    10
 }
 
 // Before a byte that is fixed: it leads to `next`, any other to no card.
@@ -65,16 +50,18 @@ fn expect(byte: u8, wanted: u8, next: Mode) -> Move
     }
 }
 
+// In the text before the separator.
 fn head_step(place: u32, byte: u8) -> Move
     ensures { result ≡ move_of (Mode.Head place) byte }
 {
-    let wanted = head_at(place);
+    let wanted = byte_at(HEAD, place);
     if place < 12 {
         return expect(byte, wanted, Mode::Head(place + 1));
     }
     expect(byte, wanted, Mode::Domain)
 }
 
+// Behind "(card (domain": the separator follows, or its bracket closes.
 fn domain_step(byte: u8) -> Move
     ensures { result ≡ move_of Mode.Domain byte }
 {
@@ -84,30 +71,28 @@ fn domain_step(byte: u8) -> Move
     expect(byte, b')', Mode::Middle(1))
 }
 
+// The first digit of a pair.
 fn first_step(byte: u8) -> Move
     ensures { result ≡ move_of Mode.First byte }
 {
-    let value = hex_value(byte);
-    if value < 16 {
-        Move::To(Mode::Half(value as u32))
-    } else {
-        Move::To(Mode::Dead)
+    match hex_value(byte) {
+        Some(value) => Move::To(Mode::Half(u32::from(value))),
+        None => Move::To(Mode::Dead),
     }
 }
 
-// The second digit of a pair ends a byte. `high` is below 16 in every mode that a line leads to; the test shows that the byte fits.
+// The second digit of a pair ends a byte. `high` is below 16 in every mode that a line leads to; the test shows that
+// the byte fits.
 fn half_step(high: u32, byte: u8) -> Move
     ensures { result ≡ move_of (Mode.Half high) byte }
 {
-    let value = hex_value(byte);
-    if value < 16 {
-        if high < 16 {
-            return Move::Byte((high * 16 + value as u32) as u8);
-        }
+    match hex_value(byte) {
+        Some(low) if high < 16 => Move::Byte((high * 16 + u32::from(low)) as u8),
+        _ => Move::To(Mode::Dead),
     }
-    Move::To(Mode::Dead)
 }
 
+// Behind a pair: the bracket closes, or another pair begins.
 fn more_step(byte: u8) -> Move
     ensures { result ≡ move_of Mode.More byte }
 {
@@ -117,16 +102,18 @@ fn more_step(byte: u8) -> Move
     first_step(byte)
 }
 
+// In the text behind the separator.
 fn middle_step(place: u32, byte: u8) -> Move
     ensures { result ≡ move_of (Mode.Middle place) byte }
 {
-    let wanted = middle_at(place);
+    let wanted = byte_at(MIDDLE, place);
     if place < 7 {
         return expect(byte, wanted, Mode::Middle(place + 1));
     }
     expect(byte, wanted, Mode::Calls)
 }
 
+// Behind the calls so far: one more follows, or their bracket closes.
 fn calls_step(byte: u8) -> Move
     ensures { result ≡ move_of Mode.Calls byte }
 {
@@ -136,6 +123,7 @@ fn calls_step(byte: u8) -> Move
     expect(byte, b')', Mode::Close)
 }
 
+// A call's kind is a letter, and the top bit of its word.
 fn kind_step(byte: u8) -> Move
     ensures { result ≡ move_of Mode.Kind byte }
 {
@@ -145,19 +133,20 @@ fn kind_step(byte: u8) -> Move
     expect(byte, b's', Mode::Space(0))
 }
 
+// A call's length has no leading zero.
 fn start_step(top: u32, byte: u8) -> Move
     ensures { result ≡ move_of (Mode.Start top) byte }
 {
     if byte == b'0' {
         return Move::To(Mode::Zero(top));
     }
-    let value = decimal_value(byte);
-    if value < 10 {
-        return Move::To(Mode::Length(top, value as u32));
+    match decimal_value(byte) {
+        Some(value) => Move::To(Mode::Length(top, u32::from(value))),
+        None => Move::To(Mode::Dead),
     }
-    Move::To(Mode::Dead)
 }
 
+// Nothing but the bracket follows a length of 0.
 fn zero_step(top: u32, byte: u8) -> Move
     ensures { result ≡ move_of (Mode.Zero top) byte }
 {
@@ -168,28 +157,29 @@ fn zero_step(top: u32, byte: u8) -> Move
     }
 }
 
-// The bracket ends a word; a digit goes on with its length. The word is below 2^32 in every mode that a line leads to; the test shows that it
-// fits.
+// The bracket ends a word; a digit goes on with its length. The word is below 2^32 in every mode that a line leads to;
+// the checked sum shows that it fits.
 fn length_step(top: u32, length: u32, byte: u8) -> Move
     ensures { result ≡ move_of (Mode.Length top length) byte }
 {
     if byte == b')' {
-        let word = top as u64 + length as u64;
-        if word < 4294967296 {
-            return Move::Word(word as u32);
-        }
+        return match top.checked_add(length) {
+            Some(word) => Move::Word(word),
+            None => Move::To(Mode::Dead),
+        };
+    }
+    let Some(value) = decimal_value(byte) else {
         return Move::To(Mode::Dead);
+    };
+    let longer = u64::from(length) * 10 + u64::from(value);
+    if longer <= 2147483647 {
+        Move::To(Mode::Length(top, longer as u32))
+    } else {
+        Move::To(Mode::Dead)
     }
-    let value = decimal_value(byte);
-    if value < 10 {
-        let longer = length as u64 * 10 + value as u64;
-        if longer <= 2147483647 {
-            return Move::To(Mode::Length(top, longer as u32));
-        }
-    }
-    Move::To(Mode::Dead)
 }
 
+// What a byte does in a mode.
 pub fn step(mode: Mode, byte: u8) -> Move
     ensures { result ≡ move_of mode byte }
 {

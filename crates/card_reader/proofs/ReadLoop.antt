@@ -15,7 +15,7 @@ use Rattle.card_reader.specs.Reading.{reading}
 use Rattle.card_grammar.specs.declared.machine.Mode.{Mode}
 use Rattle.card_grammar.specs.declared.machine.Mode.TheVariants.{Head, End}
 use Rattle.card_grammar.specs.declared.machine.Move.{Move}
-use Rattle.card_reader.proofs.Kept.{Kept, nothing_kept}
+use Rattle.card_reader.proofs.FirstItems.{Kept, nothing_kept}
 use Rattle.card_grammar.proofs.Laws.{ended, not_ended}
 
 pub record Held (line separator : List ℕ) (separatorLength : ℕ) (words : List ℕ) (wordCount : ℕ) (mode : Mode) (i : ℕ) : Type 0 where

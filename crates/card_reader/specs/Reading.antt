@@ -1,11 +1,18 @@
 -- What reading a line gives.
-use Rattle.std.specs.Prelude.{true, false, length, take, replicate}
+use Rattle.std.specs.Prelude.{Bool, true, false, List, ℕ, length, take, replicate}
 use Rattle.basics.specs.Lists.{zero_padded}
 use Rattle.card_grammar.specs.Grammar.{Reading, card, none}
-use Rattle.card_reader.specs.declared.Card.{Card}
 
--- a reading as the record that `read` gives: of each list as many as its array has places, and zeros behind them
-unfoldable pub reading : Reading → Card
+-- what reading a line gives: whether it is a card, and its separator and words in arrays with how many they are
+pub record CardRead : Type 0 where
+  pub is_card : Bool
+  pub separator : List ℕ
+  pub separator_length : ℕ
+  pub words : List ℕ
+  pub word_count : ℕ
+
+-- a reading as that record: of each list as many as its array has places, and zeros behind them
+unfoldable pub reading : Reading → CardRead
 reading (card separator ws) =
     record {
       is_card = true;

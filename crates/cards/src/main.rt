@@ -1,7 +1,7 @@
 // Answers the card lines of standard input on standard output, a line each, in the order of the input. Document 01, "Cards".
 #![tactic(auto)]
 
-ghost use Rattle.std.specs.Prelude.{◌≡◌, true, ◌≤◌, length};
+ghost use Rattle.std.specs.Prelude.{◌≡◌, ◌≤◌, length, IfSome};
 ghost use Rattle.card_lines.specs.Calls.{kept_of, next_kept, piece_kept};
 
 use card_lines::Fed;
@@ -10,13 +10,6 @@ use std::io::Read;
 const STDOUT: i32 = 1;
 
 const STDERR: i32 = 2;
-
-// What the next call goes on with, and whether all output could be written.
-#[derive(Clone, Copy)]
-struct State {
-    fed: Fed,
-    is_written: bool,
-}
 
 // Writes the first bytes of the output.
 fn write(output: &[u8], filled: usize) -> bool
@@ -30,27 +23,24 @@ fn write(output: &[u8], filled: usize) -> bool
 }
 
 // Answers the lines of a piece. Answers are written together, when there is no room for the longest one, and at the end of the piece. If all could be
-// written, what is left is what the calls on the whole piece leave.
-fn answer_piece(line: &mut [u8; 2049], last: Fed, piece: &[u8], output: &mut [u8; 65536]) -> State
-    ensures { result.is_written ≡ true → kept_of line.new result.fed ≡
-        piece_kept (length piece.now) (next_kept (kept_of line.old last)) piece.now }
+// written, it gives what the calls on the whole piece leave.
+fn answer_piece(
+    line: &mut [u8; 2049],
+    last: Fed,
+    piece: &[u8],
+    output: &mut [u8; 65536],
+) -> Option<Fed>
+    ensures { IfSome result (λ fed. kept_of line.new fed ≡
+        piece_kept (length piece.now) (next_kept (kept_of line.old last)) piece.now) }
 {
     let mut fed = card_lines::next_piece(last);
     while fed.used < piece.len() {
-        let next = card_lines::answer_lines(line, fed, piece, output);
-        fed = next;
-        let written = next.written;
-        if !write(output, written) {
-            return State {
-                fed,
-                is_written: false,
-            };
+        fed = card_lines::answer_lines(line, fed, piece, output);
+        if !write(output, fed.written) {
+            return None;
         }
     }
-    State {
-        fed,
-        is_written: true,
-    }
+    Some(fed)
 }
 
 // Answers the line that the end of the input ends, if there is one.
@@ -63,16 +53,14 @@ fn say_not_read() {
     io::write_all(STDERR, b"cards: input could not be read\n");
 }
 
-// A proved loop has to end, and nothing says that the input does. So it counts its turns down, from a number that no run uses up.
+// A proved loop has to end, and nothing says that the input does. So it has as many turns as no run uses up.
 fn main(rt: HostRuntime) {
     let mut line = [0u8; 2049];
     let mut fed = card_lines::start();
     let mut input = io::large_buffer();
     let mut output = io::large_buffer();
     let mut stdin = rt.stdin();
-    let mut turns = u64::MAX;
-    while turns > 0 {
-        turns -= 1;
+    for _ in 0..u64::MAX {
         let Ok(count) = stdin.read(&mut input) else {
             say_not_read();
             return;
@@ -80,11 +68,9 @@ fn main(rt: HostRuntime) {
         if count == 0 {
             break;
         }
-        let state = answer_piece(&mut line, fed, &input[..count], &mut output);
-        if !state.is_written {
+        let Some(next) = answer_piece(&mut line, fed, &input[..count], &mut output) else {
             return;
-        }
-        let next = state.fed;
+        };
         fed = next;
     }
     let mut answer = [0u8; 1050];

@@ -22,7 +22,7 @@ use Rattle.poseidon.proofs.Remainders.{round_congruent}
 use Rattle.pattern.specs.Opening.{Opening, opening_number}
 use Rattle.tag.specs.TagString.{is_form}
 use Rattle.sponge.specs.Sponge.{ready_to_absorb, absorb_element, ready_to_squeeze, squeezed_element, squeeze_element}
-use Rattle.sponge.specs.declared.Sponge.{Sponge}
+use Rattle.sponge.specs.Sponge.{Sponge}
 use Rattle.session.specs.Record.{wiped, opened, open_record, sponge_of, moved, absorb_one, squeeze_one, squeezed_one}
 use Rattle.session.specs.Soundness.{sound}
 use Rattle.session.specs.Calls.{giving, start_record, start}

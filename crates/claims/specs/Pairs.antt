@@ -27,7 +27,7 @@ use Rattle.session.specs.Record.{opened, wiped, squeezed_all}
 use Rattle.session.specs.Soundness.{sound}
 use Rattle.session.specs.Calls.{giving, start_record, start}
 use Rattle.session.specs.declared.Session.{Session}
-use Rattle.session.specs.declared.Answer.{Answer}
+use Rattle.session.specs.Calls.{Answer}
 use Rattle.session.proofs.Opening.{start_opens}
 use Rattle.runs.specs.Calls.{Call, ABSORB, SQUEEZE, FINISH, answered, accepts, left, left_by, squeezed_in}
 use Rattle.runs.proofs.EnclosedCalls.{not_sound_refused}

@@ -14,7 +14,7 @@ use Rattle.progress.specs.declared.place.Place.{Place}
 use Rattle.sha3.specs.Sponge.{sha3}
 use Rattle.pattern.specs.Pattern.{merged_words}
 use Rattle.pattern.specs.Opening.{Opening, opening, word_rows, opening_rows, with_words}
-use Rattle.pattern.specs.declared.WordList.{WordList}
+use Rattle.pattern.specs.Opening.{WordList}
 use Rattle.pattern.proofs.Answers.{words_used}
 use Rattle.pattern.proofs.Given.{given_accepted, given_refused}
 use Rattle.tag.specs.TagString.{is_form, tag_string, buffer_rows, write_rows, write_number, written_with, written, buffer_after}
@@ -25,7 +25,7 @@ use Rattle.tag.proofs.Reading.{number_read, read_accepted, read_refused, separat
 use Rattle.counters.specs.Positions.{in_last_block, positions_after, positions_at}
 use Rattle.words.specs.Words.{is_absorb, length_of}
 use Rattle.sponge.specs.Sponge.{absorb_element, squeeze_element, ready_to_absorb, ready_to_squeeze}
-use Rattle.sponge.specs.declared.Sponge.{Sponge}
+use Rattle.sponge.specs.Sponge.{Sponge}
 use Rattle.session.specs.Record.{wiped, tag_state, open_record, sponge_of, moved, absorb_one, squeeze_one, squeezed_one, absorb_all, squeeze_all, squeezed_all}
 use Rattle.session.specs.Soundness.{sound}
 use Rattle.session.specs.Calls.{giving, start_rows, start_number, start_record, start, record_rows, call_rows, absorb_rows, finish_rows, wipes, answer_of, absorb, squeeze, squeeze_buffer, finish}

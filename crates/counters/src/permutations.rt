@@ -1,8 +1,10 @@
 // How many permutations the phases of a merged pattern take.
-ghost use Rattle.std.specs.Prelude.{◌≡◌, min, ◌<◌, length, get_or};
+ghost use Rattle.std.specs.Prelude.{◌≡◌, ◌<◌, length, get_or};
 ghost use Rattle.basics.specs.Lists.{sum};
 ghost use Rattle.words.specs.Words.{length_of};
 ghost use Rattle.counters.specs.Permutations.{phase_permutations, permutations_at};
+
+use progress::place::Place;
 
 // The permutations for so many elements of a phase.
 pub fn phase_permutations(word: u32, done: u32) -> u64
@@ -18,18 +20,8 @@ pub fn phase_permutations(word: u32, done: u32) -> u64
     blocks - 1
 }
 
-// How many phases before a place have a word.
-fn words_before(words: &[u32], phase: u32) -> u32
-    ensures { result ≡ min phase (length words.now) }
-{
-    if words.len() < phase as usize {
-        words.len() as u32
-    } else {
-        phase
-    }
-}
-
-// The permutations for all elements of a phase. Numbers of 32 bits hold them, of which the compiler takes four at a time.
+// The permutations for all elements of a phase. Numbers of 32 bits hold them, of which the compiler takes
+// four at a time.
 fn whole_phase(word: u32) -> u32
     ensures { result ≡ phase_permutations word (length_of word) }
 {
@@ -51,16 +43,18 @@ fn whole_phases(words: &[u32]) -> u64
     ensures { result ≡ sum (length words.now) (λ k. phase_permutations (get_or words.now k 0) (length_of (get_or words.now k 0))) }
 {
     let mut permutations: u64 = 0;
-    for k in 0..words.len() {
-        permutations += whole_phase(words[k]) as u64;
+    for word in words {
+        permutations += whole_phase(*word) as u64;
     }
     permutations
 }
 
-// The permutations at a place: those of the phases before, and of the elements done in this one. Phases without a word count none.
-pub fn permutations_at(words: &[u32], phase: u32, done: u32) -> u64
-    ensures { result ≡ permutations_at words.now phase done }
+// The permutations at a place: those of the phases before, and of the elements done in this one.
+// Phases without a word count none.
+pub fn permutations_at(words: &[u32], place: Place) -> u64
+    ensures { result ≡ permutations_at words.now place.phase place.done }
 {
-    let before = words_before(words, phase) as usize;
-    whole_phases(&words[..before]) + phase_permutations(words::phase_word(words, phase), done)
+    let before = words.len().min(place.phase as usize);
+    let word = words::phase_word(words, place.phase);
+    whole_phases(&words[..before]) + phase_permutations(word, place.done)
 }

@@ -2,6 +2,8 @@
 ghost use Rattle.std.specs.Prelude.{◌≡◌};
 ghost use Rattle.counters.specs.Positions.{in_last_block, positions_after, positions_at};
 
+use progress::place::Place;
+
 // How many elements a block has.
 const RATE: u32 = 8;
 
@@ -38,18 +40,18 @@ fn positions_after(word: u32, element: u32) -> Positions
 }
 
 // The positions at a place.
-pub fn positions_at(words: &[u32], phase: u32, done: u32) -> Positions
-    ensures { result ≡ positions_at words.now phase done }
+pub fn positions_at(words: &[u32], place: Place) -> Positions
+    ensures { result ≡ positions_at words.now place.phase place.done }
 {
-    if done > 0 {
-        return positions_after(words::phase_word(words, phase), done);
+    if place.done > 0 {
+        return positions_after(words::phase_word(words, place.phase), place.done);
     }
-    if phase == 0 {
+    if place.phase == 0 {
         return Positions {
             absorb: 0,
             squeeze: 0,
         };
     }
-    let word = words::phase_word(words, phase - 1);
+    let word = words::phase_word(words, place.phase - 1);
     positions_after(word, words::length_of(word))
 }

@@ -12,7 +12,7 @@ use Rattle.basics.specs.Lists.{Below}
 use Rattle.basics.specs.Numbers.{accepted}
 use Rattle.basics.proofs.Cases.{cases}
 use Rattle.words.specs.Words.{length_of}
-use Rattle.cutting.proofs.Words.{calls_short, calls_long, first_long}
+use Rattle.cutting.proofs.Words.{calls_short, calls_long}
 use Rattle.pattern.specs.Pattern.{phases, merged_words, sound_words}
 use Rattle.pattern.specs.Opening.{Opening, opening, max_separator, opening_number}
 use Rattle.pattern.proofs.Soundness.{sound}
@@ -68,4 +68,3 @@ pub cut_next_long : (limit w : ℕ) (ws : List ℕ) → 0 < limit → w < 429496
 unfolding cut_words
 cut_next_long limit w ws some fits h =
     ap (λ (l : List ℕ). l ++ cut_words limit ws) (calls_long limit w fits some h)
-    ∙ ap (λ (x : ℕ). x ∷ cut_words limit ((w - limit) ∷ ws)) (first_long limit w fits h)

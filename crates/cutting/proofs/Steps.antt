@@ -1,71 +1,29 @@
--- The calls that are left, one after the other.
+-- Cutting, one call after the other.
 -- Assumes nothing.
 use mathlib.Core.Path.{◌≡◌, refl, sym, ap, ◌∙◌}
-use mathlib.Core.List.{List, [], ◌∷◌, ◌++◌, append-nil}
-use Prim.Native.Nat.{ℕ, suc, ◌+◌, ◌-◌, ◌≤◌, ◌<◌}
+use mathlib.Core.List.{List, [], ◌∷◌, ◌++◌, append-nil, append_assoc}
+use Prim.Native.Nat.{ℕ, ◌+◌, ◌-◌, ◌≤◌, ◌<◌}
 use native.Mathlib.Numerals.{add-one}
 use native.Mathlib.Omega.{arith}
-use borrow.Author.Tests.{ltb-true, ltb-false, lt-ltb, le-ltb, leb-true, leb-false}
-use lib.Dec.{leb, ltb, lit<}
-use lib.ListN.{length, get_or, drop, set, replicate, length-append, drop_of_length-le}
-use lib.Seq.{drop-cons, append_snoc}
-use Rattle.basics.specs.Lists.{zero_padded}
+use borrow.Author.Tests.{lt-ltb, le-ltb, leb-true, leb-false}
+use lib.Dec.{leb, lit<}
+use lib.ListN.{length, get_or, take, drop, length-append}
+use lib.Seq.{append_snoc, take-suc}
+use Rattle.std.proofs.lemmas.List.{take-append-drop}
+use Rattle.std.specs.Prelude.{Ok, Err}
+use Rattle.basics.specs.Answers.{number_of}
 use Rattle.basics.specs.Numbers.{accepted, word_count_out_of_range}
 use Rattle.basics.specs.Refusals.{first_number}
+use Rattle.basics.specs.declared.Refusal.{Refusal}
 use Rattle.basics.proofs.Cases.{cases, if_true, if_false}
-use Rattle.basics.proofs.Zeros.{push_number}
 use Rattle.words.specs.Words.{length_of}
+use Rattle.pattern.specs.Answers.{words_answer}
 use Rattle.pattern.specs.Opening.{with_words}
+use Rattle.pattern.specs.declared.list.Words.{Words}
 use Rattle.pattern.proofs.Given.{answer_accepted, answer_refused}
 use Rattle.cutting.specs.Cutting.{cut_words, cut_number, cut_answer}
-use Rattle.cutting.specs.Steps.{calls_of, first_call, calls_left}
-use Rattle.cutting.proofs.Words.{calls_short, calls_long, first_short}
-
-module _ (limit : ℕ) (words : List ℕ) where
-  left_some : (place left : ℕ) → place < length words → calls_left limit words place left ≡ calls_of limit left ++ cut_words limit (drop (suc place) words)
-  unfolding calls_left
-  left_some place left h = if_true _ _ _ (lt-ltb place (length words) h)
-
-  pub left_none : (place left : ℕ) → length words ≤ place → calls_left limit words place left ≡ []
-  unfolding calls_left
-  left_none place left h = if_false _ _ _ (le-ltb place (length words) h)
-
-  -- with the whole word left
-  pub left_whole : (place : ℕ) → calls_left limit words place (get_or words place 0) ≡ cut_words limit (drop place words)
-  unfolding cut_words
-  left_whole place =
-      cases (ltb place (length words))
-      (λ e.
-      let h = ltb-true place (length words) e in
-      left_some place (get_or words place 0) h ∙ sym (ap (cut_words limit) (drop-cons words place 0 h)))
-      λ e.
-      let h = ltb-false place (length words) e in
-      left_none place (get_or words place 0) h ∙ sym (ap (cut_words limit) (drop_of_length-le words h))
-
-  module _ (place left : ℕ) (h : place < length words) (fits : left < 4294967296) where
-    pub next_word : length_of left ≤ limit
-        → calls_left limit words place left ≡ first_call limit left ∷ calls_left limit words (place + 1) (get_or words (place + 1) 0)
-    next_word short =
-        left_some place left h
-        ∙ ap (λ (l : List ℕ). l ++ cut_words limit (drop (suc place) words)) (calls_short limit left fits short)
-        ∙ ap (λ (x : ℕ). x ∷ cut_words limit (drop (suc place) words)) (sym (first_short limit left fits short))
-        ∙ ap (λ (k : ℕ). first_call limit left ∷ cut_words limit (drop k words)) (sym (add-one place))
-        ∙ ap (λ (l : List ℕ). first_call limit left ∷ l) (sym (left_whole (place + 1)))
-
-    pub same_word : 0 < limit → limit < length_of left
-        → calls_left limit words place left ≡ first_call limit left ∷ calls_left limit words place (left - limit)
-    same_word some long =
-        left_some place left h
-        ∙ ap (λ (l : List ℕ). l ++ cut_words limit (drop (suc place) words)) (calls_long limit left fits some long)
-        ∙ ap (λ (l : List ℕ). first_call limit left ∷ l) (sym (left_some place (left - limit) h))
-
--- a first call is left, where a word is
-first_left : (limit : ℕ) (words : List ℕ) (place left : ℕ) → 0 < limit → place < length words → left < 4294967296
-    → (rest : List ℕ) × (calls_left limit words place left ≡ first_call limit left ∷ rest)
-first_left limit words place left some h fits =
-    cases (leb (length_of left) limit)
-    (λ e. (_, next_word limit words place left h fits (leb-true (length_of left) limit e)))
-    λ e. (_, same_word limit words place left h fits some (leb-false (length_of left) limit e))
+use Rattle.cutting.specs.Steps.{HasCalls, calls_of}
+use Rattle.cutting.proofs.Words.{calls_short, calls_long}
 
 -- ---- the number
 
@@ -77,55 +35,87 @@ pub number_refused : (ws : List ℕ) → 64 < length (cut_words 16777216 ws) →
 unfolding cut_number first_number
 number_refused ws h = if_true _ _ _ (lt-ltb 64 (length (cut_words 16777216 ws)) h)
 
--- ---- a list that is filled with calls
+-- ---- the calls of a word, behind others
 
--- a list of 64 places has so many calls, and those that are left behind them are all
-pub record Filled (words list : List ℕ) (count place left : ℕ) : Type 0 where
-  pub calls : List ℕ
-  pub held : list ≡ zero_padded 64 calls
-  pub counted : length calls ≡ count
-  pub few : count ≤ 64
-  pub all_calls : calls ++ calls_left 16777216 words place left ≡ cut_words 16777216 words
+-- a list that had some calls has the first calls of a word behind them, and so much of the word is left
+abbrev pub Begun : Words → Words → ℕ → ℕ → Type 0
+Begun before list word left =
+    (cs : List ℕ) → HasCalls before cs → (ds : List ℕ) × HasCalls list (cs ++ ds) × (ds ++ calls_of 16777216 left ≡ calls_of 16777216 word)
 
-pub fills_begin : (words : List ℕ) → Filled words (replicate 64 0) 0 0 (get_or words 0 0)
-fills_begin words = record { calls = []; held = refl; counted = refl; few = omega arith; all_calls = left_whole 16777216 words 0 }
+pub begun : (list : Words) (word : ℕ) → Begun list list word word
+begun list word cs h = ([], rw (append-nil cs) h, refl)
 
-module _ (words list : List ℕ) (count place left : ℕ) (f : Filled words list count place left) where
-  abbrev done : List ℕ
-  done = f.calls
+module _ (before list : Words) (word left : ℕ) (b : Begun before list word left) (fits : left < 4294967296) where
+  -- one call of the limit more
+  pub begun_more : (next : Words) → 16777216 < length_of left
+      → ((cs : List ℕ) → HasCalls list cs → HasCalls next (cs ++ ((left - (length_of left - 16777216)) ∷ [])))
+      → Begun before next word (left - 16777216)
+  begun_more next long more cs h =
+      let (ds, has, is) = b cs h in
+      let call = left - (length_of left - 16777216) in (
+        ds ++ (call ∷ []),
+        rw (append_assoc cs ds (call ∷ [])) at (more (cs ++ ds) has),
+        append_snoc ds call (calls_of 16777216 (left - 16777216)) ∙ sym (ap (λ (l : List ℕ). ds ++ l) (calls_long 16777216 left fits (lit< tt) long)) ∙ is,
+      )
 
-  -- one call more
-  pub fills_more : (call next left-next : ℕ) → count < 64
-      → calls_left 16777216 words place left ≡ call ∷ calls_left 16777216 words next left-next
-      → Filled words (set list count call) (count + 1) next left-next
-  fills_more call next left-next h e =
-      let room : length done < 64 = rw f.counted h in
-      record {
-        calls = done ++ (call ∷ []);
-        held = (λ i. set (f.held i) (sym f.counted i) call) ∙ push_number 64 done call room;
-        counted = length-append done (call ∷ []) ∙ ap (λ (n : ℕ). n + 1) f.counted;
-        few = omega arith;
-        all_calls = append_snoc done call (calls_left 16777216 words next left-next) ∙ sym (ap (λ (l : List ℕ). done ++ l) e) ∙ f.all_calls;
-      }
+  -- the last
+  pub begun_last : (next : Words) → length_of left ≤ 16777216
+      → ((cs : List ℕ) → HasCalls list cs → HasCalls next (cs ++ (left ∷ [])))
+      → (cs : List ℕ) → HasCalls before cs → HasCalls next (cs ++ calls_of 16777216 word)
+  begun_last next short more cs h =
+      let (ds, has, is) = b cs h in
+      let last : calls_of 16777216 word ≡ ds ++ (left ∷ []) = sym is ∙ ap (λ (l : List ℕ). ds ++ l) (calls_short 16777216 left fits short) in
+      rw (last, sym (append_assoc cs ds (left ∷ []))) (more (cs ++ ds) has)
 
-  -- nothing is left
-  pub filled_whole : length words ≤ place → cut_answer words ≡ record { number = accepted; words = list; count = count }
-  unfolding cut_answer with_words
-  filled_whole h =
-      let whole : cut_words 16777216 words ≡ done =
-      sym f.all_calls ∙ ap (λ (l : List ℕ). done ++ l) (left_none 16777216 words place left h) ∙ append-nil done in
-      let few = f.few in
-      answer_accepted _ _ (number_accepted words (rw (whole, f.counted) few))
-      ∙ ap (with_words accepted) whole
-      ∙ λ i. record { number = accepted; words = sym f.held i; count = f.counted i }
+  -- there is no room for another
+  some_left : (first : ℕ) × (rest : List ℕ) × (calls_of 16777216 left ≡ first ∷ rest)
+  some_left =
+      cases (leb (length_of left) 16777216)
+      (λ e. (_, _, calls_short 16777216 left fits (leb-true _ 16777216 e)))
+      λ e. (_, _, calls_long 16777216 left fits (lit< tt) (leb-false _ 16777216 e))
 
-  -- something is left, and there is no room
-  pub filled_over : place < length words → 64 ≤ count → left < 4294967296 → cut_answer words ≡ with_words word_count_out_of_range []
-  unfolding cut_answer
-  filled_over h full fits =
-      let (rest, e) = first_left 16777216 words place left (lit< tt) h fits in
-      let more =
-      sym (ap length f.all_calls)
-      ∙ length-append done (calls_left 16777216 words place left)
-      ∙ ap (λ (l : List ℕ). length done + length l) e in
-      answer_refused _ word_count_out_of_range _ (number_refused words (omega (arith, more, f.counted))) refl
+  pub begun_full : list.count ≡ 64 → (cs : List ℕ) → HasCalls before cs → 64 < length (cs ++ calls_of 16777216 word)
+  begun_full full cs h =
+      let (ds, has, is) = b cs h in
+      let (first, rest, e) = some_left in
+      let whole = ap (λ (l : List ℕ). length (cs ++ l)) (sym is ∙ ap (λ (l : List ℕ). ds ++ l) e) in
+      omega (arith, whole, has.counted, length-append cs (ds ++ (first ∷ rest)), length-append ds (first ∷ rest), length-append cs ds)
+
+-- ---- words, one after the other
+
+cut_append : (limit : ℕ) (vs ws : List ℕ) → cut_words limit (vs ++ ws) ≡ cut_words limit vs ++ cut_words limit ws
+unfolding cut_words
+cut_append limit [] ws = refl
+cut_append limit (v ∷ vs) ws =
+    ap (λ (l : List ℕ). calls_of limit v ++ l) (cut_append limit vs ws) ∙ sym (append_assoc (calls_of limit v) (cut_words limit vs) (cut_words limit ws))
+
+-- one word more of a list
+pub cut_next : (limit : ℕ) (words : List ℕ) (i : ℕ) → i < length words
+    → cut_words limit (take (i + 1) words) ≡ cut_words limit (take i words) ++ calls_of limit (get_or words i 0)
+unfolding cut_words
+cut_next limit words i h =
+    let w = get_or words i 0 in
+    ap (cut_words limit) (ap (λ (n : ℕ). take n words) (add-one i) ∙ take-suc words i 0 h)
+    ∙ cut_append limit (take i words) (w ∷ [])
+    ∙ ap (λ (l : List ℕ). cut_words limit (take i words) ++ l) (append-nil (calls_of limit w))
+
+-- ---- the answer
+
+-- all calls are there
+pub cut_whole : (words : List ℕ) (list : Words) → HasCalls list (cut_words 16777216 words) → words_answer (Ok list) ≡ cut_answer words
+unfolding words_answer cut_answer with_words
+cut_whole words list h =
+    let few = list.fits in
+    (λ i. record { number = accepted; words = h.places i; count = h.counted i })
+    ∙ sym (answer_accepted _ _ (number_accepted words (omega (arith, h.counted))))
+
+-- there is no room for those of the first words
+pub cut_over : (words : List ℕ) (i : ℕ) (e : Refusal) → number_of e ≡ 1 → 64 < length (cut_words 16777216 (take i words))
+    → words_answer (Err e) ≡ cut_answer words
+unfolding words_answer cut_answer
+cut_over words i e one more =
+    let front = cut_words 16777216 (take i words) in
+    let rest = cut_words 16777216 (drop i words) in
+    let whole = ap (cut_words 16777216) (sym (take-append-drop i words)) ∙ cut_append 16777216 (take i words) (drop i words) in
+    ap (λ (n : ℕ). with_words n []) one
+    ∙ sym (answer_refused _ word_count_out_of_range _ (number_refused words (omega (arith, ap length whole, length-append front rest))) refl)

@@ -6,11 +6,11 @@ use Prim.Native.Nat.{ℕ, ◌-◌, ◌≤◌, ◌<◌}
 use native.Mathlib.Omega.{arith}
 use borrow.Author.Tests.{le-leb, lt-leb, leb-true, leb-false}
 use lib.Dec.{leb}
-use Rattle.basics.proofs.Cases.{cases, if_true, if_false}
+use Rattle.basics.proofs.Cases.{cases}
 use Rattle.words.specs.Words.{is_absorb, length_of, Phase, phase_of, word_of}
 use Rattle.words.proofs.WordKinds.{word_of_phase}
 use Rattle.cutting.specs.Cutting.{cut_length, cut_call}
-use Rattle.cutting.specs.Steps.{calls_of, first_call}
+use Rattle.cutting.specs.Steps.{calls_of}
 use Rattle.cutting.proofs.Lengths.{cut_short_law, cut_long}
 
 -- a word with fewer elements
@@ -41,14 +41,6 @@ module _ (limit w : ℕ) (fits : w < 4294967296) where
       ap (λ (ns : List ℕ). map word_of (map (λ n. record { absorbs = is_absorb w; elements = n }) ns)) (cut_short_law limit (length_of w) h)
       ∙ ap (λ (x : ℕ). x ∷ []) (word_of_phase w fits)
 
-  pub first_short : length_of w ≤ limit → first_call limit w ≡ w
-  unfolding first_call
-  first_short h = if_true _ _ _ (le-leb (length_of w) limit h)
-
-  pub first_long : limit < length_of w → first_call limit w ≡ w - (length_of w - limit)
-  unfolding first_call
-  first_long h = if_false _ _ _ (lt-leb (length_of w) limit h)
-
   module _ (some : 0 < limit) (h : limit < length_of w) where
     first_word : word_of (record { absorbs = is_absorb w; elements = limit }) ≡ w - (length_of w - limit)
     first_word =
@@ -56,10 +48,11 @@ module _ (limit w : ℕ) (fits : w < 4294967296) where
         sym (ap (λ (n : ℕ). word_of (record { absorbs = is_absorb w; elements = n })) same)
         ∙ word_less w (length_of w - limit) fits (omega arith)
 
-    pub calls_long : calls_of limit w ≡ first_call limit w ∷ calls_of limit (w - limit)
+    pub calls_long : calls_of limit w ≡ (w - (length_of w - limit)) ∷ calls_of limit (w - limit)
     unfolding cut_call phase_of
     calls_long =
         let rest = phase_less w limit fits (omega arith) in
+        let first = w - (length_of w - limit) in
         ap (λ (ns : List ℕ). map word_of (map (λ n. record { absorbs = is_absorb w; elements = n }) ns)) (cut_long limit some (length_of w) h)
-        ∙ ap (λ (x : ℕ). x ∷ map word_of (map (λ n. record { absorbs = is_absorb w; elements = n }) (cut_length limit (length_of w - limit)))) (first_word ∙ sym (first_long h))
-        ∙ sym (ap (λ (a : Phase). first_call limit w ∷ map word_of (cut_call limit a)) rest)
+        ∙ ap (λ (x : ℕ). x ∷ map word_of (map (λ n. record { absorbs = is_absorb w; elements = n }) (cut_length limit (length_of w - limit)))) first_word
+        ∙ sym (ap (λ (a : Phase). first ∷ map word_of (cut_call limit a)) rest)

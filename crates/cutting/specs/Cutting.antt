@@ -7,7 +7,7 @@ use Rattle.basics.specs.Refusals.{◌gets◌⨾◌, first_number}
 use Rattle.words.specs.Words.{Phase, phase_of, word_of}
 use Rattle.pattern.specs.Pattern.{max_words}
 use Rattle.pattern.specs.Opening.{max_call, answer_with}
-use Rattle.pattern.specs.declared.WordList.{WordList}
+use Rattle.pattern.specs.Opening.{WordList}
 
 -- "any rest": nothing, where there is none
 unfoldable pub rest_of : ℕ → List ℕ

@@ -1,85 +1,62 @@
 // Words cut into calls that a pattern may declare.
 #![tactic(auto)]
 
-ghost use Rattle.std.specs.Prelude.{◌≡◌, ◌∷◌, ◌<◌, ltb, length, get_or};
-ghost use Rattle.basics.specs.Logic.{◌and◌};
+ghost use Rattle.std.specs.Prelude.{◌≡◌, List, [], ◌∷◌, ◌++◌, ℕ, ◌-◌, ◌<◌, length, OnOk, IfErr};
+ghost use Rattle.basics.specs.Answers.{number_of};
+ghost use Rattle.words.specs.Words.{length_of};
+ghost use Rattle.pattern.specs.Answers.{words_answer};
 ghost use Rattle.cutting.specs.Cutting.{cut_answer};
-ghost use Rattle.cutting.specs.Steps.{first_call, calls_left};
+ghost use Rattle.cutting.specs.Steps.{HasCalls, calls_of};
 
-use pattern::{MAX_CALL, MAX_WORDS, WordList};
+use basics::Refusal;
+use pattern::list::Words;
+use pattern::{MAX_CALL, MAX_WORDS};
 
-// Where cutting is: at a place of the words, with so much left of the word there.
-#[derive(Clone, Copy)]
-struct Cursor {
-    place: usize,
-    left: u32,
+// The first call of a word that is longer than the limit.
+fn full_call(word: u32) -> u32
+    requires { 16777216 < length_of word }
+    ensures { result ≡ word - (length_of word - 16777216) }
+{
+    word - (words::length_of(word) - MAX_CALL)
 }
 
-// A word, and 0 behind the last.
-fn word_at(words: &[u32], place: usize) -> u32
-    ensures { result ≡ get_or words.now place 0 }
+// One call more, where there is room for it.
+fn push(calls: &mut Words, call: u32) -> Result<(), Refusal>
+    ensures ok { OnOk result ((cs : List ℕ) → HasCalls calls.old cs → HasCalls calls.new (cs ++ (call ∷ []))) }
+    ensures err { IfErr result (λ e. (number_of e ≡ 1) × (calls.old.count ≡ 64)) }
 {
-    if place < words.len() { words[place] } else { 0 }
-}
-
-// The first call of a word.
-fn first_call(word: u32) -> u32
-    ensures { result ≡ first_call 16777216 word }
-{
-    let length = words::length_of(word);
-    if length <= MAX_CALL {
-        return word;
+    if calls.count == MAX_WORDS {
+        return Err(Refusal::WordCountOutOfRange);
     }
-    word - (length - MAX_CALL)
+    calls.words[calls.count] = call;
+    calls.count += 1;
+    Ok(())
 }
 
-// Where cutting is behind the first call of what is left of a word.
-fn behind_first(words: &[u32], place: usize, left: u32) -> Cursor
-    requires { place < length words.now }
-    ensures { calls_left 16777216 words.now place left ≡
-        first_call 16777216 left ∷ calls_left 16777216 words.now result.place result.left }
+// The calls of a word, where there is room for all of them.
+fn push_calls(calls: &mut Words, word: u32) -> Result<(), Refusal>
+    ensures ok { OnOk result ((cs : List ℕ) → HasCalls calls.old cs → HasCalls calls.new (cs ++ calls_of 16777216 word)) }
+    ensures err { IfErr result (λ e. (number_of e ≡ 1) ×
+        ((cs : List ℕ) → HasCalls calls.old cs → 64 < length (cs ++ calls_of 16777216 word))) }
 {
-    if words::length_of(left) > MAX_CALL {
-        return Cursor {
-            place,
-            left: left - MAX_CALL,
-        };
+    let mut left = word;
+    while words::length_of(left) > MAX_CALL {
+        push(calls, full_call(left))?;
+        left -= MAX_CALL;
     }
-    Cursor {
-        place: place + 1,
-        left: word_at(words, place + 1),
-    }
-}
-
-// Whether there is a call left, and room for it.
-fn goes_on(count: usize, place: usize, words: usize) -> bool
-    ensures { result ≡ (ltb count 64 and ltb place words) }
-{
-    count < MAX_WORDS && place < words
+    push(calls, left)
 }
 
 // Words cut into calls of MAX_CALL and any rest, where 64 calls suffice.
-pub fn cut(words: &[u32]) -> WordList
-    ensures { result ≡ cut_answer words.now }
+pub fn cut(words: &[u32]) -> Result<Words, Refusal>
+    ensures { words_answer result ≡ cut_answer words.now }
 {
-    let mut list = [0u32; 64];
-    let mut count: usize = 0;
-    let mut at = Cursor {
-        place: 0,
-        left: word_at(words, 0),
+    let mut calls = Words {
+        words: [0; 64],
+        count: 0,
     };
-    while goes_on(count, at.place, words.len()) {
-        list[count] = first_call(at.left);
-        count += 1;
-        let next = behind_first(words, at.place, at.left);
-        at = next;
+    for word in words {
+        push_calls(&mut calls, *word)?;
     }
-    if at.place < words.len() {
-        return pattern::refused(basics::WORD_COUNT_OUT_OF_RANGE);
-    }
-    WordList {
-        number: basics::ACCEPTED,
-        words: list,
-        count,
-    }
+    Ok(calls)
 }

@@ -5,9 +5,12 @@ ghost use Rattle.std.specs.Prelude.{◌≡◌, ◌+◌, ◌*◌, ◌%◌, ◌^�
 ghost use Rattle.basics.specs.Logic.{all};
 ghost use Rattle.field.specs.declared.Field.TheVariants.{BabyBear, KoalaBear};
 ghost use Rattle.field.specs.Field.{modulus, power, partial_rounds, is_field, field_of, is_element};
+ghost use Rattle.field.specs.Numbers.{IsNamed};
+
+use basics::Refusal;
 
 // The two fields.
-#[derive(Clone, Copy)]
+#[derive(Clone, Copy, Debug, PartialEq, Eq)]
 pub enum Field {
     BabyBear,
     KoalaBear,
@@ -18,22 +21,32 @@ const BABY_BEAR: u32 = 1;
 
 const KOALA_BEAR: u32 = 2;
 
+impl TryFrom<u32> for Field {
+    type Error = Refusal;
+
+    ghost try_from_gives = { IsNamed };
+
+    fn try_from(number: u32) -> Result<Field, Refusal> {
+        match number {
+            BABY_BEAR => Ok(Field::BabyBear),
+            KOALA_BEAR => Ok(Field::KoalaBear),
+            _ => Err(Refusal::FieldUnknown),
+        }
+    }
+}
+
 // Whether a number names a field.
 pub fn is_field(number: u32) -> bool
     ensures { result ≡ is_field number }
 {
-    number == BABY_BEAR || number == KOALA_BEAR
+    Field::try_from(number).is_ok()
 }
 
 // The field that a number names, and BabyBear for a number that names none.
 pub fn field_of(number: u32) -> Field
     ensures { result ≡ field_of number }
 {
-    if number == KOALA_BEAR {
-        Field::KoalaBear
-    } else {
-        Field::BabyBear
-    }
+    Field::try_from(number).unwrap_or(Field::BabyBear)
 }
 
 // The modulus p.
@@ -119,10 +132,5 @@ pub fn is_reduced(field: Field, elements: &[u32]) -> bool
     ensures { result ≡ all (is_element field) elements.now }
 {
     let p = modulus(field);
-    for i in 0..elements.len() {
-        if p <= elements[i] {
-            return false;
-        }
-    }
-    true
+    elements.iter().all(|&x| x < p)
 }

@@ -6,7 +6,6 @@ use Rattle.basics.specs.Digits.{digits, number}
 use Rattle.basics.specs.Numbers.{accepted, field_unknown}
 use Rattle.field.specs.Field.{modulus, partial_rounds, is_field, field_of}
 use Rattle.field.specs.declared.Field.{Field}
-use Rattle.generator.specs.declared.Generated.{Generated}
 
 -- "An 80-bit register starts as, from bit 0 on and each number high bit first: field kind 1 (2 bits), power 0 (4),
 -- 31 (12), 24 (12), 8 (10), 21 (10), thirty ones.", where 21 is how many partial rounds the permutation has: "with the register's 21 changed to 23"
@@ -59,6 +58,12 @@ constant_count f = 24 * (4 + partial_rounds f + 4)
 -- the constants of a field's permutation: the register for its partial rounds, candidates below its p; "It stops at 696 constants or 262,144 new bits"
 unfoldable pub generated : Field → List ℕ
 generated f = found (first_register (partial_rounds f)) (modulus f) (constant_count f) 262144
+
+-- what a field number gives: 0 with the constants, zeros behind them and how many they are; or 18 with zeros alone, and none found
+pub record Generated : Type 0 where
+  pub number : ℕ
+  pub constants : List ℕ
+  pub count : ℕ
 
 -- a number with constants: "whose list has 744 places in either field", zeros in the places left, and how many were found
 unfoldable pub with_constants : ℕ → List ℕ → Generated

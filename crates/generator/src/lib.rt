@@ -3,12 +3,14 @@
 
 mod tables;
 
-ghost use Rattle.std.specs.Prelude.{◌≡◌, ◌-◌, ◌<◌, length, drop, replicate};
-ghost use Rattle.basics.specs.Lists.{zero_padded, placed};
+ghost use Rattle.std.specs.Prelude.{◌≡◌, length, drop};
+ghost use Rattle.basics.specs.Lists.{zero_padded};
 ghost use Rattle.field.specs.Field.{partial_rounds};
+ghost use Rattle.generator.specs.Answers.{generated_answer};
 ghost use Rattle.generator.specs.Generator.{first_register, next_bit, shifted, new_bits, found, generation};
-ghost use Rattle.generator.specs.Steps.{bits_left, found_from, NextOutput, NextCandidate};
+ghost use Rattle.generator.specs.Steps.{bits_left, NextOutput, NextCandidate, NextConstant};
 
+use basics::Refusal;
 use field::Field;
 
 // How many new bits are dropped at the start.
@@ -17,178 +19,99 @@ const DROPPED: usize = 160;
 // How many new bits are taken at most, the dropped ones included.
 const LIMIT: usize = 262144;
 
-// Number 0 with the constants of a field, zeros behind them and how many they are; or number 18 with zeros alone, and none found.
+// How many output bits make a candidate.
+const CANDIDATE_BITS: u32 = 31;
+
+// The constants of a field, zeros behind them, and how many they are.
 #[derive(Clone, Copy)]
-pub struct Generated {
-    pub number: u32,
+pub struct Constants {
     pub constants: [u32; 744],
     pub count: usize,
 }
 
 // Where the generator stands: the register, oldest bit first, and how many new bits may still be taken.
-#[derive(Clone, Copy)]
+#[derive(Drop)]
 struct Source {
     register: [u8; 80],
     left: usize,
-}
-
-// The next output bit and the source behind it, if there is one.
-#[derive(Clone, Copy)]
-struct Output {
-    present: bool,
-    bit: u8,
-    source: Source,
-}
-
-// The next candidate and the source behind it, if there is one.
-#[derive(Clone, Copy)]
-struct Candidate {
-    present: bool,
-    value: u32,
-    source: Source,
-}
-
-// Six numbers so widened can be summed without overflow.
-fn widen(bit: u8) -> u32
-    ensures { (result ≡ bit) × (result < 256) }
-{
-    bit as u32
 }
 
 // The exclusive or of the six register bits, as the parity of their sum.
 fn next_bit(register: &[u8; 80]) -> u8
     ensures { result ≡ next_bit register.now }
 {
-    let sum = widen(register[62])
-        + widen(register[51])
-        + widen(register[38])
-        + widen(register[23])
-        + widen(register[13])
-        + widen(register[0]);
+    let sum = u32::from(register[62])
+        + u32::from(register[51])
+        + u32::from(register[38])
+        + u32::from(register[23])
+        + u32::from(register[13])
+        + u32::from(register[0]);
     (sum % 2) as u8
 }
 
-// The register with the next bit in, and the oldest out.
-fn shift(register: &[u8; 80]) -> [u8; 80]
-    requires { length register.now ≡ 80 }
-    ensures { result ≡ shifted register.now }
-{
-    let mut out = *register;
-    let mut i: usize = 0;
-    while i < 79 {
-        out[i] = register[i + 1];
-        i += 1;
-    }
-    out[79] = next_bit(register);
-    out
-}
-
-// How many new bits may be taken behind those dropped, which the limit counts too.
-fn usable(limit: usize) -> usize
-    ensures { result ≡ limit - 160 }
-{
-    if limit < DROPPED {
-        return 0;
-    }
-    limit - DROPPED
-}
-
-// The source behind the new bits that are dropped.
-fn start(first: [u8; 80], limit: usize) -> Source
-    ensures { bits_left result ≡ drop 160 (new_bits limit first) }
-{
-    let mut register = first;
-    let mut i: usize = 0;
-    while i < DROPPED {
-        register = shift(&register);
-        i += 1;
-    }
-    let left = usable(limit);
-    Source { register, left }
-}
-
-// Takes new bits in pairs until the first of a pair is 1, or fewer than two are left.
-fn next_output(source: Source) -> Output
-    ensures { NextOutput source result }
-{
-    let mut register = source.register;
-    let mut left = source.left;
-    while 2 <= left {
-        let first = shift(&register);
-        register = shift(&first);
-        left -= 2;
-        if first[79] == 1 {
-            let bit = register[79];
-            return Output {
-                present: true,
-                bit,
-                source: Source { register, left },
-            };
+impl Source {
+    // The source behind the new bits that are dropped, which the limit counts too.
+    fn start(register: [u8; 80], limit: usize) -> Source
+        ensures { bits_left result ≡ drop 160 (new_bits limit register) }
+    {
+        let mut source = Source {
+            register,
+            left: limit.saturating_sub(DROPPED),
+        };
+        for _ in 0..DROPPED {
+            source.shift();
         }
+        source
     }
-    Output {
-        present: false,
-        bit: 0,
-        source: Source { register, left },
-    }
-}
 
-// The number that the next 31 output bits write, first highest.
-fn next_candidate(source: Source) -> Candidate
-    ensures { NextCandidate source result }
-{
-    let mut from = source;
-    let mut value: u32 = 0;
-    let mut size: u32 = 0;
-    while size < 31 {
-        let next = next_output(from);
-        from = next.source;
-        if !next.present {
-            return Candidate {
-                present: false,
-                value: 0,
-                source: from,
-            };
-        }
-        value = value * 2 + next.bit as u32;
-        size += 1;
+    // Takes the next bit in, and the oldest out. Answers the next bit.
+    fn shift(&mut self) -> u8
+        ensures bit { result ≡ next_bit self.old.register }
+        ensures register { self.new.register ≡ shifted self.old.register }
+        ensures left { self.new.left ≡ self.old.left }
+    {
+        let bit = next_bit(&self.register);
+        self.register.rotate_left(1);
+        self.register[79] = bit;
+        bit
     }
-    Candidate {
-        present: true,
-        value,
-        source: from,
-    }
-}
 
-// Stores constants from the list's start on, until it is full or the source makes no candidate. Answers how many.
-fn fill(source: Source, modulus: u32, constants: &mut [u32]) -> usize
-    ensures { (result ≡ length (found_from source modulus (length constants.old))) ×
-        (constants.new ≡ placed constants.old 0 (found_from source modulus (length constants.old))) }
-{
-    let mut from = source;
-    let mut count: usize = 0;
-    while count < constants.len() {
-        let next = next_candidate(from);
-        if !next.present {
-            return count;
+    // Takes new bits in pairs until the first of a pair is 1, or fewer than two are left.
+    fn next_output(&mut self) -> Option<u8>
+        ensures { NextOutput self.old self.new result }
+    {
+        while 2 <= self.left {
+            self.left -= 2;
+            let first = self.shift();
+            let second = self.shift();
+            if first == 1 {
+                return Some(second);
+            }
         }
-        from = next.source;
-        if next.value < modulus {
-            constants[count] = next.value;
-            count += 1;
-        }
+        None
     }
-    count
-}
 
-// Zeros from a place on.
-fn clear(constants: &mut [u32], from: usize)
-    ensures { constants.new ≡ placed constants.old from (replicate (length constants.old - from) 0) }
-{
-    let mut i = from;
-    while i < constants.len() {
-        constants[i] = 0;
-        i += 1;
+    // The number that the next 31 output bits write, first highest.
+    fn next_candidate(&mut self) -> Option<u32>
+        ensures { NextCandidate self.old self.new result }
+    {
+        let mut value: u32 = 0;
+        for _ in 0..CANDIDATE_BITS {
+            value = value * 2 + u32::from(self.next_output()?);
+        }
+        Some(value)
+    }
+
+    // The next candidate below the modulus.
+    fn next_constant(&mut self, modulus: u32) -> Option<u32>
+        ensures { NextConstant modulus self.old self.new result }
+    {
+        while let Some(candidate) = self.next_candidate() {
+            if candidate < modulus {
+                return Some(candidate);
+            }
+        }
+        None
     }
 }
 
@@ -198,9 +121,17 @@ pub fn generate_from(register: [u8; 80], modulus: u32, limit: usize, constants: 
     ensures { (result ≡ length (found register modulus (length constants.old) limit)) ×
         (constants.new ≡ zero_padded (length constants.old) (found register modulus (length constants.old) limit)) }
 {
-    let source = start(register, limit);
-    let count = fill(source, modulus, constants);
-    clear(constants, count);
+    let mut source = Source::start(register, limit);
+    let mut count = 0;
+    for place in constants.iter_mut() {
+        *place = match source.next_constant(modulus) {
+            Some(constant) => {
+                count += 1;
+                constant
+            }
+            None => 0,
+        };
+    }
     count
 }
 
@@ -215,29 +146,17 @@ pub fn first_register(field: Field) -> [u8; 80]
 }
 
 // The round constants of the field that a number names, 24 to a round.
-pub fn generate(field: u32) -> Generated
-    ensures { result ≡ generation field }
+pub fn generate(field: u32) -> Result<Constants, Refusal>
+    ensures { generated_answer result ≡ generation field }
 {
-    let mut constants = [0u32; 744];
-    if !field::is_field(field) {
-        return Generated {
-            number: basics::FIELD_UNKNOWN,
-            constants,
-            count: 0,
-        };
-    }
-    let named = field::field_of(field);
-    let register = first_register(named);
-    let wanted = 24 * (4 + field::partial_rounds(named) + 4);
+    let field = Field::try_from(field)?;
+    let wanted = 24 * (4 + field::partial_rounds(field) + 4);
+    let mut constants = [0; 744];
     let count = generate_from(
-        register,
-        field::modulus(named),
+        first_register(field),
+        field::modulus(field),
         LIMIT,
         &mut constants[..wanted],
     );
-    Generated {
-        number: basics::ACCEPTED,
-        constants,
-        count,
-    }
+    Ok(Constants { constants, count })
 }

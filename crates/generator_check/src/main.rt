@@ -5,44 +5,30 @@
 
 ghost use Rattle.std.specs.Prelude.{◌≤◌};
 
+use generator::Constants;
+
+// What is left where a field number is turned away.
+const NONE_FOUND: Constants = Constants {
+    constants: [0; 744],
+    count: 0,
+};
+
+// A number behind its name.
 fn print_named(name: &[u8], value: u64) {
     io::write_all(1, name);
     io::print_decimal(1, value);
 }
 
-fn print_place(x: u32) {
-    print_named(b" ", x as u64);
-}
-
 // The table of field 1 as the generator gives it: zeros in the places that only field 2 has constants for.
 fn with_zeros(table: &[u32; 696]) -> [u32; 744] {
     let mut constants = [0u32; 744];
-    for i in 0..696 {
-        constants[i] = table[i];
-    }
+    constants[..696].copy_from_slice(table);
     constants
 }
 
-fn differences(a: &[u32; 744], b: &[u32; 744]) -> u64 {
-    let mut count: u64 = 0;
-    let mut i: usize = 0;
-    while i < 744 {
-        if a[i] != b[i] {
-            count += 1;
-        }
-        i += 1;
-    }
-    count
-}
-
-fn print_places(places: &[u32; 744], from: usize)
-    requires { from ≤ 736 }
-{
-    let mut i: usize = 0;
-    while i < 8 {
-        print_place(places[from + i]);
-        i += 1;
-    }
+// At how many places two lists differ.
+fn differences(a: &[u32; 744], b: &[u32; 744]) -> usize {
+    a.iter().zip(b).filter(|(x, y)| x != y).count()
 }
 
 // Eight places from one on.
@@ -51,29 +37,31 @@ fn print_eight(places: &[u32; 744], from: usize)
 {
     print_named(b" from ", from as u64);
     io::write_all(1, b":");
-    print_places(places, from);
+    for place in &places[from..from + 8] {
+        print_named(b" ", *place as u64);
+    }
 }
 
+// What the generator answers for a field number.
 fn by_number(field: u32) {
     let answer = generator::generate(field);
-    let constants = answer.constants;
+    let number = basics::number(&answer);
+    let Constants { constants, count } = answer.unwrap_or(NONE_FOUND);
     print_named(b"generate ", field as u64);
-    print_named(b" number ", answer.number as u64);
-    print_named(b" found ", answer.count as u64);
-    print_named(b" not zero ", differences(&constants, &[0; 744]));
+    print_named(b" number ", number as u64);
+    print_named(b" found ", count as u64);
+    print_named(b" not zero ", differences(&constants, &[0; 744]) as u64);
     print_eight(&constants, 0);
     print_eight(&constants, 692);
     print_eight(&constants, 736);
     io::write_all(1, b"\n");
 }
 
+// Both fields' numbers, those beside them, and large ones.
 fn by_numbers() {
-    by_number(0);
-    by_number(1);
-    by_number(2);
-    by_number(3);
-    by_number(2147483648);
-    by_number(4294967295);
+    for field in [0, 1, 2, 3, 2147483648, 4294967295] {
+        by_number(field);
+    }
 }
 
 // Compares a table with what is found from a field's register. It does not ask for the constants by number: the contract of that call would let it
@@ -88,10 +76,11 @@ fn compare(number: u32, wanted: usize, table: &[u32; 744])
     let found = generator::generate_from(register, modulus, 262144, &mut places[..wanted]);
     print_named(b"field ", number as u64);
     print_named(b" found ", found as u64);
-    print_named(b" differ ", differences(table, &places));
+    print_named(b" differ ", differences(table, &places) as u64);
     io::write_all(1, b"\n");
 }
 
+// Either field's table.
 fn compare_tables() {
     compare(1, 696, &with_zeros(&poseidon_tables::baby_bear_constants()));
     compare(2, 744, &poseidon_tables::koala_bear_constants());
@@ -130,32 +119,30 @@ fn sample_field(number: u32, limit: usize, wanted: usize, from: usize)
 
 // Limits at the dropped bits, in a candidate, in the pair that ends the first constant, and at its end.
 fn sample_limits_1() {
-    sample_field(1, 0, 3, 0);
-    sample_field(1, 159, 3, 0);
-    sample_field(1, 160, 3, 0);
-    sample_field(1, 161, 3, 0);
-    sample_field(1, 220, 3, 0);
-    sample_field(1, 278, 3, 0);
-    sample_field(1, 279, 3, 0);
-    sample_field(1, 280, 3, 0);
-    sample_field(1, 281, 3, 0);
-    sample_field(1, 395, 3, 0);
-    sample_field(1, 396, 3, 0);
-    sample_field(1, 450, 3, 0);
-    sample_field(1, 18446744073709551615, 3, 0);
+    for limit in [
+        0,
+        159,
+        160,
+        161,
+        220,
+        278,
+        279,
+        280,
+        281,
+        395,
+        396,
+        450,
+        usize::MAX,
+    ] {
+        sample_field(1, limit, 3, 0);
+    }
 }
 
+// The same for field 2.
 fn sample_limits_2() {
-    sample_field(2, 0, 3, 0);
-    sample_field(2, 160, 3, 0);
-    sample_field(2, 274, 3, 0);
-    sample_field(2, 275, 3, 0);
-    sample_field(2, 276, 3, 0);
-    sample_field(2, 277, 3, 0);
-    sample_field(2, 411, 3, 0);
-    sample_field(2, 412, 3, 0);
-    sample_field(2, 450, 3, 0);
-    sample_field(2, 18446744073709551615, 3, 0);
+    for limit in [0, 160, 274, 275, 276, 277, 411, 412, 450, usize::MAX] {
+        sample_field(2, limit, 3, 0);
+    }
 }
 
 // Few places, and those about the last constant of each table.
@@ -198,6 +185,7 @@ fn sample_moduli_2() {
     sample(2, 2132992694, 13756, 112, 104);
 }
 
+// All of the above, in the order of stdout.
 fn main() {
     by_numbers();
     compare_tables();

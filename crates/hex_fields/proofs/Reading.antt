@@ -4,14 +4,20 @@ use mathlib.Core.Path.{◌≡◌, refl, sym, ap, ap₂, ◌∙◌}
 use mathlib.Core.Bool.{true, false, not}
 use mathlib.Core.List.{List, [], ◌∷◌, ◌++◌, append_assoc, append-nil}
 use mathlib.Core.Logic.{◌⊎◌, ⊎_elim}
-use Prim.Native.Nat.{ℕ, zero, suc, ◌+◌, ◌*◌, ◌-◌, ◌%◌, ◌≤◌, ◌<◌, zero-le}
+use Prim.Native.Nat.{ℕ, zero, suc, ◌+◌, ◌*◌, ◌-◌, ◌/◌, ◌%◌, ◌≤◌, ◌<◌, zero-le}
 use native.Mathlib.Numerals.{add-one}
 use native.Mathlib.Omega.{arith}
 use borrow.Author.Tests.{lt-ltb, le-ltb, ltb-true, ltb-false, not-true, not-false}
 use lib.Dec.{ltb}
-use lib.ListN.{length, get_or, take, drop, set, replicate, length-set, length-replicate, take-append-drop, drop_of_length-le}
-use lib.Seq.{drop-cons, drop-drop, take-suc-set, drop-set-lt, length-take-le}
+use lib.ListN.{length, get_or, take, drop, set, replicate, length-set, length-replicate, take-append-drop, drop_of_length-le, length-drop}
+use lib.Seq.{get_or-drop, drop-cons, drop-drop, take-suc-set, drop-set-lt, length-take-le}
+use denote.Ref.{Bor}
+use Rattle.std.specs.Prelude.{Option, Some, None, unwrap_or}
+use Rattle.std.specs.List.{PartBy}
+use Rattle.std.specs.Simd.{first_chunks}
+use Rattle.std.proofs.lemmas.List.{take_rest}
 use Rattle.basics.specs.Lists.{zero_padded}
+use Rattle.basics.proofs.Parts.{chunk_read}
 use Rattle.basics.proofs.Cases.{by, cases, if_true, if_false, and_left, and_right, and_stop, and_step}
 use Rattle.hex_fields.specs.declared.Field.{Field}
 use Rattle.hex_fields.specs.Fields.{digit_value, pair_byte, is_end, field_bytes, is_pair, place_behind, field_of, field_at, max_bytes}
@@ -95,6 +101,29 @@ module _ (text : List ℕ) (at : ℕ) where
       cases (ltb at (length text))
       (λ k. ap (field_bytes (suc n)) (one_code (ltb-true at (length text) k) short))
       (λ k. ap (field_bytes (suc n)) (drop_of_length-le text (ltb-false at (length text) k))))
+
+-- ---- the text from a place on, in pairs
+
+-- what the library gives of a text from a place on, and nothing where the place lies behind it
+pub rest_is : (text : List ℕ) (at : ℕ) (found : Option (Bor (List ℕ))) (none : Bor (List ℕ)) → none.now ≡ []
+    → PartBy (λ (x : Bor (List ℕ)). x.now) text at (length text) found → (unwrap_or found none).now ≡ drop at text
+rest_is text at None none e p = e ∙ sym (drop_of_length-le text (⊎_elim (λ h. omega arith) (λ h. absurd (omega arith)) p.0))
+rest_is text at (Some x) none e p = p.0.2 ∙ take_rest text at
+
+module _ (text : List ℕ) (at : ℕ) (rest : List ℕ) (pairs : List (List ℕ)) (from : rest ≡ drop at text)
+    (parts : pairs ≡ first_chunks 2 (length rest / 2) rest) where
+  pub pairs_long : length pairs ≡ length rest / 2 → length pairs ≡ (length text - at) / 2
+  pairs_long e = e ∙ ap (λ (k : ℕ). k / 2) (ap length from ∙ length-drop at text)
+
+  pub pair_code : (i j : ℕ) → i < (length text - at) / 2 → j < 2 → get_or (get_or pairs i []) j 0 ≡ get_or text (at + 2 * i + j) 0
+  pair_code i j h l =
+      let long = ap length from ∙ length-drop at text in
+      let place : at + (2 * i + j) ≡ at + 2 * i + j = omega arith in
+      ap (λ (p : List (List ℕ)). get_or (get_or p i []) j 0) parts
+      ∙ chunk_read 2 (length rest / 2) rest i j (rw long h) l
+      ∙ ap (λ (s : List ℕ). get_or s (2 * i + j) 0) from
+      ∙ get_or-drop at text (2 * i + j) 0
+      ∙ ap (λ (k : ℕ). get_or text k 0) place
 
 -- ---- the loop over pairs
 

@@ -1,14 +1,10 @@
 -- Definitions that no public contract cites: what private functions of the crate take and give.
-use Rattle.std.specs.Prelude.{List, [], ◌∷◌, ◌++◌, ℕ, ◌+◌, ◌%◌, get_or}
+use Rattle.std.specs.Prelude.{List, ℕ, ◌+◌, ◌%◌, ◌<◌, get_or}
 use Rattle.keccak.specs.Permutation.{◌⊕◌, rotate}
 
--- a plane, the five lanes of one y: lane x is f x
-abbrev pub plane : (ℕ → ℕ) → List ℕ
-plane f = f 0 ∷ f 1 ∷ f 2 ∷ f 3 ∷ f 4 ∷ []
-
--- the state of five planes, from y = 0 on
-unfoldable pub of_planes : List ℕ → List ℕ → List ℕ → List ℕ → List ℕ → List ℕ
-of_planes p q r s t = p ++ (q ++ (r ++ (s ++ t)))
+-- P holds of the coordinates of each lane
+abbrev pub EachLane : (ℕ → ℕ → Type 0) → Type 0
+EachLane P = (x y : ℕ) → x < 5 → y < 5 → P x y
 
 -- D[x] of theta, from the list C
 abbrev pub effect_of : List ℕ → ℕ → ℕ

@@ -1,6 +1,6 @@
-// Montgomery's reduction by 2^32, and powers by it, for any modulus. Nothing divides by the modulus. Every function takes any numbers: sums wrap round,
-// and a contract says under which conditions the result is the one that is wanted.
-// Factors are cut to 32 bits, though most have no more, so that the compiler sees that one 32-bit product of two lanes is enough.
+// Montgomery's reduction by 2^32, and powers by it, for any modulus. Nothing divides by the modulus.
+// Every function takes any numbers: sums wrap round, and a contract says when the result is the one that is wanted.
+// Factors are cut to 32 bits, though most have no more, so that the compiler sees that one 32-bit product is enough.
 #![tactic(auto)]
 
 ghost use Rattle.std.specs.Prelude.{◌≡◌};
@@ -17,7 +17,7 @@ pub fn product(a: u64, b: u64) -> u64
 pub fn reduce(a: u64, m: u64, q: u64) -> u64
     ensures { Reduced a m q result }
 {
-    std::num::wrapping_add_u64(a, product(product(a, q), m)) / 4294967296
+    a.wrapping_add(product(product(a, q), m)) / 4294967296
 }
 
 // The same number modulo m, of 49 bits; r is 2^48 modulo m.
@@ -70,8 +70,8 @@ pub fn power(power: u32, x: u64, m: u64, q: u64, r: u64) -> u64
     }
 }
 
-// The third power of any number of 32 bits. Each step has its own copies of m and q: where those come from a table, the compiler finds it worth while
-// to take two numbers at a time.
+// The third power of any number of 32 bits.
+// Each step has its own copies of m and q: from a table of such copies the compiler takes two numbers at a time.
 fn third_power_of_any(x: u64, m: u64, q: u64, m2: u64, q2: u64, r: u64) -> u64
     ensures { Raised 3 x m q m2 q2 m q m q r result }
 {

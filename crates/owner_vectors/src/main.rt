@@ -5,26 +5,35 @@
 
 ghost use Rattle.std.specs.Prelude.{◌≡◌, ◌<◌, length};
 
-fn print_number(number: u32) {
-    io::write_all(1, b" ");
-    io::print_decimal(1, number as u64);
+use basics::{ACCEPTED, Refusal};
+
+// Numbers, with a space before each.
+fn print_numbers(numbers: &[u32]) {
+    for number in numbers {
+        io::write_all(1, b" ");
+        io::print_decimal(1, u64::from(*number));
+    }
 }
 
+// The answer's number, and what comes with it.
 fn print_check(table: &[u8]) {
-    let checked = owners::check(table);
     io::write_all(1, b"c");
-    print_number(checked.number);
-    print_number(checked.place);
+    match owners::check(table) {
+        Ok(()) => print_numbers(&[ACCEPTED, 0]),
+        Err(fault) => print_numbers(&[u32::from(Refusal::from(fault)), fault.place()]),
+    }
 }
 
+// The answer's number, what comes with a refusal, and the line.
 fn print_owner(table: &[u8], separator: &[u8]) {
-    let asked = owners::owner(table, separator);
     io::write_all(1, b"o");
-    print_number(asked.number);
-    print_number(asked.place);
-    print_number(asked.line as u32);
+    match owners::owner(table, separator) {
+        Ok(line) => print_numbers(&[ACCEPTED, 0, u32::from(line)]),
+        Err(fault) => print_numbers(&[u32::from(Refusal::from(fault)), fault.place(), 0]),
+    }
 }
 
+// A line of the output.
 fn print_answers(table: &[u8], separator: &[u8]) {
     print_check(table);
     io::write_all(1, b", ");
@@ -39,14 +48,11 @@ fn print_line(text: &[u8], at: usize) -> usize
 {
     let first = hex_fields::field_at(text, at);
     let second = hex_fields::field_at(text, first.next);
-    let table = first.bytes;
-    let table_length = first.count;
-    let separator = second.bytes;
-    let separator_length = second.count;
-    print_answers(&table[..table_length], &separator[..separator_length]);
+    print_answers(first.as_bytes(), second.as_bytes());
     second.next
 }
 
+// Each line of the input says where the next begins.
 fn print_lines(text: &[u8]) {
     let mut at: usize = 0;
     while at < text.len() {
@@ -61,6 +67,7 @@ fn input_buffer() -> [u8; 524288]
     [0; 524288]
 }
 
+// The lines of standard input, answered on standard output.
 fn main() {
     let mut text = input_buffer();
     let size = io::read_full(0, &mut text);

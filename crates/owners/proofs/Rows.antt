@@ -1,19 +1,22 @@
 -- The rows of a table of bytes.
 -- Assumes nothing.
-use mathlib.Core.Path.{◌≡◌, refl, ap, ◌∙◌}
+use mathlib.Core.Path.{◌≡◌, refl, sym, ap, ap₂, ◌∙◌}
 use mathlib.Core.Bool.{not}
-use mathlib.Core.List.{List, [], ◌∷◌}
-use Prim.Native.Nat.{ℕ, zero, suc, ◌+◌, ◌-◌, ◌*◌, ◌/◌, ◌%◌, ◌≤◌, ◌<◌}
+use mathlib.Core.List.{List, [], ◌∷◌, map}
+use Prim.Native.Nat.{ℕ, zero, suc, ◌-◌, ◌/◌, ◌%◌, ◌≤◌, ◌<◌}
 use native.Mathlib.Nat.{le-add_right}
 use native.Mathlib.Omega.{arith}
-use borrow.Author.Tests.{eq-eqb, ne_eqb}
-use lib.Dec.{eqb}
+use borrow.Author.Tests.{eqb-true, eqb-false}
+use lib.Dec.{eqb, lit≤}
 use lib.ListN.{length, get_or, take, drop}
-use lib.Seq.{drop-drop}
+use lib.Seq.{take-take}
+use Rattle.std.proofs.lemmas.List.{drop-take, length-map, get_or-map}
+use Rattle.std.specs.Int.{div_ceil}
 use Rattle.basics.specs.Logic.{when◌then◌else◌}
 use Rattle.basics.specs.Digits.{number}
-use Rattle.basics.proofs.Cases.{if_true, if_false}
-use Rattle.basics.proofs.Parts.{two_bytes}
+use Rattle.basics.proofs.Cases.{cases, if_true, if_false}
+use Rattle.basics.proofs.Parts.{two_bytes, four_bytes}
+use Rattle.std.specs.Simd.{first_chunks}
 use Rattle.owners.specs.Owners.{Table, row_of, rows_of, table_of, row_count, row}
 use Rattle.owners.specs.declared.OwnerRow.{OwnerRow}
 
@@ -26,60 +29,71 @@ unfolding rows_of
 length_rows zero bytes = refl
 length_rows (suc n) bytes = ap suc (length_rows n (drop 10 bytes))
 
-pub rows_at : (n : ℕ) (bytes : List ℕ) (i : ℕ) → i < n → get_or (rows_of n bytes) i no_row ≡ row_of (drop (10 * i) bytes)
-unfolding rows_of
-rows_at zero bytes i h = absurd (omega arith)
-rows_at (suc n) bytes zero h = refl
-rows_at (suc n) bytes (suc i) h =
-    let place : 10 + 10 * i ≡ 10 * suc i = omega arith in
-    rows_at n (drop 10 bytes) i (omega arith) ∙ ap row_of (drop-drop (10 * i) 10 bytes ∙ ap (λ (k : ℕ). drop k bytes) place)
-
 -- a row by its place, counted from 0
 pub row_suc : (t : Table) (i : ℕ) → row t (suc i) ≡ get_or t.rows i no_row
 unfolding row
 row_suc t i = let place : suc i - 1 ≡ i = omega arith in ap (λ (j : ℕ). get_or t.rows j no_row) place
 
--- a whole row, by its number and by its bytes
-pub row_at : (bytes : List ℕ) (k : ℕ) → k - 1 < length bytes / 10 → row (table_of bytes) k ≡ row_of (drop (10 * (k - 1)) bytes)
-unfolding row table_of
-row_at bytes k h = rows_at (length bytes / 10) bytes (k - 1) h
-
-pub place_at : (bytes : List ℕ) (i : ℕ) → i < length bytes / 10 → get_or (table_of bytes).rows i no_row ≡ row_of (drop (10 * i) bytes)
-unfolding table_of
-place_at bytes i h = rows_at (length bytes / 10) bytes i h
-
 pub whole_rows : (bytes : List ℕ) → length (table_of bytes).rows ≡ length bytes / 10
 unfolding table_of
 whole_rows bytes = length_rows (length bytes / 10) bytes
 
--- the parts of a row, each by its own place
-pub row_parts : (s : List ℕ) (at : ℕ) → at + 10 ≤ length s
-    → row_of (drop at s)
+-- the parts of a row's bytes
+pub row_parts : (s : List ℕ) → length s ≡ 10
+    → row_of s
     ≡ record {
-      first = number 256 (take 4 (drop at s));
-      last = number 256 (take 4 (drop (at + 4) s));
-      line = number 256 (get_or s (at + 8) 0 ∷ get_or s (at + 9) 0 ∷ []);
+      first = number 256 (get_or s 0 0 ∷ get_or s 1 0 ∷ get_or s 2 0 ∷ get_or s 3 0 ∷ []);
+      last = number 256 (get_or s 4 0 ∷ get_or s 5 0 ∷ get_or s 6 0 ∷ get_or s 7 0 ∷ []);
+      line = number 256 (get_or s 8 0 ∷ get_or s 9 0 ∷ []);
     }
 unfolding row_of
-row_parts s at h =
-    let next : at + 8 + 1 ≡ at + 9 = omega arith in
-    let line = two_bytes s (at + 8) (omega arith) in
-    rw (drop-drop 4 at s, drop-drop 8 at s, line, next)
+row_parts s e =
+    let first = four_bytes s 0 (omega arith) in
+    let last = four_bytes s 4 (omega arith) in
+    let line = two_bytes s 8 (omega arith) in
+    rw (last, line, first)
 
-module _ (bytes : List ℕ) where
-  pub count_whole : length bytes % 10 ≡ 0 → row_count (table_of bytes) ≡ length bytes / 10
-  unfolding row_count table_of
-  count_whole e =
-      let long = length_rows (length bytes / 10) bytes in
-      let none : ◌≡◌ {A = ℕ} (when not (eqb (length bytes % 10) 0) then 1 else 0) 0 = if_false _ _ _ (ap not (eq-eqb _ 0 e)) in
-      omega arith
+-- a row is read of its ten bytes alone
+row_alone : (s : List ℕ) → row_of (take 10 s) ≡ row_of s
+unfolding row_of
+row_alone s =
+    let last = ap (take 4) (drop-take 4 6 s) ∙ take-take 4 6 (drop 4 s) (lit≤ tt) in
+    let line = ap (take 2) (drop-take 8 2 s) ∙ take-take 2 2 (drop 8 s) (lit≤ tt) in
+    rw (take-take 4 10 s (lit≤ tt), last, line)
 
-  pub count_cut : (length bytes % 10 ≡ 0 → ⊥) → row_count (table_of bytes) ≡ length bytes / 10 + 1
-  unfolding row_count table_of
-  count_cut n =
-      let long = length_rows (length bytes / 10) bytes in
-      let one : ◌≡◌ {A = ℕ} (when not (eqb (length bytes % 10) 0) then 1 else 0) 1 = if_true _ _ _ (ap not (ne_eqb _ 0 n)) in
-      omega arith
+-- the rows of a table, by the parts of ten bytes that the library gives
+pub rows_chunks : (n : ℕ) (bytes : List ℕ) → map row_of (first_chunks 10 n bytes) ≡ rows_of n bytes
+unfolding rows_of
+rows_chunks zero bytes = refl
+rows_chunks (suc n) bytes =
+    ap₂ (λ (r : OwnerRow) (rs : List OwnerRow). r ∷ rs) (row_alone bytes) (rows_chunks n (drop 10 bytes))
+
+-- where parts of ten bytes are a table's rows, a part is read as the row in its place
+module _ (bytes : List ℕ) (parts : List (List ℕ)) (is : map row_of parts ≡ (table_of bytes).rows) where
+  pub rows_long : length (table_of bytes).rows ≡ length parts
+  rows_long = sym (ap length is) ∙ length-map parts row_of
+
+  pub part_at : (i : ℕ) (d : List ℕ) → i < length parts → get_or (table_of bytes).rows i no_row ≡ row_of (get_or parts i d)
+  part_at i d h = ap (λ (rs : List OwnerRow). get_or rs i no_row) (sym is) ∙ get_or-map row_of parts i d no_row h
+
+  pub part_row : (k i : ℕ) (d : List ℕ) → k - 1 ≡ i → i < length parts → row (table_of bytes) k ≡ row_of (get_or parts i d)
+  unfolding row
+  part_row k i d e h = rw e (part_at i d h)
+
+pub count_rows : (bytes : List ℕ) → row_count (table_of bytes) ≡ div_ceil (length bytes) 10
+unfolding row_count table_of
+count_rows bytes =
+    let long = length_rows (length bytes / 10) bytes in
+    cases
+    (eqb (length bytes % 10) 0)
+    (λ e.
+    let none : ◌≡◌ {A = ℕ} (when not (eqb (length bytes % 10) 0) then 1 else 0) 0 = if_false _ _ _ (ap not e) in
+    let whole = eqb-true (length bytes % 10) 0 e in
+    omega arith)
+    (λ e.
+    let one : ◌≡◌ {A = ℕ} (when not (eqb (length bytes % 10) 0) then 1 else 0) 1 = if_true _ _ _ (ap not e) in
+    let cut = eqb-false (length bytes % 10) 0 e in
+    omega arith)
 
 pub rows_within : (t : Table) → length t.rows ≤ row_count t
 unfolding row_count

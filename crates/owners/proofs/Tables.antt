@@ -17,7 +17,7 @@ use Rattle.basics.proofs.Cases.{cases, if_true, any_at, any_some}
 use Rattle.basics.proofs.Below.{below_at}
 use Rattle.basics.proofs.Parts.{four_bytes_below}
 use Rattle.owners.specs.Owners.{Table, row, row_count, at_fault, first_fault, holds, is_free, number_count, least_free, checked, separator_number, asked}
-use Rattle.owners.specs.declared.Checked.{Checked}
+use Rattle.owners.specs.Owners.{Checked}
 use Rattle.owners.proofs.Rows.{no_row, row_suc, rows_within}
 use Rattle.owners.proofs.Least.{least, least_is}
 use Rattle.owners.proofs.Faults.{Good, is_good}
@@ -72,14 +72,14 @@ module _ (t : Table) where
   unfolding first_fault
   faultless_behind h k l m = (least (at_fault t) 1 (row_count t)).none k l (omega arith)
 
-  behind_faultless : Faultless → row_count t < first_fault t
+  pub behind_faultless : Faultless → row_count t < first_fault t
   unfolding first_fault
   behind_faultless f =
       let e = least_is (at_fault t) {k = 1} {n = row_count t} {m = 1 + row_count t}
       (record { from = omega arith; within = omega arith; none = λ j h l. f j h (omega arith); passes = λ h. absurd (omega arith) }) in
       omega arith
 
-  covering_all : number_count ≤ least_free t → Covering
+  pub covering_all : number_count ≤ least_free t → Covering
   unfolding least_free
   covering_all h n l = (least (is_free t) 0 number_count).none n zero-le (omega arith)
 

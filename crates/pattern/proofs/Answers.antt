@@ -15,7 +15,7 @@ use Rattle.words.specs.Words.{is_absorb, length_of}
 use Rattle.pattern.specs.Pattern.{phases, merged_words, too_long}
 use Rattle.pattern.specs.Opening.{with_words}
 use Rattle.pattern.specs.Steps.{Holds}
-use Rattle.pattern.specs.declared.WordList.{WordList}
+use Rattle.pattern.specs.Opening.{WordList}
 use Rattle.pattern.proofs.MergeStep.{merged_words_length, last_word, step_first, step_other_kind, step_same_kind}
 
 -- an answer with another word at a place, and another count

@@ -6,7 +6,7 @@ use lib.ListN.{length, take}
 use Rattle.basics.specs.Numbers.{accepted}
 use Rattle.pattern.specs.Pattern.{max_words, merged_words}
 use Rattle.pattern.specs.Opening.{Opening, opening_number, with_words, checked}
-use Rattle.pattern.specs.declared.WordList.{WordList}
+use Rattle.pattern.specs.Opening.{WordList}
 use Rattle.pattern.proofs.Answers.{count_at, count_within, words_used}
 use Rattle.pattern.proofs.StartCheck.{checked_number, checked_accepted, few_words}
 

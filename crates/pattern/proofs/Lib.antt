@@ -1,7 +1,9 @@
 pub mod Given
+pub mod Refusals
 pub mod MergedLengths
 pub mod MergeStep
 pub mod PassStep
+pub mod Settled
 pub mod FromPass
 pub mod Answers
 pub mod Soundness

@@ -20,7 +20,7 @@ use Rattle.pattern.specs.Pattern.{merge, phases, merged_words, too_long}
 use Rattle.pattern.specs.Opening.{word_rows, with_words, answer_with}
 use Rattle.pattern.specs.Steps.{Holds, holding}
 use Rattle.pattern.specs.Pass.{pass_number, passed, earned, rank, earlier, pass_step, pass_from, held_after}
-use Rattle.pattern.specs.declared.WordList.{WordList}
+use Rattle.pattern.specs.Opening.{WordList}
 use Rattle.pattern.proofs.Given.{answer_accepted, answer_refused}
 use Rattle.pattern.proofs.Answers.{words_used, holds_few, last_held}
 use Rattle.pattern.proofs.MergedLengths.{phases_fit, merged_words_within}

@@ -7,7 +7,6 @@ use Rattle.basics.specs.Numbers.{accepted, word_count_out_of_range, word_length_
 use Rattle.basics.specs.Refusals.{Row, ◌gets◌⨾◌, first_number}
 use Rattle.words.specs.Words.{is_absorb, length_of}
 use Rattle.pattern.specs.Pattern.{max_words, merged_words}
-use Rattle.pattern.specs.declared.WordList.{WordList}
 
 -- what a tag string is made from, and START gets beside a field number: the words that declare a pattern, and the separator (SAFE's domain
 -- separator), a string of bytes
@@ -18,6 +17,12 @@ pub record Opening : Type 0 where
 -- an opening of its parts
 abbrev pub opening : List ℕ → List ℕ → Opening
 opening ws separator = record { words = ws; separator = separator }
+
+-- a number, 64 places for words, and how many are used
+pub record WordList : Type 0 where
+  pub number : ℕ
+  pub words : List ℕ
+  pub count : ℕ
 
 -- the longest separator, in bytes
 abbrev pub max_separator : ℕ

@@ -6,8 +6,7 @@ use Rattle.basics.specs.Numbers.{accepted, word_count_out_of_range, word_length_
 use Rattle.basics.specs.Refusals.{◌gets◌⨾◌, first_number}
 use Rattle.words.specs.Words.{is_absorb, length_of}
 use Rattle.pattern.specs.Pattern.{max_words, merged_words}
-use Rattle.pattern.specs.Opening.{max_call, max_separator, word_rows, with_words, answer_with}
-use Rattle.pattern.specs.declared.WordList.{WordList}
+use Rattle.pattern.specs.Opening.{WordList, max_call, max_separator, word_rows, with_words, answer_with}
 
 -- "the lowest number that the words so far earn, number 4 aside", where 19 counts "after 2 and before 3", and 4 is "no longer given": the rows about
 -- words stand in this order

@@ -1,11 +1,17 @@
 // Patterns: the start check, which merges.
 #![tactic(auto)]
 
+pub mod list;
 mod pass;
 
-ghost use Rattle.std.specs.Prelude.{◌≡◌, []};
-ghost use Rattle.pattern.specs.Opening.{opening, with_words, checked};
+ghost use Rattle.std.specs.Prelude.{◌≡◌};
+ghost use Rattle.pattern.specs.Opening.{opening, checked};
+ghost use Rattle.pattern.specs.Answers.{words_answer};
 ghost use Rattle.pattern.specs.Pass.{ending};
+ghost use Rattle.pattern.specs.Steps.{refusal_number};
+
+use basics::Refusal;
+use list::Words;
 
 // The longest pattern, in words.
 pub const MAX_WORDS: usize = 64;
@@ -16,52 +22,23 @@ pub const MAX_CALL: u32 = 16777216;
 // The longest separator, in bytes.
 pub const MAX_SEPARATOR: usize = 256;
 
-// Number 0 and words, merged or cut, with unused places 0; or another number and no words.
-#[derive(Clone, Copy)]
-pub struct WordList {
-    pub number: u32,
-    pub words: [u32; 64],
-    pub count: usize,
+// What is left for the end of the pass: the separator's length.
+fn ending_of(separator_length: usize) -> Option<Refusal>
+    ensures { refusal_number result ≡ ending separator_length }
+{
+    (separator_length > MAX_SEPARATOR).then_some(Refusal::SeparatorTooLong)
 }
 
-// A number and no words.
-pub fn refused(number: u32) -> WordList
-    ensures { result ≡ with_words number [] }
+// The start check: one pass over the words, and what is left for its end; the refusal that is checked first wins.
+pub fn check(words: &[u32], separator: &[u8]) -> Result<Words, Refusal>
+    ensures { words_answer result ≡ checked (opening words.now separator.now) }
 {
-    WordList {
-        number,
-        words: [0; 64],
-        count: 0,
-    }
-}
-
-// What is left for the end of the pass: number 6 by the separator's length, or 0.
-fn ending_of(separator_length: usize) -> u32
-    ensures { result ≡ ending separator_length }
-{
-    if separator_length > MAX_SEPARATOR {
-        return basics::SEPARATOR_TOO_LONG;
-    }
-    basics::ACCEPTED
-}
-
-// The start check: one pass over the words, and what is left for its end; the number that is checked first wins.
-pub fn check(words: &[u32], separator: &[u8]) -> WordList
-    ensures { result ≡ checked (opening words.now separator.now) }
-{
-    if words.len() == 0 {
-        return refused(basics::WORD_COUNT_OUT_OF_RANGE);
+    if words.is_empty() {
+        return Err(Refusal::WordCountOutOfRange);
     }
     let mut list = [0u32; 64];
-    let count = pass::looked_at(words.len());
-    let passed = pass::pass(&words[..count], &mut list);
-    let number = pass::earlier_of(passed.number, ending_of(separator.len()));
-    if number != basics::ACCEPTED {
-        return refused(number);
-    }
-    WordList {
-        number: basics::ACCEPTED,
-        words: list,
-        count: passed.count,
-    }
+    let looked_at = words.len().min(MAX_WORDS + 1);
+    let passed = pass::pass(&words[..looked_at], &mut list);
+    let count = pass::settled(passed, ending_of(separator.len()))?;
+    Ok(Words { words: list, count })
 }

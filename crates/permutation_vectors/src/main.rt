@@ -4,73 +4,48 @@
 // the papers by other hands (tests/oracle).
 #![tactic(auto)]
 
-ghost use Rattle.std.specs.Prelude.{◌<◌};
+use basics::Refusal;
+
+// The bytes of a number in a line, with the byte behind it.
+const NUMBER: usize = 11;
+
+// The bytes of a line.
+const LINE: usize = 25 * NUMBER;
 
 // The number with one digit more behind it.
-fn with_digit(value: u32, digit: u8) -> u32 {
-    ((value as u64 * 10 + digit as u64 % 16) % 4294967296) as u32
+fn with_digit(value: u32, digit: &u8) -> u32 {
+    ((value as u64 * 10 + *digit as u64 % 16) % 4294967296) as u32
 }
 
-// The number of ten digits that begins at a place of the text.
-fn number_at(text: &[u8; 65536], at: usize) -> u32
-    requires { at < 65500 }
-{
-    let mut value: u32 = 0;
-    let mut i: usize = 0;
-    while i < 10 {
-        value = with_digit(value, text[at + i]);
-        i += 1;
-    }
-    value
+// The number of ten digits that a text begins with.
+fn number(text: &[u8]) -> u32 {
+    text.iter().take(10).fold(0, with_digit)
 }
 
-fn state_at(text: &[u8; 65536], at: usize) -> [u32; 24]
-    requires { at < 65200 }
-{
+// The state in a line, behind the field's number.
+fn state_in(line: &[u8]) -> [u32; 24] {
     let mut state = [0u32; 24];
-    let mut i: usize = 0;
-    while i < 24 {
-        state[i] = number_at(text, at + 11 * i);
-        i += 1;
+    for (x, text) in state.iter_mut().zip(line.chunks_exact(NUMBER).skip(1)) {
+        *x = number(text);
     }
     state
 }
 
-fn print_element(x: u32) {
-    io::write_all(1, b" ");
-    io::print_decimal(1, x as u64);
-}
-
-fn print_elements(state: &[u32; 24]) {
-    let mut i: usize = 0;
-    while i < 24 {
-        print_element(state[i]);
-        i += 1;
+// Prints an answer's number and its state, or the state that was refused.
+fn print_answer(answer: Result<[u32; 24], Refusal>, given: [u32; 24]) {
+    io::print_decimal(1, u64::from(basics::number(&answer)));
+    for x in answer.unwrap_or(given) {
+        io::write_all(1, b" ");
+        io::print_decimal(1, u64::from(x));
     }
-}
-
-fn print_answer(answer: poseidon::Permuted) {
-    io::print_decimal(1, answer.number as u64);
-    let state = answer.state;
-    print_elements(&state);
     io::write_all(1, b"\n");
-}
-
-fn permute_lines(text: &[u8; 65536], size: usize) {
-    let mut line: usize = 0;
-    while line < 238 {
-        let at = 275 * line;
-        if size < at + 275 {
-            return;
-        }
-        let field = number_at(text, at);
-        print_answer(poseidon::permute(field, state_at(text, at + 11)));
-        line += 1;
-    }
 }
 
 fn main() {
     let mut text = io::large_buffer();
     let size = io::read_full(0, &mut text);
-    permute_lines(&text, size);
+    for line in text[..size].chunks_exact(LINE) {
+        let state = state_in(line);
+        print_answer(poseidon::permute(number(line), state), state);
+    }
 }

@@ -6,7 +6,6 @@ use Rattle.basics.specs.Numbers.{accepted, element_not_reduced, field_unknown}
 use Rattle.field.specs.Field.{modulus, power, partial_rounds, is_field, field_of, is_element}
 use Rattle.field.specs.declared.Field.{Field}
 use Rattle.poseidon_tables.specs.Tables.{constants, inverses}
-use Rattle.poseidon.specs.declared.Permuted.{Permuted}
 
 -- the parameters of a Poseidon permutation of width 24 with 4 + 4 full rounds
 pub record Parameters : Type 0 where
@@ -59,6 +58,11 @@ permutation F s = rounds F (4 + F.partial_rounds + 4) s
 -- the parameters of a field's permutation
 unfoldable pub parameters : Field → Parameters
 parameters f = record { modulus = modulus f; power = power f; partial_rounds = partial_rounds f; constants = constants f; inverses = inverses f }
+
+-- a number, and the state that comes with it
+pub record Permuted : Type 0 where
+  pub number : ℕ
+  pub state : List ℕ
 
 -- "18: field number neither 1 nor 2 .. before 10 in the bare permutation, which gives its input back"; 10 is for "an element of p or more"
 unfoldable pub permuted : ℕ → List ℕ → Permuted

@@ -5,18 +5,14 @@
 ghost use Rattle.std.specs.Prelude.{◌≡◌, ◌%◌, ◌≤◌};
 ghost use Rattle.field.specs.Field.{modulus, power};
 ghost use Rattle.field.specs.declared.Field.TheVariants.{BabyBear, KoalaBear};
+ghost use Rattle.poseidon_full.specs.Full.{Rounds};
 ghost use Rattle.poseidon.specs.Permutation.{parameters, permutation, permuted};
-ghost use Rattle.poseidon.specs.Tables.{tables_of, tables_from};
+ghost use Rattle.poseidon.specs.Answers.{permuted_answer};
+ghost use Rattle.poseidon.specs.Tables.{tables_of};
 ghost use Rattle.poseidon.specs.Steps.{remainders, negated_inverse, high_weight, word, first_entry, Rescaled};
 
+use basics::Refusal;
 use field::Field;
-
-// Number 0 and the permuted state, or number 18 or 10 and the state as it came.
-#[derive(Clone, Copy)]
-pub struct Permuted {
-    pub number: u32,
-    pub state: [u32; 24],
-}
 
 // What a permutation reads: the matrix in blocks and the pre-sparse matrix, the columns and rows of the partial rounds, the constants of element 0 in these, what
 // the other rounds add, and copies of the modulus' numbers.
@@ -108,12 +104,6 @@ fn first_entry(field: Field) -> u32
     }
 }
 
-fn wide(a: u32) -> u64
-    ensures { (result ≡ a) × (result ≤ 4294967295) }
-{
-    a as u64
-}
-
 // The remainder of a number of 32 bits modulo m: two subtractions do what a division would.
 fn remainder(x: u32, m: u32) -> u32
     requires { 1431655766 ≤ m }
@@ -127,17 +117,15 @@ fn remainder(x: u32, m: u32) -> u32
 }
 
 // The remainders of a state's elements.
-fn reduce_all(x: &[u32; 24], m: u32) -> [u32; 24]
+fn reduce_all(state: [u32; 24], m: u32) -> [u32; 24]
     requires { 1431655766 ≤ m }
-    ensures { result ≡ remainders m x.now }
+    ensures { result ≡ remainders m state }
 {
-    let mut out = [0u32; 24];
-    let mut i: usize = 0;
-    while i < 24 {
-        out[i] = remainder(x[i], m);
-        i += 1;
+    let mut reduced = state;
+    for x in &mut reduced {
+        *x = remainder(*x, m);
     }
-    out
+    reduced
 }
 
 // What comes out of the partial rounds, with what these still have to add, and each element again in the form that full rounds take.
@@ -145,28 +133,44 @@ fn rescale(x: &[u32; 24], word: u32, addends: &[u32; 264], m: u32, q: u32, r: u3
     ensures { Rescaled x.now word addends.now m q r result }
 {
     let mut out = [0u32; 24];
-    let mut i: usize = 0;
-    while i < 24 {
-        let sum = montgomery::product(wide(x[i]), wide(word)) + wide(addends[120 + i]);
-        out[i] = montgomery::reduce_any(sum, wide(m), wide(q), wide(r)) as u32;
-        i += 1;
+    for (i, y) in out.iter_mut().enumerate() {
+        let sum = montgomery::product(u64::from(x[i]), u64::from(word))
+            + u64::from(addends[120 + i]);
+        *y = montgomery::reduce_any(sum, u64::from(m), u64::from(q), u64::from(r)) as u32;
     }
     out
 }
 
-// The permutation of any state, with the field's tables lent. Elements of p or more are taken modulo p.
-pub fn permutation_by<'a>(
-    field: Field,
-    state: [u32; 24],
-    matrix: &'a [u32; 432],
-    pre_sparse: &'a [u32; 576],
-    sparse: &'a [u32; 1152],
-    first_constants: &'a [u32; 24],
-    addends: &'a [u32; 264],
-    copies: &'a [u64; 216],
+// Full rounds from one row of the addends to another, by the field's matrix.
+fn full_rounds(
+    x: [u32; 24],
+    tables: &Tables,
+    from: usize,
+    to: usize,
+    power: u32,
+    m: u32,
+    q: u32,
+    r: u32,
 ) -> [u32; 24]
-    ensures { tables_from matrix.now pre_sparse.now sparse.now first_constants.now addends.now copies.now ≡ tables_of field →
-        result ≡ permutation (parameters field) state }
+    ensures { Rounds m q r power tables.now.matrix tables.now.addends tables.now.copies from to x result }
+{
+    poseidon_full::full_rounds(
+        x,
+        &tables.matrix,
+        &tables.addends,
+        &tables.copies,
+        from,
+        to,
+        power,
+        m,
+        q,
+        r,
+    )
+}
+
+// The permutation of any state, with the field's tables lent. Elements of p or more are taken modulo p.
+pub fn permutation_by(field: Field, state: [u32; 24], tables: &Tables) -> [u32; 24]
+    ensures { tables.now ≡ tables_of field → result ≡ permutation (parameters field) state }
 {
     let m = field::modulus(field);
     let q = negated_inverse(field);
@@ -175,15 +179,24 @@ pub fn permutation_by<'a>(
     let n = field::partial_rounds(field);
     let first = first_entry(field);
     let word = word(field);
-    let reduced = reduce_all(&state, m);
-    let early = poseidon_full::full_rounds(reduced, matrix, addends, copies, 0, 3, power, m, q, r);
+    let reduced = reduce_all(state, m);
+    let early = full_rounds(reduced, tables, 0, 3, power, m, q, r);
     let before = poseidon_full::full_round(
-        &early, pre_sparse, addends, copies, 3, 4, power, m, q, r,
+        &early,
+        &tables.pre_sparse,
+        &tables.addends,
+        &tables.copies,
+        3,
+        4,
+        power,
+        m,
+        q,
+        r,
     );
     let after = poseidon_partial::partial_rounds(
         &before,
-        sparse,
-        first_constants,
+        &tables.sparse,
+        &tables.first_constants,
         first,
         n,
         power,
@@ -191,9 +204,9 @@ pub fn permutation_by<'a>(
         q,
         r,
     );
-    let again = rescale(&after, word, addends, m, q, r);
-    let late = poseidon_full::full_rounds(again, matrix, addends, copies, 6, 10, power, m, q, r);
-    reduce_all(&late, m)
+    let again = rescale(&after, word, &tables.addends, m, q, r);
+    let late = full_rounds(again, tables, 6, 10, power, m, q, r);
+    reduce_all(late, m)
 }
 
 // The permutation of any state. Elements of p or more are taken modulo p, as the sums of the first round take them in any case.
@@ -201,55 +214,18 @@ pub fn permutation(field: Field, state: [u32; 24]) -> [u32; 24]
     ensures { result ≡ permutation (parameters field) state }
 {
     match field {
-        Field::BabyBear => {
-            let t = baby_bear();
-            permutation_by(
-                field,
-                state,
-                &t.matrix,
-                &t.pre_sparse,
-                &t.sparse,
-                &t.first_constants,
-                &t.addends,
-                &t.copies,
-            )
-        }
-        Field::KoalaBear => {
-            let t = koala_bear();
-            permutation_by(
-                field,
-                state,
-                &t.matrix,
-                &t.pre_sparse,
-                &t.sparse,
-                &t.first_constants,
-                &t.addends,
-                &t.copies,
-            )
-        }
+        Field::BabyBear => permutation_by(field, state, &baby_bear()),
+        Field::KoalaBear => permutation_by(field, state, &koala_bear()),
     }
 }
 
-// One permutation in the field that a number names: another number gets 18, and a state with an element of p or more 10; either state comes back.
-pub fn permute(field: u32, state: [u32; 24]) -> Permuted
-    ensures { result ≡ permuted field state }
+// One permutation in the field that a number names. Another number gets 18, and a state with an element of p or more 10.
+pub fn permute(field: u32, state: [u32; 24]) -> Result<[u32; 24], Refusal>
+    ensures { permuted_answer state result ≡ permuted field state }
 {
-    if !field::is_field(field) {
-        return Permuted {
-            number: basics::FIELD_UNKNOWN,
-            state,
-        };
+    let named = Field::try_from(field)?;
+    if !field::is_reduced(named, &state) {
+        return Err(Refusal::ElementNotReduced);
     }
-    let named = field::field_of(field);
-    if field::is_reduced(named, &state) {
-        Permuted {
-            number: basics::ACCEPTED,
-            state: permutation(named, state),
-        }
-    } else {
-        Permuted {
-            number: basics::ELEMENT_NOT_REDUCED,
-            state,
-        }
-    }
+    Ok(permutation(named, state))
 }

@@ -1,18 +1,23 @@
 -- Calls against a place of a pattern: the tests one by one, and the place after a call.
 -- Assumes nothing.
 use mathlib.Core.Path.{◌≡◌, refl, sym, ap, ◌∙◌}
-use mathlib.Core.Bool.{Bool, true, false, not, beq, true≢false}
+use mathlib.Core.Bool.{Bool, true, false, not, true≢false}
 use mathlib.Core.Logic.{◌≢◌}
 use mathlib.Core.List.{List}
 use Prim.Native.Nat.{ℕ, suc, ◌+◌, ◌-◌, ◌≤◌, ◌<◌}
 use native.Mathlib.Nat.{add-zero}
 use native.Mathlib.Omega.{arith}
+use denote.Enum.Bare.{sameb}
 use borrow.Author.Tests.{ltb-true, ltb-false, leb-true, leb-false, eqb-true, eqb-false, lt-ltb, le-ltb, le-leb, lt-leb}
 use lib.Dec.{leb, ltb}
 use lib.ListN.{get_or}
 use Rattle.basics.specs.Logic.{when◌then◌else◌, same}
 use Rattle.basics.proofs.Cases.{by, cases, if_true, if_false, and_left, and_right, and_both, and_step, and_stop, same_self, same_true}
 use Rattle.words.specs.Words.{is_absorb, length_of}
+use Rattle.words.specs.Kinds.{absorbs}
+use Rattle.words.specs.contracts.Kind.{the_type}
+use Rattle.words.specs.declared.Kind.{Kind}
+use Rattle.words.specs.declared.Kind.TheVariants.{Absorb, Squeeze}
 use Rattle.progress.specs.Place.{phase_length, in_pattern, next_place, place_after}
 use Rattle.progress.specs.declared.place.Place.{Place}
 
@@ -22,18 +27,19 @@ leb_left a b n h =
     (λ e. le-leb (a + n) b (omega (arith, leb-true n (b - a) e)) ∙ sym e)
     λ e. lt-leb (a + n) b (omega (arith, leb-false n (b - a) e)) ∙ sym e
 
--- the machine's test whether two kinds differ
-pub kinds_differ : (a b : Bool) → not (beq a b) ≡ true → a ≢ b
-kinds_differ true true e q = true≢false (sym e)
-kinds_differ true false e q = true≢false q
-kinds_differ false true e q = true≢false (sym q)
-kinds_differ false false e q = true≢false (sym e)
+-- the test whether two kinds differ
+pub kinds_differ : (a b : Kind) → not (sameb the_type a b) ≡ true → absorbs a ≢ absorbs b
+unfolding absorbs
+kinds_differ Absorb Absorb e q = true≢false (sym e)
+kinds_differ Absorb Squeeze e q = true≢false q
+kinds_differ Squeeze Absorb e q = true≢false (sym q)
+kinds_differ Squeeze Squeeze e q = true≢false (sym e)
 
-pub kinds_agree : (a b : Bool) → not (beq a b) ≡ false → a ≡ b
-kinds_agree true true e = refl
-kinds_agree true false e = absurd (true≢false e)
-kinds_agree false true e = absurd (true≢false e)
-kinds_agree false false e = refl
+pub kinds_agree : (a b : Kind) → not (sameb the_type a b) ≡ false → absorbs a ≡ absorbs b
+kinds_agree Absorb Absorb e = refl
+kinds_agree Absorb Squeeze e = absurd (true≢false e)
+kinds_agree Squeeze Absorb e = absurd (true≢false e)
+kinds_agree Squeeze Squeeze e = refl
 
 module _ (ws : List ℕ) (count phase done : ℕ) (absorbs : Bool) (n : ℕ) where
   abbrev word : ℕ

@@ -1,71 +1,69 @@
 // The place in a pattern, and calls against it.
 ghost use Rattle.std.specs.Prelude.{◌≡◌};
+ghost use Rattle.words.specs.Kinds.{absorbs};
 ghost use Rattle.progress.specs.Place.{sound_place, in_pattern, place_after};
 
+use words::Kind;
+
 // A phase number, from 0, and how many elements of that phase are done.
-#[derive(Clone, Copy)]
+#[derive(Clone, Copy, Debug, PartialEq, Eq)]
 pub struct Place {
     pub phase: u32,
     pub done: u32,
 }
 
-// Whether the place is one in the pattern.
-pub fn is_sound(words: &[u32], count: u32, phase: u32, done: u32) -> bool
-    ensures { result ≡ sound_place words.now count phase done }
-{
-    if phase > count {
-        return false;
+impl Place {
+    // Whether the place is one in the pattern.
+    pub fn is_sound(self, words: &[u32], count: u32) -> bool
+        ensures { result ≡ sound_place words.now count self.phase self.done }
+    {
+        if self.phase > count {
+            return false;
+        }
+        if self.phase == count {
+            return self.done == 0;
+        }
+        self.done < words::length_of(words::phase_word(words, self.phase))
     }
-    if phase == count {
-        return done == 0;
-    }
-    done < words::length_of(words::phase_word(words, phase))
-}
 
-// Whether so many elements of a kind lie in the phase.
-pub fn in_pattern(
-    words: &[u32],
-    count: u32,
-    phase: u32,
-    done: u32,
-    absorbs: bool,
-    elements: usize,
-) -> bool
-    ensures { result ≡ in_pattern words.now count phase done absorbs elements }
-{
-    if phase >= count {
-        return false;
+    // Whether so many elements of a kind lie in the phase.
+    pub fn in_pattern(self, words: &[u32], count: u32, kind: Kind, elements: usize) -> bool
+        ensures { result ≡ in_pattern words.now count self.phase self.done (absorbs kind) elements }
+    {
+        if self.phase >= count {
+            return false;
+        }
+        let word = words::phase_word(words, self.phase);
+        if words::kind_of(word) != kind {
+            return false;
+        }
+        let length = words::length_of(word);
+        if self.done > length {
+            return false;
+        }
+        elements <= (length - self.done) as usize
     }
-    let word = words::phase_word(words, phase);
-    if words::is_absorb(word) != absorbs {
-        return false;
-    }
-    let length = words::length_of(word);
-    if done > length {
-        return false;
-    }
-    elements <= (length - done) as usize
-}
 
-// The place after so many elements of the phase, of which no more are done than it has left.
-pub fn place_after(words: &[u32], count: u32, phase: u32, done: u32, elements: usize) -> Place
-    ensures { result ≡ place_after words.now count phase done elements }
-{
-    if phase >= count {
-        return Place { phase, done };
-    }
-    let length = words::length_of(words::phase_word(words, phase));
-    if done >= length {
-        return Place { phase, done };
-    }
-    if elements >= (length - done) as usize {
-        return Place {
-            phase: phase + 1,
-            done: 0,
-        };
-    }
-    Place {
-        phase,
-        done: done + elements as u32,
+    // The place after so many elements of the phase, of which no more are done than it has left.
+    pub fn after(self, words: &[u32], count: u32, elements: usize) -> Place
+        ensures { result ≡ place_after words.now count self.phase self.done elements }
+    {
+        if self.phase >= count {
+            return self;
+        }
+        let length = words::length_of(words::phase_word(words, self.phase));
+        if self.done >= length {
+            return self;
+        }
+        if elements >= (length - self.done) as usize {
+            return Place {
+                phase: self.phase + 1,
+                done: 0,
+            };
+        }
+        Place {
+            phase: self.phase,
+            done: self.done + elements as u32,
+        }
     }
 }

@@ -15,7 +15,7 @@ use Rattle.field.specs.Field.{is_element}
 use Rattle.session.specs.Record.{opened, squeezed_one, absorb_one, squeeze_one, absorb_all, squeeze_all, squeezed_all, field_in}
 use Rattle.session.specs.Calls.{giving, absorb, squeeze}
 use Rattle.session.specs.declared.Session.{Session}
-use Rattle.session.specs.declared.Answer.{Answer}
+use Rattle.session.specs.Calls.{Answer}
 use Rattle.session.proofs.SoundRecord.{parts, whole}
 use Rattle.session.proofs.Folds.{InPhase}
 use Rattle.runs.proofs.Places.{in_phase_next}

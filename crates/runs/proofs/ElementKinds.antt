@@ -13,7 +13,7 @@ use lib.Seq.{drop_at, drop-nil}
 use Rattle.basics.specs.Logic.{when◌then◌else◌, all}
 use Rattle.basics.proofs.Cases.{and_left, and_right}
 use Rattle.words.specs.Words.{is_absorb, length_of, Phase, phase_of}
-use Rattle.sponge.specs.declared.Sponge.{Sponge}
+use Rattle.sponge.specs.Sponge.{Sponge}
 use Rattle.progress.specs.declared.place.Place.{Place}
 use Rattle.session.specs.Record.{moved, next_place_of}
 use Rattle.session.specs.declared.Session.{Session}

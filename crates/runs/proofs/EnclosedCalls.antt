@@ -24,7 +24,7 @@ use Rattle.session.specs.Soundness.{sound}
 use Rattle.session.specs.Calls.{giving, start_record, start, record_rows, call_rows, wipes, answer_of, absorb, squeeze, finish}
 use Rattle.session.specs.Steps.{refused_with}
 use Rattle.session.specs.declared.Session.{Session}
-use Rattle.session.specs.declared.Answer.{Answer}
+use Rattle.session.specs.Calls.{Answer}
 use Rattle.session.proofs.SoundRecord.{parts, element_left}
 use Rattle.session.proofs.Numbers.{OpenSound, Takes, answer_refused, record_passes}
 use Rattle.session.proofs.Numbers.{call_refused, call_empty, call_fits, call_outside, call_takes, takes_call}

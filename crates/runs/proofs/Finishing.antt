@@ -17,12 +17,12 @@ use Rattle.field.specs.Field.{field_of, is_element}
 use Rattle.words.specs.Words.{is_absorb}
 use Rattle.pattern.specs.Pattern.{phases}
 use Rattle.sponge.specs.Sponge.{absorb_element, squeeze_element}
-use Rattle.sponge.specs.declared.Sponge.{Sponge}
+use Rattle.sponge.specs.Sponge.{Sponge}
 use Rattle.session.specs.Record.{opened, sponge_of, moved, next_place_of, absorb_one, squeeze_one, absorb_all, squeeze_all, field_in, parameters_in}
 use Rattle.pattern.specs.Opening.{Opening}
 use Rattle.session.specs.Calls.{giving, absorb, squeeze, finish, start}
 use Rattle.session.specs.declared.Session.{Session}
-use Rattle.session.specs.declared.Answer.{Answer}
+use Rattle.session.specs.Calls.{Answer}
 use Rattle.session.proofs.SoundRecord.{phase_word, Sound, parts, whole, element_left}
 use Rattle.session.proofs.Folds.{InPhase}
 use Rattle.runs.specs.Calls.{Call, ABSORB, SQUEEZE, FINISH, answered, accepts, left, left_by, absorbed_in, absorbed}

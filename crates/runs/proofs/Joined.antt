@@ -12,11 +12,11 @@ use Rattle.basics.proofs.Cases.{all_both}
 use Rattle.basics.specs.Numbers.{accepted}
 use Rattle.pattern.proofs.SoundPattern.{turns}
 use Rattle.progress.specs.declared.place.Place.{Place}
-use Rattle.sponge.specs.declared.Sponge.{Sponge}
+use Rattle.sponge.specs.Sponge.{Sponge}
 use Rattle.session.specs.Record.{absorb_one, squeeze_one, absorb_all, squeeze_all, moved, next_place_of}
 use Rattle.session.specs.Calls.{giving, absorb, squeeze}
 use Rattle.session.specs.declared.Session.{Session}
-use Rattle.session.specs.declared.Answer.{Answer}
+use Rattle.session.specs.Calls.{Answer}
 use Rattle.session.proofs.SoundRecord.{Sound, parts}
 use Rattle.session.proofs.Folds.{InPhase}
 use Rattle.session.proofs.Numbers.{Takes}

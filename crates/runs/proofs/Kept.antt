@@ -17,7 +17,7 @@ use Rattle.counters.proofs.PermutationCounts.{whole_phase}
 use Rattle.basics.specs.Figures.{rate}
 use Rattle.poseidon.specs.Permutation.{parameters}
 use Rattle.sponge.specs.Sponge.{ready_to_absorb, absorb_element, ready_to_squeeze, squeeze_element}
-use Rattle.sponge.specs.declared.Sponge.{Sponge}
+use Rattle.sponge.specs.Sponge.{Sponge}
 use Rattle.progress.specs.declared.place.Place.{Place}
 use Rattle.field.proofs.Moduli.{positive}
 use Rattle.session.specs.Record.{sponge_of, moved, next_place_of, absorb_one, squeeze_one, field_in, parameters_in}

@@ -27,7 +27,7 @@ use Rattle.counters.specs.Positions.{positions_at}
 use Rattle.session.specs.Soundness.{sound}
 use Rattle.session.specs.Calls.{giving, start_record, start_number, start}
 use Rattle.session.specs.declared.Session.{Session}
-use Rattle.session.specs.declared.Answer.{Answer}
+use Rattle.session.specs.Calls.{Answer}
 use Rattle.session.proofs.Opening.{number_unknown, number_of_form, number_known, start_opens}
 use Rattle.session.proofs.SoundRecord.{Sound, whole}
 use Rattle.pattern.proofs.SoundPattern.{word_long}

@@ -18,7 +18,7 @@ use Rattle.session.specs.Record.{opened, wiped, absorb_all, squeeze_all, field_i
 use Rattle.session.specs.Soundness.{sound}
 use Rattle.session.specs.Calls.{giving, record_rows, call_rows, absorb_rows, finish_rows, wipes, answer_of, absorb, squeeze, finish}
 use Rattle.session.specs.declared.Session.{Session}
-use Rattle.session.specs.declared.Answer.{Answer}
+use Rattle.session.specs.Calls.{Answer}
 use Rattle.progress.proofs.Calls.{in_phase}
 use Rattle.session.proofs.Numbers.{Takes, answer_accepted, takes_call, absorb_passes, finish_passes}
 

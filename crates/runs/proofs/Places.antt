@@ -6,7 +6,7 @@ use mathlib.Core.Logic.{◌≢◌}
 use Prim.Native.Nat.{ℕ, suc, ◌<◌}
 use native.Mathlib.Omega.{arith}
 use Rattle.words.specs.Words.{length_of}
-use Rattle.sponge.specs.declared.Sponge.{Sponge}
+use Rattle.sponge.specs.Sponge.{Sponge}
 use Rattle.progress.specs.declared.place.Place.{Place}
 use Rattle.progress.proofs.Calls as calls
 use Rattle.session.specs.Record.{moved, next_place_of}

@@ -20,13 +20,13 @@ use Rattle.field.specs.Field.{is_field, field_of, is_element}
 use Rattle.tag.specs.TagString.{is_form}
 use Rattle.field.proofs.Moduli.{positive}
 use Rattle.sponge.specs.Sponge.{absorb_element, squeeze_element}
-use Rattle.sponge.specs.declared.Sponge.{Sponge}
+use Rattle.sponge.specs.Sponge.{Sponge}
 use Rattle.progress.specs.declared.place.Place.{Place}
 use Rattle.session.specs.Record.{opened, open_record, sponge_of, moved, next_place_of, absorb_one, squeeze_one, absorb_all, squeeze_all, parameters_in, field_in}
 use Rattle.pattern.specs.Opening.{Opening}
 use Rattle.session.specs.Calls.{giving, start_record, start}
 use Rattle.session.specs.declared.Session.{Session}
-use Rattle.session.specs.declared.Answer.{Answer}
+use Rattle.session.specs.Calls.{Answer}
 use Rattle.session.proofs.SoundRecord.{phase_word, Sound, parts, whole, element_left}
 use Rattle.runs.specs.Calls.{Call, ABSORB, SQUEEZE, answered, left, left_by}
 use Rattle.runs.proofs.Places.{next_place_law}

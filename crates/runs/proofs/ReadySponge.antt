@@ -14,7 +14,7 @@ use Rattle.basics.specs.Figures.{rate}
 use Rattle.poseidon.specs.Permutation.{Parameters}
 use Rattle.poseidon.proofs.Bounds.{permutation_reduced}
 use Rattle.sponge.specs.Sponge.{outer, ready_to_absorb, ready_to_squeeze}
-use Rattle.sponge.specs.declared.Sponge.{Sponge}
+use Rattle.sponge.specs.Sponge.{Sponge}
 use Rattle.counters.specs.Positions.{in_last_block}
 use Rattle.runs.proofs.Positions.{position, absorb_full, absorb_room, squeeze_full, squeeze_room}
 

@@ -8,7 +8,7 @@ use lib.Dec.{eqb}
 use Rattle.session.specs.Record.{opened, moved, absorb_one, squeeze_one, absorb_all, squeeze_all}
 use Rattle.session.specs.Calls.{giving}
 use Rattle.session.specs.declared.Session.{Session}
-use Rattle.session.specs.declared.Answer.{Answer}
+use Rattle.session.specs.Calls.{Answer}
 use Rattle.runs.specs.Calls.{Call, ABSORB, SQUEEZE, FINISH, answered, left, left_by}
 use Rattle.runs.proofs.Outcomes.{wiped_not_open, absorb_outcome, squeeze_outcome, finish_outcome}
 

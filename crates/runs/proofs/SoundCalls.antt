@@ -11,7 +11,7 @@ use Rattle.session.specs.Record.{opened, absorb_one, squeeze_one, absorb_all, sq
 use Rattle.session.specs.Soundness.{sound}
 use Rattle.session.specs.Calls.{giving}
 use Rattle.session.specs.declared.Session.{Session}
-use Rattle.session.specs.declared.Answer.{Answer}
+use Rattle.session.specs.Calls.{Answer}
 use Rattle.session.proofs.SoundRecord.{Sound, parts, whole}
 use Rattle.session.proofs.Folds.{InPhase}
 use Rattle.runs.specs.Calls.{Call, ABSORB, SQUEEZE, FINISH, answered, left, left_by}

@@ -15,7 +15,7 @@ use Rattle.session.specs.Record.{wiped, sponge_of, absorb_one, squeeze_one, sque
 use Rattle.basics.specs.Refusals.{first_number}
 use Rattle.session.specs.Calls.{giving, record_rows, call_rows, absorb_rows, finish_rows, wipes, answer_of, absorb, squeeze, finish}
 use Rattle.session.specs.declared.Session.{Session}
-use Rattle.session.specs.declared.Answer.{Answer}
+use Rattle.session.specs.Calls.{Answer}
 use Rattle.session.proofs.SoundRecord.{parts}
 use Rattle.session.proofs.Folds.{InPhase}
 use Rattle.runs.specs.Calls.{Call, ABSORB, SQUEEZE, FINISH, answered, accepts, left, left_by, absorbed_in, absorbed, squeezed_in, squeezed}

@@ -6,7 +6,7 @@ use Rattle.basics.specs.Numbers.{accepted}
 use Rattle.session.specs.Record.{squeezed_all}
 use Rattle.session.specs.Calls.{absorb, squeeze, finish}
 use Rattle.session.specs.declared.Session.{Session}
-use Rattle.session.specs.declared.Answer.{Answer}
+use Rattle.session.specs.Calls.{Answer}
 
 -- one call: ABSORB of a list, SQUEEZE of so many elements, or FINISH
 pub data Call : Type 0 where

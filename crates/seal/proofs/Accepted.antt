@@ -26,7 +26,7 @@ use Rattle.runs.proofs.Opened.{accepted_start}
 use Rattle.runs.proofs.Counted.{start_field}
 use Rattle.tag.specs.TagString.{is_form}
 use Rattle.seal.specs.Seal.{Context, note_form, absorb_word, squeeze_word, block_words, seal_words, started, keyed, keystream, after_block, after_blocks, plus, minus, cipher_blocks, plain_blocks, blocks_of}
-use Rattle.seal.specs.Steps.{Squeezes}
+use Rattle.seal.specs.Steps.{Starts, AcceptsBlocks}
 use Rattle.seal.proofs.Lengths.{declarable, length_bounds}
 use Rattle.seal.proofs.Blocks.{plus_length, minus_length}
 use Rattle.seal.proofs.Pattern.{words_merged, words_accepted}
@@ -91,13 +91,13 @@ module _ (f : Field) where
 
   -- all blocks
   pub blocks_accepted : (ns : List ℕ) → all declarable ns ≡ true → (r : Session) → Ready ns r → {blocks : List (List ℕ)} → Fit f ns blocks
-      → Squeezes r blocks × Ready [] (after_blocks r blocks)
-  unfolding Squeezes after_blocks all
+      → AcceptsBlocks r blocks × Ready [] (after_blocks r blocks)
+  unfolding AcceptsBlocks after_blocks all
   blocks_accepted [] d r ready none = (tt, ready)
   blocks_accepted (n ∷ ns) d r ready (more {block = block} size elements fit) =
       let b = block_accepted n ns r block (and_left _ _ d) ready size elements in
       let later = blocks_accepted ns (and_right _ _ d) (after_block r block) b.next fit in
-      ((b.squeezes, later.0), later.1)
+      (((b.squeezes, b.absorbs), later.0), later.1)
 
   -- the mark, and then FINISH
   pub mark_accepted : (r : Session) → Ready [] r → ((squeeze r 8).number ≡ accepted) × ((finish (squeeze r 8).session).number ≡ accepted)
@@ -158,3 +158,6 @@ module _ (c : Context) {text : List ℕ} {textMark buffer bufferMark : ℕ} (p :
   pub keyed_ready : Ready (field_of c.field) c.lengths (keyed c)
   unfolding keyed
   keyed_ready = record { at = key_absorbed.at; field = ap field_of key_absorbed.field ∙ started_field }
+
+  pub starts : Starts c
+  starts = record { lengths = p.sound; key = p.key_long; nonce = p.nonce_long; start = start_accepts; absorb = key_accepted }

@@ -2,7 +2,6 @@ pub mod Overwrite
 pub mod Lengths
 pub mod Marks
 pub mod Words
-pub mod Both
 pub mod Calls
 pub mod Passes
 pub mod Blocks
@@ -11,4 +10,3 @@ pub mod Phases
 pub mod Rows
 pub mod Accepted
 pub mod Outcomes
-pub mod Parts

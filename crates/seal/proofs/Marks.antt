@@ -1,9 +1,10 @@
 -- Two lists compared, element by element.
 -- Assumes nothing.
 use mathlib.Core.Path.{◌≡◌, refl, ap₂}
-use mathlib.Core.Bool.{true, false, false≢true}
+use mathlib.Core.Bool.{Bool, true, false, not, false≢true}
 use mathlib.Core.List.{List, [], ◌∷◌}
 use Prim.Native.Nat.{ℕ, ◌+◌, ◌≤◌, ◌<◌}
+use mir.Val.{bool_byte}
 use native.Mathlib.Nat.{add-zero}
 use native.Mathlib.Numerals.{add-one}
 use native.Mathlib.Omega.{arith}
@@ -11,20 +12,23 @@ use borrow.Author.Tests.{eqb-true, eq-eqb, ne_eqb}
 use lib.Dec.{eqb}
 use lib.ListN.{length, get_or, drop, drop_of_length-le}
 use lib.Seq.{drop-cons}
-use Rattle.basics.specs.Logic.{◌and◌, when◌then◌else◌}
-use Rattle.basics.proofs.Cases.{by, cases, and_left, and_right, and_both, and_false}
+use Rattle.basics.specs.Logic.{◌and◌}
+use Rattle.basics.proofs.Cases.{cases, and_left, and_right, and_both, and_false}
 use Rattle.seal.specs.Seal.{is_mark}
-use Rattle.seal.specs.Steps.{difference_of}
 
-pub difference_least : (x y : ℕ) → difference_of x y ≤ 1
-unfolding difference_of
-difference_least x y = by (λ (d : ℕ). d ≤ 1) (eqb x y) 0 1 (λ _. omega arith) λ _. omega arith
+-- 1 where two elements differ, else 0
+abbrev difference : ℕ → ℕ → ℕ
+difference x y = bool_byte (not (eqb x y))
+
+pub difference_least : (b : Bool) → bool_byte b ≤ 1
+difference_least true = omega arith
+difference_least false = omega arith
 
 -- one element further, with n differences before it
 pub compared : (n : ℕ) (xs ys : List ℕ) (i : ℕ) → i < length xs → i < length ys
     → (eqb n 0 and is_mark (drop i xs) (drop i ys))
-    ≡ (eqb (n + difference_of (get_or xs i 0) (get_or ys i 0)) 0 and is_mark (drop (i + 1) xs) (drop (i + 1) ys))
-unfolding is_mark ◌and◌ when◌then◌else◌ difference_of
+    ≡ (eqb (n + difference (get_or xs i 0) (get_or ys i 0)) 0 and is_mark (drop (i + 1) xs) (drop (i + 1) ys))
+unfolding is_mark ◌and◌
 compared n xs ys i hx hy =
     cases (eqb (get_or xs i 0) (get_or ys i 0))
     (λ e. rw (add-one, drop-cons xs i 0, drop-cons ys i 0, e, add-zero n))

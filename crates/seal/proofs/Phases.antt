@@ -22,7 +22,7 @@ use Rattle.session.specs.Record.{opened, open_record, moved, field_in, absorb_al
 use Rattle.session.specs.Calls.{giving, start_record, start, absorb, squeeze, finish}
 use Rattle.session.specs.Steps.{moved_on}
 use Rattle.session.specs.declared.Session.{Session}
-use Rattle.session.specs.declared.Answer.{Answer}
+use Rattle.session.specs.Calls.{Answer}
 use Rattle.session.proofs.SoundRecord.{phase_word, Sound, whole, element_left}
 use Rattle.session.proofs.Folds.{InPhase, absorb_all_law, squeeze_all_law}
 use Rattle.session.proofs.Numbers.{Takes}

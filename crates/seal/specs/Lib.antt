@@ -1,2 +1,3 @@
 pub mod Seal
+pub mod Contexts
 pub mod Steps

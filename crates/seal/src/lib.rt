@@ -1,18 +1,22 @@
-// Sealing coin notes, which is authenticated encryption: a key and a nonce are absorbed by a session, and each block is added to elements that it squeezes,
-// and absorbed; the last elements squeezed are the mark, which is the authentication tag. Nothing but lent buffers is as long as a note.
+// Sealing coin notes, which is authenticated encryption: a key and a nonce are absorbed by a session, and each block
+// is added to elements that it squeezes, and absorbed; the last elements squeezed are the mark, which is the
+// authentication tag. Nothing but lent buffers is as long as a note.
 #![tactic(auto)]
 
-ghost use Rattle.std.specs.Prelude.{◌≡◌, ◌++◌, true, ◌+◌, ◌*◌, ◌≤◌, length, take, replicate};
-ghost use Rattle.basics.specs.Lists.{Below, joined, total};
-ghost use Rattle.basics.specs.Numbers.{accepted};
+ghost use Rattle.std.specs.Prelude.{◌≡◌, true, List, [], ◌∷◌, ◌++◌, ℕ, ◌+◌, ◌≤◌, length, take};
+ghost use mathlib.Core.List.{zip_with};
+ghost use Rattle.basics.specs.Lists.{joined, total};
+ghost use Rattle.basics.specs.Answers.{answer_number};
 ghost use Rattle.basics.specs.Refusals.{first_number};
-ghost use Rattle.field.specs.Field.{modulus};
-ghost use Rattle.session.specs.Record.{field_in, squeezed_all};
-ghost use Rattle.session.specs.Calls.{squeeze};
-ghost use Rattle.seal.specs.Seal.{context, seal_words, keyed, keystream, after_block, after_blocks, plus, minus, cipher_blocks, plain_blocks, blocks_of, is_mark, sound_lengths, are_elements, note_rows, leaving, seal_note, open_note};
-ghost use Rattle.seal.specs.Steps.{Squeezes, difference_of};
+ghost use Rattle.session.specs.Record.{squeezed_all};
+ghost use Rattle.session.specs.declared.Session.{Session};
+ghost use Rattle.seal.specs.Seal.{seal_words, keyed, after_blocks, cipher_blocks, plain_blocks, blocks_of, is_mark, sound_lengths, are_elements, note_rows, leaving, seal_note, open_note};
+ghost use Rattle.seal.specs.Contexts.{context_of};
+ghost use Rattle.seal.specs.Steps.{Starts, AcceptsBlocks, AcceptsMark, cipher_none, plain_none, after_none, opened_none};
 
+use basics::Refusal;
 use field::Field;
+use pattern::list::Words;
 use session::Session;
 
 // How many elements a key, a nonce and a mark have.
@@ -31,25 +35,29 @@ const MAX_BLOCKS: usize = 31;
 // The top bit of a word, set for ABSORB.
 const ABSORB: u32 = 2147483648;
 
+// What a note is sealed under: the same opens it.
+#[derive(Clone, Copy)]
+pub struct NoteContext<'a> {
+    // the field number
+    pub field: u32,
+    pub key: &'a [u32],
+    pub nonce: &'a [u32],
+    pub separator: &'a [u8],
+    // how many elements each block has
+    pub lengths: &'a [u32],
+}
+
 // Whether these are the lengths of 1 to 31 blocks that a pattern may declare.
 fn are_sound_lengths(lengths: &[u32]) -> bool
     ensures { result ≡ sound_lengths lengths.now }
 {
-    if lengths.len() == 0 {
+    if lengths.is_empty() {
         return false;
     }
     if lengths.len() > MAX_BLOCKS {
         return false;
     }
-    for i in 0..lengths.len() {
-        if lengths[i] == 0 {
-            return false;
-        }
-        if lengths[i] > pattern::MAX_CALL {
-            return false;
-        }
-    }
-    true
+    lengths.iter().all(|n| 1 <= *n && *n <= pattern::MAX_CALL)
 }
 
 // How many elements the blocks have in all.
@@ -57,309 +65,247 @@ fn total(lengths: &[u32]) -> usize
     requires { sound_lengths lengths.now ≡ true }
     ensures { result ≡ total lengths.now }
 {
-    let mut sum: usize = 0;
-    for i in 0..lengths.len() {
-        sum += lengths[i] as usize;
-    }
-    sum
+    lengths.iter().map(|n| *n as usize).sum()
 }
 
-// Whether key, nonce and text are elements of a field.
-fn are_elements(field: Field, key: &[u32], nonce: &[u32], text: &[u32]) -> bool
-    ensures { result ≡ are_elements field key.now nonce.now text.now }
-{
-    if !field::is_reduced(field, key) {
-        return false;
-    }
-    if !field::is_reduced(field, nonce) {
-        return false;
-    }
-    field::is_reduced(field, text)
-}
-
-// The number of the first row that applies, of those that sealing and opening share.
-fn note_number(
-    field: u32,
-    key: &[u32],
-    nonce: &[u32],
-    separator: &[u8],
-    lengths: &[u32],
-    text: &[u32],
-    text_mark: usize,
-    buffer: usize,
-    buffer_mark: usize,
-) -> u32
-    requires { (text_mark ≤ 8) × (buffer_mark ≤ 8) }
-    ensures { result ≡ first_number (note_rows (context field key.now nonce.now separator.now lengths.now)
-        text.now text_mark buffer buffer_mark) }
-{
-    if !field::is_field(field) {
-        return basics::FIELD_UNKNOWN;
-    }
-    if separator.len() > pattern::MAX_SEPARATOR {
-        return basics::SEPARATOR_TOO_LONG;
-    }
-    if !are_sound_lengths(lengths) {
-        return basics::SEAL_LENGTH_INVALID;
-    }
-    if key.len() != KEY_LENGTH {
-        return basics::SEAL_LENGTH_INVALID;
-    }
-    if nonce.len() != NONCE_LENGTH {
-        return basics::SEAL_LENGTH_INVALID;
-    }
-    let size = total(lengths);
-    if text.len() != size + text_mark {
-        return basics::SEAL_LENGTH_INVALID;
-    }
-    if buffer != size + buffer_mark {
-        return basics::SEAL_LENGTH_INVALID;
-    }
-    if !are_elements(field::field_of(field), key, nonce, text) {
-        return basics::ELEMENT_NOT_REDUCED;
-    }
-    basics::ACCEPTED
-}
-
-// The words that declare the calls of a note, from the array's start on.
-fn declare(lengths: &[u32]) -> [u32; 64]
+// The words that declare the calls of a note.
+fn declare(lengths: &[u32]) -> Words
     requires { sound_lengths lengths.now ≡ true }
-    ensures { take (2 * length lengths.now + 2) result ≡ seal_words lengths.now }
+    ensures { take result.count result.words ≡ seal_words lengths.now }
 {
     let mut words = [0u32; 64];
-    words[0] = ABSORB + 16;
-    for i in 0..lengths.len() {
-        words[2 * i + 1] = lengths[i];
-        words[2 * i + 2] = ABSORB + lengths[i];
+    words[0] = ABSORB + (KEY_LENGTH + NONCE_LENGTH) as u32;
+    for (i, n) in lengths.iter().enumerate() {
+        words[2 * i + 1] = *n;
+        words[2 * i + 2] = ABSORB + *n;
     }
     words[2 * lengths.len() + 1] = MARK_LENGTH as u32;
-    words
-}
-
-// The key and then the nonce.
-fn key_and_nonce(key: &[u32], nonce: &[u32]) -> [u32; 16]
-    requires { (length key.now ≡ 8) × (length nonce.now ≡ 8) }
-    ensures { result ≡ key.now ++ nonce.now }
-{
-    let mut both = [0u32; 16];
-    for i in 0..8 {
-        both[i] = key[i];
-        both[8 + i] = nonce[i];
-    }
-    both
-}
-
-// The session of a note, with key and nonce absorbed.
-fn open_session(
-    field: u32,
-    key: &[u32],
-    nonce: &[u32],
-    separator: &[u8],
-    lengths: &[u32],
-) -> Session
-    requires { (length key.now ≡ 8) × (length nonce.now ≡ 8) × (sound_lengths lengths.now ≡ true) }
-    ensures { result ≡ keyed (context field key.now nonce.now separator.now lengths.now) }
-{
-    let words = declare(lengths);
-    let count = 2 * lengths.len() + 2;
-    let started = Session::start(field, NOTE_FORM, &words[..count], separator);
-    let both = key_and_nonce(key, nonce);
-    let record = started.session;
-    let absorbed = record.absorb_step(&both);
-    absorbed.session
-}
-
-// Each element of a block added to one that was squeezed, in whose place the sum goes.
-fn add_to(field: Field, block: &[u32], squeezed: &mut [u32])
-    requires { length block.now ≡ length squeezed.old }
-    ensures { squeezed.new ≡ plus field block.now squeezed.old }
-{
-    for i in 0..squeezed.len() {
-        squeezed[i] = field::add(field, block[i], squeezed[i]);
+    Words {
+        words,
+        count: 2 * lengths.len() + 2,
     }
 }
 
-// Each element that was squeezed taken from one of a block; the difference goes in its place.
-fn take_from(field: Field, block: &[u32], squeezed: &mut [u32])
-    requires { (length block.now ≡ length squeezed.old) × Below (modulus field) squeezed.old }
-    ensures { squeezed.new ≡ minus field block.now squeezed.old }
+// Combines each element of a block with one that was squeezed, in whose place the result goes.
+fn combine<F: Fn(u32, u32) -> u32>(block: &[u32], squeezed: &mut [u32], f: F)
+    requires long { length block.now ≡ length squeezed.old }
+    requires callable { F.IsAlwaysCallable f }
+    ensures { (g : ℕ → ℕ → ℕ) → ((x y z : ℕ) → F.post f x y z → z ≡ g x y) →
+        squeezed.new ≡ zip_with g block.now squeezed.old }
 {
-    let p = field::modulus(field);
-    for i in 0..squeezed.len() {
-        squeezed[i] = field::add(field, block[i], p - squeezed[i]);
+    for (i, x) in block.iter().enumerate() {
+        squeezed[i] = f(*x, squeezed[i]);
     }
 }
 
-// One block sealed; and the record afterwards.
-fn seal_block(record: Session, plain: &[u32], cipher: &mut [u32]) -> Session
-    requires { (length plain.now ≡ length cipher.old) × ((squeeze «record» (length plain.now)).number ≡ accepted) }
-    ensures { (result ≡ after_block «record» plain.now) ×
-        (cipher.new ≡ plus (field_in «record») plain.now (keystream «record» plain.now)) }
-{
-    let squeezed = record.squeeze_step(cipher);
-    add_to(field::field_of(record.field), plain, cipher);
-    let next = squeezed.session;
-    let moved = next.absorb_step(plain);
-    moved.session
+// A pass over the blocks of a note: sealing, or opening.
+trait Pass {
+    // what the blocks of a text give
+    ghost given: { Session → List (List ℕ) → List (List ℕ) };
+
+    // the session behind them
+    ghost after: { Session → List (List ℕ) → Session };
+
+    // that their calls are accepted
+    ghost Asks: { Session → List (List ℕ) → Type 0 };
+
+    // One block, whose result goes into a buffer.
+    fn pass_block(session: &mut Session, block: &[u32], out: &mut [u32])
+        requires long { length block.now ≡ length out.old }
+        requires asked { (blocks : List (List ℕ)) × Asks session.old (block.now ∷ blocks) }
+        ensures gives { (blocks : List (List ℕ)) → given session.old (block.now ∷ blocks) ≡ out.new ∷ given session.new blocks }
+        ensures leaves { (blocks : List (List ℕ)) → after session.old (block.now ∷ blocks) ≡ after session.new blocks }
+        ensures asks { (blocks : List (List ℕ)) → Asks session.old (block.now ∷ blocks) → Asks session.new blocks };
+
+    // no block gives none, and leaves the session
+    ghost given_none: { (r : Session) → given r [] ≡ [] };
+
+    ghost after_none: { (r : Session) → after r [] ≡ r };
 }
 
-// One block opened; and the record afterwards.
-fn open_block(record: Session, cipher: &[u32], plain: &mut [u32]) -> Session
-    requires { (length cipher.now ≡ length plain.old) × ((squeeze «record» (length cipher.now)).number ≡ accepted) }
-    ensures { (plain.new ≡ minus (field_in «record») cipher.now (keystream «record» cipher.now)) ×
-        (result ≡ after_block «record» plain.new) }
-{
-    let squeezed = record.squeeze_step(plain);
-    take_from(field::field_of(record.field), cipher, plain);
-    let next = squeezed.session;
-    let absorbed = next.absorb_step(plain);
-    absorbed.session
+// Sealing: each element of a plain block is added to one that the session squeezes.
+struct Sealing;
+
+impl Pass for Sealing {
+    ghost given = { cipher_blocks };
+
+    ghost after = { after_blocks };
+
+    ghost Asks = { AcceptsBlocks };
+
+    fn pass_block(session: &mut Session, block: &[u32], out: &mut [u32]) {
+        let field = field::field_of(session.field);
+        session.squeeze(out).unwrap();
+        combine(block, out, |x, y| field::add(field, x, y));
+        session.absorb(block).unwrap();
+    }
+
+    ghost given_none = { cipher_none };
+
+    ghost after_none = { after_none };
 }
 
-// All blocks sealed, one after the other; and the record afterwards.
-fn seal_blocks(record: Session, lengths: &[u32], plain: &[u32], out: &mut [u32]) -> Session
-    requires { (total lengths.now ≤ length plain.now) × (total lengths.now ≡ length out.old) ×
-        Squeezes «record» (blocks_of lengths.now plain.now) }
-    ensures { (result ≡ after_blocks «record» (blocks_of lengths.now plain.now)) ×
-        (out.new ≡ joined (cipher_blocks «record» (blocks_of lengths.now plain.now))) }
+// Opening: the elements that the session squeezes are taken from those of a cipher block.
+struct Opening;
+
+impl Pass for Opening {
+    ghost given = { plain_blocks };
+
+    ghost after = { λ r blocks. after_blocks r (plain_blocks r blocks) };
+
+    ghost Asks = { λ r blocks. AcceptsBlocks r (plain_blocks r blocks) };
+
+    fn pass_block(session: &mut Session, block: &[u32], out: &mut [u32]) {
+        let field = field::field_of(session.field);
+        let p = field::modulus(field);
+        session.squeeze(out).unwrap();
+        // what is squeezed is below p
+        combine(block, out, |x, y| field::add(field, x, p.saturating_sub(y)));
+        session.absorb(out).unwrap();
+    }
+
+    ghost given_none = { plain_none };
+
+    ghost after_none = { opened_none };
+}
+
+// All blocks of a text, one after the other.
+fn pass_blocks<P: Pass>(session: &mut Session, lengths: &[u32], text: &[u32], out: &mut [u32])
+    requires { (total lengths.now ≤ length text.now) × (total lengths.now ≡ length out.old) ×
+        P.Asks session.old (blocks_of lengths.now text.now) }
+    ensures { (session.new ≡ P.after session.old (blocks_of lengths.now text.now)) ×
+        (out.new ≡ joined (P.given session.old (blocks_of lengths.now text.now))) }
 {
-    let mut last = record;
     let mut at: usize = 0;
-    for i in 0..lengths.len() {
-        let end = at + lengths[i] as usize;
-        let next = seal_block(last, &plain[at..end], &mut out[at..end]);
-        last = next;
+    for n in lengths {
+        let end = at + *n as usize;
+        P::pass_block(session, &text[at..end], &mut out[at..end]);
         at = end;
     }
-    last
 }
 
-// All blocks opened, one after the other; and the record afterwards.
-fn open_blocks(record: Session, lengths: &[u32], note: &[u32], out: &mut [u32]) -> Session
-    requires { (total lengths.now ≤ length note.now) × (total lengths.now ≡ length out.old) ×
-        Squeezes «record» (plain_blocks «record» (blocks_of lengths.now note.now)) }
-    ensures { (result ≡ after_blocks «record» (plain_blocks «record» (blocks_of lengths.now note.now))) ×
-        (out.new ≡ joined (plain_blocks «record» (blocks_of lengths.now note.now))) }
-{
-    let mut last = record;
-    let mut at: usize = 0;
-    for i in 0..lengths.len() {
-        let end = at + lengths[i] as usize;
-        let next = open_block(last, &note[at..end], &mut out[at..end]);
-        last = next;
-        at = end;
-    }
-    last
-}
-
-// 1 where two elements differ, else 0.
-fn difference(a: u32, b: u32) -> u32
-    ensures { result ≡ difference_of a b }
-{
-    if a == b { 0 } else { 1 }
-}
-
-// Whether a mark is what stands in a list. Differences are counted to the end, so that no element is left uncompared behind the first that differs.
+// Whether a mark is what stands in a list. Differences are counted to the end, so that the time tells nothing of where
+// the first one is.
 fn is_mark(mark: &[u32], given: &[u32]) -> bool
     requires { (length mark.now ≡ 8) × (length given.now ≡ 8) }
     ensures { result ≡ is_mark mark.now given.now }
 {
     let mut differences: u32 = 0;
-    for k in 0..8 {
-        differences += difference(mark[k], given[k]);
+    for (x, y) in mark.iter().zip(given) {
+        differences += u32::from(x != y);
     }
     differences == 0
 }
 
-// Whether what a record squeezes last is the given mark.
-fn has_mark(record: Session, given: &[u32]) -> bool
-    requires { (length given.now ≡ 8) × ((squeeze «record» 8).number ≡ accepted) }
-    ensures { result ≡ is_mark (squeezed_all «record» 8) given.now }
+// Whether what a session squeezes last is the given mark.
+fn has_mark(session: &mut Session, given: &[u32]) -> bool
+    requires { (length given.now ≡ 8) × AcceptsMark session.old }
+    ensures { result ≡ is_mark (squeezed_all session.old 8) given.now }
 {
-    let mut mark = [0u32; 8];
-    record.squeeze_step(&mut mark);
+    let mut mark = [0u32; MARK_LENGTH];
+    session.squeeze(&mut mark).unwrap();
     is_mark(&mark, given)
 }
 
-// Zeros in the whole buffer.
-fn clear(buffer: &mut [u32])
-    ensures { buffer.new ≡ replicate (length buffer.old) 0 }
-{
-    for i in 0..buffer.len() {
-        buffer[i] = 0;
+impl NoteContext<'_> {
+    // Seals a plain text of so many blocks: its cipher elements and then the mark go into a buffer, which has as many
+    // places. Refused, it writes nothing.
+    pub fn seal(&self, plain: &[u32], out: &mut [u32]) -> Result<(), Refusal>
+        ensures { leaving (answer_number result) out.new ≡ seal_note (context_of self.now) plain.now out.old }
+    {
+        self.check(plain, 0, out.len(), MARK_LENGTH)?;
+        let mut session = self.start();
+        let (cipher, mark) = out.split_at_mut(plain.len());
+        pass_blocks::<Sealing>(&mut session, self.lengths, plain, cipher);
+        session.squeeze(mark).unwrap();
+        Ok(())
     }
-}
 
-// Seals a plain text of so many blocks: its cipher elements and then the mark go into a buffer, which has as many places. Refused, it writes nothing.
-pub fn seal(
-    field: u32,
-    key: &[u32],
-    nonce: &[u32],
-    separator: &[u8],
-    lengths: &[u32],
-    plain: &[u32],
-    out: &mut [u32],
-) -> u32
-    ensures { leaving result out.new ≡
-        seal_note (context field key.now nonce.now separator.now lengths.now) plain.now
-        out.old }
-{
-    let number = note_number(
-        field,
-        key,
-        nonce,
-        separator,
-        lengths,
-        plain,
-        0,
-        out.len(),
-        MARK_LENGTH,
-    );
-    if number != basics::ACCEPTED {
-        return number;
+    // Opens a note as sealing left it: its blocks go into a buffer, which has as many places as they have elements.
+    // Where the mark differs, the buffer is left with zeros; refused for anything else, it writes nothing.
+    pub fn open(&self, note: &[u32], out: &mut [u32]) -> Result<(), Refusal>
+        ensures { leaving (answer_number result) out.new ≡ open_note (context_of self.now) note.now out.old }
+    {
+        self.check(note, MARK_LENGTH, out.len(), 0)?;
+        let mut session = self.start();
+        pass_blocks::<Opening>(&mut session, self.lengths, note, out);
+        if !has_mark(&mut session, &note[out.len()..]) {
+            out.fill(0);
+            return Err(Refusal::MarkDiffers);
+        }
+        Ok(())
     }
-    let record = open_session(field, key, nonce, separator, lengths);
-    let size = plain.len();
-    let last = seal_blocks(record, lengths, plain, &mut out[..size]);
-    let marked = last.squeeze_step(&mut out[size..]);
-    marked.number
-}
 
-// Opens a note as sealing left it: its blocks go into a buffer, which has as many places as they have elements. Where the mark differs, the buffer is left
-// with zeros; refused for anything else, it writes nothing.
-pub fn open(
-    field: u32,
-    key: &[u32],
-    nonce: &[u32],
-    separator: &[u8],
-    lengths: &[u32],
-    note: &[u32],
-    out: &mut [u32],
-) -> u32
-    ensures { leaving result out.new ≡
-        open_note (context field key.now nonce.now separator.now lengths.now) note.now
-        out.old }
-{
-    let number = note_number(
-        field,
-        key,
-        nonce,
-        separator,
-        lengths,
-        note,
-        MARK_LENGTH,
-        out.len(),
-        0,
-    );
-    if number != basics::ACCEPTED {
-        return number;
+    // The rows that sealing and opening share, for a buffer of so many places.
+    fn check(
+        &self,
+        text: &[u32],
+        text_mark: usize,
+        buffer: usize,
+        buffer_mark: usize,
+    ) -> Result<(), Refusal>
+        requires { (text_mark ≤ 8) × (buffer_mark ≤ 8) }
+        ensures { answer_number result ≡ first_number (note_rows (context_of self.now) text.now text_mark buffer buffer_mark) }
+    {
+        let field = Field::try_from(self.field)?;
+        if self.separator.len() > pattern::MAX_SEPARATOR {
+            return Err(Refusal::SeparatorTooLong);
+        }
+        if !are_sound_lengths(self.lengths) {
+            return Err(Refusal::SealLengthInvalid);
+        }
+        if self.key.len() != KEY_LENGTH {
+            return Err(Refusal::SealLengthInvalid);
+        }
+        if self.nonce.len() != NONCE_LENGTH {
+            return Err(Refusal::SealLengthInvalid);
+        }
+        let size = total(self.lengths);
+        if text.len() != size + text_mark {
+            return Err(Refusal::SealLengthInvalid);
+        }
+        if buffer != size + buffer_mark {
+            return Err(Refusal::SealLengthInvalid);
+        }
+        if !self.are_elements(field, text) {
+            return Err(Refusal::ElementNotReduced);
+        }
+        Ok(())
     }
-    let record = open_session(field, key, nonce, separator, lengths);
-    let size = out.len();
-    let last = open_blocks(record, lengths, note, out);
-    if has_mark(last, &note[size..]) {
-        return basics::ACCEPTED;
+
+    // Whether key, nonce and text are elements of a field.
+    fn are_elements(&self, field: Field, text: &[u32]) -> bool
+        ensures { result ≡ are_elements field self.now.key.now self.now.nonce.now text.now }
+    {
+        field::is_reduced(field, self.key)
+            && field::is_reduced(field, self.nonce)
+            && field::is_reduced(field, text)
     }
-    clear(out);
-    basics::MARK_DIFFERS
+
+    // The key and then the nonce.
+    fn key_and_nonce(&self) -> [u32; KEY_LENGTH + NONCE_LENGTH]
+        requires { (length self.now.key.now ≡ 8) × (length self.now.nonce.now ≡ 8) }
+        ensures { result ≡ self.now.key.now ++ self.now.nonce.now }
+    {
+        let mut both = [0u32; KEY_LENGTH + NONCE_LENGTH];
+        both[..KEY_LENGTH].copy_from_slice(self.key);
+        both[KEY_LENGTH..].copy_from_slice(self.nonce);
+        both
+    }
+
+    // The session of a note, with key and nonce absorbed.
+    fn start(&self) -> Session
+        requires { Starts (context_of self.now) }
+        ensures { result ≡ keyed (context_of self.now) }
+    {
+        let words = declare(self.lengths);
+        let mut session = Session::start(
+            self.field,
+            NOTE_FORM,
+            words.as_slice(),
+            self.separator,
+        ).unwrap();
+        session.absorb(&self.key_and_nonce()).unwrap();
+        session
+    }
 }

@@ -12,10 +12,10 @@ use Rattle.progress.specs.Place.{place_after}
 use Rattle.progress.specs.declared.place.Place.{Place}
 use Rattle.progress.proofs.Calls as calls
 use Rattle.sponge.specs.Sponge.{sponge, absorb_element, squeeze_element, squeezed_element, absorb_elements, squeeze_elements, squeezed_elements}
-use Rattle.sponge.specs.declared.Sponge.{Sponge}
+use Rattle.sponge.specs.Sponge.{Sponge}
 use Rattle.sponge.proofs.Folds.{counted, absorbed_counted, squeezes_counted, elements_counted}
 use Rattle.session.specs.Record.{sponge_of, moved, next_place_of, parameters_in, absorb_one, squeeze_one, squeezed_one, absorb_all, squeeze_all, squeezed_all}
-use Rattle.session.specs.Steps.{moved_to, moved_on}
+use Rattle.session.specs.Steps.{moved_on}
 use Rattle.session.specs.declared.Session.{Session}
 use Rattle.session.proofs.SoundRecord.{phase_word}
 
@@ -26,11 +26,6 @@ InPhase r absorbs n = calls.InPhase r.words r.count r.phase r.done absorbs n
 -- the place of a record after n elements more
 abbrev place_later : Session → ℕ → Place
 place_later r n = place_after r.words r.count r.phase r.done n
-
--- a record moved to the place after n elements more
-pub moved_to_law : (r : Session) (s : Sponge) (n : ℕ) → moved_to r r.words s (place_later r n) ≡ moved_on r s n
-unfolding moved_to moved_on moved
-moved_to_law r s n = refl
 
 module _ (r : Session) (early : r.phase < r.count) (more : suc r.done < length_of (phase_word r)) where
   -- the place after one element that is not the phase's last

@@ -1,14 +1,17 @@
 -- The numbers that calls on a record get, and what an accepted one tells.
 -- Assumes nothing.
-use mathlib.Core.Path.{◌≡◌, refl, ap, ◌∙◌}
+use mathlib.Core.Path.{◌≡◌, refl, sym, ap, ◌∙◌}
 use mathlib.Core.Bool.{Bool, true, false, not}
 use mathlib.Core.List.{List, [], ◌∷◌}
 use mathlib.Core.Logic.{◌≢◌}
-use Prim.Native.Nat.{ℕ, ◌<◌}
+use Prim.Native.Nat.{ℕ, ◌+◌, ◌^◌, ◌<◌}
 use native.Mathlib.Omega.{arith}
 use borrow.Author.Tests.{eqb-true, eqb-false, eq-eqb, ne_eqb, not-false}
 use lib.Dec.{eqb}
 use lib.ListN.{length}
+use Rattle.std.proofs.Common.{Result, Err}
+use Rattle.basics.specs.Answers.{number_of, answer_number}
+use Rattle.basics.specs.declared.Refusal.{Refusal}
 use Rattle.basics.specs.Logic.{when◌then◌else◌, ◌or◌, all}
 use Rattle.basics.specs.Numbers.{accepted, call_not_in_pattern, element_not_reduced, pattern_not_done}
 use Rattle.basics.specs.Refusals.{first_number}
@@ -24,8 +27,9 @@ use Rattle.sponge.proofs.Folds.{absorb_bound, squeeze_bound}
 use Rattle.session.specs.Record.{opened, wiped, field_in, parameters_in}
 use Rattle.session.specs.Soundness.{sound}
 use Rattle.session.specs.Calls.{giving, record_rows, call_rows, absorb_rows, finish_rows, wipes, answer_of}
-use Rattle.session.specs.Steps.{refused_with, Countable}
+use Rattle.session.specs.Steps.{refused_with}
 use Rattle.session.specs.declared.Session.{Session}
+use Rattle.session.proofs.Answered.{turned_away}
 use Rattle.session.proofs.Folds.{InPhase, uncounted}
 use Rattle.session.proofs.SoundRecord.{phase_word, parts, few_permutations}
 
@@ -52,13 +56,15 @@ module _ (r next : Session) (n : ℕ) where
   unfolding answer_of when◌then◌else◌
   answer_accepted e = rw e refl
 
-  pub wiped_answer : n ≡ pattern_not_done → answer_of n r next ≡ giving pattern_not_done wiped
-  unfolding answer_of wipes ◌or◌ when◌then◌else◌
-  wiped_answer e = rw e refl
-
   pub answer_refused : n ≢ accepted → answer_of n r next ≡ refused_with n r
   unfolding answer_of refused_with
   answer_refused z = ap (giving n) (if_false _ _ _ (ne_eqb n accepted z))
+
+  -- by the refusal e that a check answers with
+  pub refusal_answer : {A : Type 0} (a : Result A Refusal) → answer_number a ≡ n → (e : Refusal) → a ≡ Err e → refused_with (number_of e) r ≡ answer_of n r next
+  unfolding answer_number
+  refusal_answer a h e is =
+      ap (λ (k : ℕ). refused_with k r) (sym (ap answer_number is) ∙ h) ∙ sym (answer_refused (turned_away a n h e is))
 
 module _ (r : Session) where
   -- ---- the rows about the record
@@ -124,6 +130,13 @@ module _ (r : Session) where
     unfolding absorb_rows
     absorb_refused z = refused_before (call_rows true (length xs) r) _ z
 
+    pub absorb_takes : first_number (absorb_rows r xs) ≡ accepted → Takes r true (length xs)
+    absorb_takes e =
+        cases
+        (eqb (first_number (call_rows true (length xs) r)) accepted)
+        (λ t. call_takes true (length xs) (eqb-true _ _ t))
+        λ f. let z = eqb-false _ _ f in absurd (z (sym (absorb_refused z) ∙ e))
+
   to_elements : (xs : List ℕ) → Takes r true (length xs)
       → first_number (absorb_rows r xs) ≡ (when not (all (is_element (field_in r)) xs) then element_not_reduced else accepted)
   unfolding first_number absorb_rows call_rows record_rows
@@ -168,12 +181,12 @@ module _ (r : Session) where
       λ e. let i = t.fits (omega (arith, eqb-false n 0 e)) in
       omega (arith, i.room, length_below (phase_word r))
 
-  pub absorb_countable : (xs : List ℕ) → Takes r true (length xs) → Countable r (absorb_elements (parameters_in r) (uncounted r) xs)
+  pub absorb_countable : (xs : List ℕ) → Takes r true (length xs) → r.permutations + (absorb_elements (parameters_in r) (uncounted r) xs).permutations < 2 ^ 64
   absorb_countable xs t =
       let few = some_or_none true (length xs) t in
-      record { fits = omega (arith, few_permutations r (parts r t.sounds), absorb_bound (parameters_in r) xs (uncounted r)) }
+      omega (arith, few_permutations r (parts r t.sounds), absorb_bound (parameters_in r) xs (uncounted r))
 
-  pub squeeze_countable : (n : ℕ) → Takes r false n → Countable r (squeeze_elements (parameters_in r) (uncounted r) n)
+  pub squeeze_countable : (n : ℕ) → Takes r false n → r.permutations + (squeeze_elements (parameters_in r) (uncounted r) n).permutations < 2 ^ 64
   squeeze_countable n t =
       let few = some_or_none false n t in
-      record { fits = omega (arith, few_permutations r (parts r t.sounds), squeeze_bound (parameters_in r) n (uncounted r)) }
+      omega (arith, few_permutations r (parts r t.sounds), squeeze_bound (parameters_in r) n (uncounted r))

@@ -13,7 +13,11 @@ use Rattle.tag.specs.Elements.{tag_elements}
 use Rattle.session.specs.Record.{tag_state, opened, wiped, open_record, field_in, absorb_all, squeeze_all, squeezed_all}
 use Rattle.session.specs.Soundness.{sound}
 use Rattle.session.specs.declared.Session.{Session}
-use Rattle.session.specs.declared.Answer.{Answer}
+
+-- a number, and the record that is left
+pub record Answer : Type 0 where
+  pub number : ℕ
+  pub session : Session
 
 -- a number with the record that is left
 unfoldable pub giving : ℕ → Session → Answer

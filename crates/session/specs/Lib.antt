@@ -2,3 +2,4 @@ pub mod Record
 pub mod Soundness
 pub mod Calls
 pub mod Steps
+pub mod Answers

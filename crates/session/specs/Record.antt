@@ -9,7 +9,7 @@ use Rattle.field.specs.Field.{field_of}
 use Rattle.field.specs.declared.Field.{Field}
 use Rattle.poseidon.specs.Permutation.{Parameters, parameters}
 use Rattle.sponge.specs.Sponge.{sponge, absorb_element, squeeze_element, squeezed_element}
-use Rattle.sponge.specs.declared.Sponge.{Sponge}
+use Rattle.sponge.specs.Sponge.{Sponge}
 use Rattle.session.specs.declared.Session.{Session}
 
 -- "a status (1 open, otherwise closed)"

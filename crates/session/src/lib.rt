@@ -1,16 +1,25 @@
-// Sessions: START, ABSORB, SQUEEZE and FINISH over a record that goes from call to call by value.
+// Sessions: START, ABSORB, SQUEEZE and FINISH over a record.
 #![tactic(auto)]
 
-ghost use Rattle.std.specs.Prelude.{◌≡◌, length};
+ghost use Rattle.std.specs.Prelude.{◌≡◌, ◌+◌, ◌^◌, ◌<◌, length};
+ghost use Rattle.basics.specs.Answers.{number_of, answer_number};
 ghost use Rattle.basics.specs.Refusals.{first_number};
+ghost use Rattle.words.specs.Kinds.{absorbs};
 ghost use Rattle.pattern.specs.Opening.{opening};
+ghost use Rattle.sponge.specs.Sponge.{sponge};
+ghost use Rattle.sponge.specs.Counted.{counted};
 ghost use Rattle.session.specs.Record.{wiped, tag_state};
 ghost use Rattle.session.specs.Soundness.{sound};
-ghost use Rattle.session.specs.Calls.{giving, record_rows, call_rows, start, absorb, squeeze, squeeze_buffer, finish};
-ghost use Rattle.session.specs.Steps.{scalars_of, record_of, refused_with, moved_to, Countable};
+ghost use Rattle.session.specs.Calls.{giving, record_rows, call_rows, absorb_rows, finish_rows, start, absorb, squeeze, squeeze_buffer, finish};
+ghost use Rattle.session.specs.Answers.{start_answer};
+ghost use Rattle.session.specs.Steps.{refused_with, moved_on};
 
+use basics::Refusal;
+use field::Field;
 use progress::place::Place;
-use sponge::Sponge;
+use sponge::SpongeState;
+use tag::Form;
+use words::Kind;
 
 // The record of a session, laid out as C does it. Any contents at all may be handed over: a call looks at them before it uses them.
 #[repr(C)]
@@ -36,27 +45,6 @@ pub struct Session {
     pub permutations: u64,
 }
 
-// The scalar fields of a record: all but its state and words.
-#[derive(Clone, Copy)]
-struct Scalars {
-    status: u32,
-    field: u32,
-    form: u32,
-    count: u32,
-    phase: u32,
-    done: u32,
-    absorb_position: u32,
-    squeeze_position: u32,
-    permutations: u64,
-}
-
-// Number 0 or a refusal's, and the record that the call leaves.
-#[derive(Clone, Copy)]
-pub struct Answer {
-    pub number: u32,
-    pub session: Session,
-}
-
 // The status of an open record.
 const OPEN: u32 = 1;
 
@@ -65,45 +53,8 @@ fn tag_state(elements: [u32; 8]) -> [u32; Session::WIDTH]
     ensures { result ≡ tag_state elements }
 {
     let mut state = [0u32; Session::WIDTH];
-    for k in 0..8 {
-        state[Session::RATE + k] = elements[k];
-    }
+    state[Session::RATE..Session::RATE + 8].copy_from_slice(&elements);
     state
-}
-
-// A number, and a record of zeros.
-fn wipe(number: u32) -> Answer
-    ensures { result ≡ giving number wiped }
-{
-    Answer {
-        number,
-        session: Session {
-            status: 0,
-            field: 0,
-            form: 0,
-            state: [0; Session::WIDTH],
-            words: [0; 64],
-            count: 0,
-            phase: 0,
-            done: 0,
-            absorb_position: 0,
-            squeeze_position: 0,
-            permutations: 0,
-        },
-    }
-}
-
-// The answer to a call that is turned away: 9 and 11 wipe the record, and other numbers leave it.
-fn refuse(number: u32, session: Session) -> Answer
-    ensures { result ≡ refused_with number session }
-{
-    if number == basics::CALL_NOT_IN_PATTERN {
-        return wipe(number);
-    }
-    if number == basics::PATTERN_NOT_DONE {
-        return wipe(number);
-    }
-    Answer { number, session }
 }
 
 impl Session {
@@ -116,248 +67,209 @@ impl Session {
     // How many elements it has in all.
     pub const WIDTH: usize = Session::RATE + Session::CAPACITY;
 
-    // START: opens a session in the field and with the form of tag string that numbers name, for a pattern and a separator.
-    pub fn start(field: u32, form: u32, words: &[u32], separator: &[u8]) -> Answer
-        ensures { result ≡ start field form (opening words.now separator.now) }
+    // A record of zeros, which a refused START and a finished session leave.
+    pub fn wiped() -> Session
+        ensures { result ≡ wiped }
     {
-        if !field::is_field(field) {
-            return wipe(basics::FIELD_UNKNOWN);
+        Session {
+            status: 0,
+            field: 0,
+            form: 0,
+            state: [0; Session::WIDTH],
+            words: [0; 64],
+            count: 0,
+            phase: 0,
+            done: 0,
+            absorb_position: 0,
+            squeeze_position: 0,
+            permutations: 0,
         }
-        if !tag::is_form(form) {
-            return wipe(basics::FORM_UNKNOWN);
-        }
-        let merged = pattern::check(words, separator);
-        if merged.number != basics::ACCEPTED {
-            return wipe(merged.number);
-        }
-        let merged_words = merged.words;
-        let count = merged.count;
+    }
+
+    // START: opens a session in the field and with the form of tag string that numbers name, for a pattern and a separator.
+    pub fn start(field: u32, form: u32, words: &[u32], separator: &[u8]) -> Result<Session, Refusal>
+        ensures { start_answer result ≡ start field form (opening words.now separator.now) }
+    {
+        Field::try_from(field)?;
+        Form::try_from(form)?;
+        let merged = pattern::check(words, separator)?;
         let mut string = [0u8; tag::MAX_STRING];
-        let written = tag::write_string(form, &merged_words[..count], separator, &mut string);
-        let length = written.length;
+        let length = tag::write_string(form, merged.as_slice(), separator, &mut string).unwrap();
         let digest = sha3::sha3_256(&string[..length]);
-        let state = tag_state(tag_reader::elements(digest));
-        Answer {
-            number: basics::ACCEPTED,
-            session: Session {
-                status: OPEN,
-                field,
-                form,
-                state,
-                words: merged_words,
-                count: count as u32,
-                phase: 0,
-                done: 0,
-                absorb_position: 0,
-                squeeze_position: 0,
-                permutations: 0,
-            },
-        }
+        Ok(Session {
+            status: OPEN,
+            field,
+            form,
+            state: tag_state(tag_reader::elements(digest)),
+            words: merged.words,
+            count: merged.count as u32,
+            phase: 0,
+            done: 0,
+            absorb_position: 0,
+            squeeze_position: 0,
+            permutations: 0,
+        })
     }
 
     // ABSORB: takes the elements of a list in.
-    pub fn absorb_step(self, input: &[u32]) -> Answer
-        ensures { result ≡ absorb self input.now }
+    pub fn absorb(&mut self, input: &[u32]) -> Result<(), Refusal>
+        ensures { giving (answer_number result) self.new ≡ absorb self.old input.now }
     {
-        let state = self.state;
-        let words = self.words;
-        let number = Session::call_number(
-            Session::scalars(self),
-            &state,
-            &words,
-            true,
-            input.len(),
-        );
-        if number != basics::ACCEPTED {
-            return refuse(number, self);
+        if let Err(refusal) = self.check_absorb(input) {
+            return self.refuse(refusal);
         }
-        let field = field::field_of(self.field);
-        if !field::is_reduced(field, input) {
-            return refuse(basics::ELEMENT_NOT_REDUCED, self);
-        }
-        let sponge = sponge::absorb(
-            field,
-            state,
-            self.absorb_position,
-            self.squeeze_position,
-            input,
-        );
-        let place = progress::place::place_after(
-            &words,
-            self.count,
-            self.phase,
-            self.done,
-            input.len(),
-        );
-        Answer {
-            number,
-            session: self.move_on(words, sponge, place),
-        }
+        let mut sponge = self.sponge();
+        let permutations = sponge.absorb(field::field_of(self.field), input);
+        self.move_on(sponge, permutations, input.len());
+        Ok(())
     }
 
     // SQUEEZE: fills a buffer with elements.
-    pub fn squeeze_step(self, output: &mut [u32]) -> Answer
-        ensures { (result ≡ squeeze self (length output.old)) ×
-            (output.new ≡ squeeze_buffer self output.old) }
+    pub fn squeeze(&mut self, output: &mut [u32]) -> Result<(), Refusal>
+        ensures { (giving (answer_number result) self.new ≡ squeeze self.old (length output.old)) ×
+            (output.new ≡ squeeze_buffer self.old output.old) }
     {
-        let state = self.state;
-        let words = self.words;
-        let number = Session::call_number(
-            Session::scalars(self),
-            &state,
-            &words,
-            false,
-            output.len(),
-        );
-        if number != basics::ACCEPTED {
-            return refuse(number, self);
+        let elements = output.len();
+        if let Err(refusal) = self.check_call(Kind::Squeeze, elements) {
+            return self.refuse(refusal);
         }
-        let field = field::field_of(self.field);
-        let sponge = sponge::squeeze(
-            field,
-            state,
-            self.absorb_position,
-            self.squeeze_position,
-            output,
-        );
-        let place = progress::place::place_after(
-            &words,
-            self.count,
-            self.phase,
-            self.done,
-            output.len(),
-        );
-        Answer {
-            number,
-            session: self.move_on(words, sponge, place),
-        }
+        let mut sponge = self.sponge();
+        let permutations = sponge.squeeze(field::field_of(self.field), output);
+        self.move_on(sponge, permutations, elements);
+        Ok(())
     }
 
     // FINISH: ends a session whose pattern is done.
-    pub fn finish_step(self) -> Answer
-        ensures { result ≡ finish self }
+    pub fn finish(&mut self) -> Result<(), Refusal>
+        ensures { giving (answer_number result) self.new ≡ finish self.old }
     {
-        let state = self.state;
-        let words = self.words;
-        let number = Session::record_number(Session::scalars(self), &state, &words);
-        if number != basics::ACCEPTED {
-            return refuse(number, self);
+        if let Err(refusal) = self.check_finish() {
+            return self.refuse(refusal);
         }
-        if self.phase != self.count {
-            return wipe(basics::PATTERN_NOT_DONE);
-        }
-        wipe(basics::ACCEPTED)
+        *self = Session::wiped();
+        Ok(())
     }
 
-    // The scalar fields of a record.
-    fn scalars(session: Session) -> Scalars
-        ensures { result ≡ scalars_of session }
+    // A call that is turned away: 9 and 11 wipe the record, and other numbers leave it.
+    fn refuse(&mut self, refusal: Refusal) -> Result<(), Refusal>
+        ensures { giving (answer_number result) self.new ≡ refused_with (number_of refusal) self.old }
     {
-        Scalars {
-            status: session.status,
-            field: session.field,
-            form: session.form,
-            count: session.count,
-            phase: session.phase,
-            done: session.done,
-            absorb_position: session.absorb_position,
-            squeeze_position: session.squeeze_position,
-            permutations: session.permutations,
+        if let Refusal::PatternNotDone | Refusal::CallNotInPattern = refusal {
+            *self = Session::wiped();
+        }
+        Err(refusal)
+    }
+
+    // The place in the pattern.
+    fn place(&self) -> Place
+        ensures { (result.phase ≡ self.now.phase) × (result.done ≡ self.now.done) }
+    {
+        Place {
+            phase: self.phase,
+            done: self.done,
         }
     }
 
-    // Whether the record of these parts is sound. State and words are lent, here and below: a whole record would be copied in each call.
-    fn is_sound(scalars: Scalars, state: &[u32; Session::WIDTH], words: &[u32; 64]) -> bool
-        ensures { result ≡ sound (record_of scalars state.now words.now) }
+    // The state and its positions.
+    fn sponge(&self) -> SpongeState
+        ensures { counted result 0 ≡ sponge self.now.state self.now.absorb_position self.now.squeeze_position 0 }
     {
-        if !field::is_field(scalars.field) {
+        SpongeState {
+            state: self.state,
+            absorb_position: self.absorb_position,
+            squeeze_position: self.squeeze_position,
+        }
+    }
+
+    // Whether the record is sound.
+    fn is_sound(&self) -> bool
+        ensures { result ≡ sound self.now }
+    {
+        let Ok(field) = Field::try_from(self.field) else {
+            return false;
+        };
+        if !tag::is_form(self.form) {
             return false;
         }
-        if !tag::is_form(scalars.form) {
+        if !sound_words::places_sound(&self.words, self.count) {
             return false;
         }
-        if !sound_words::places_sound(words, scalars.count) {
+        let place = self.place();
+        if !place.is_sound(&self.words, self.count) {
             return false;
         }
-        if !progress::place::is_sound(words, scalars.count, scalars.phase, scalars.done) {
+        if !field::is_reduced(field, &self.state) {
             return false;
         }
-        if !field::is_reduced(field::field_of(scalars.field), state) {
+        if self.permutations != counters::permutations::permutations_at(&self.words, place) {
             return false;
         }
-        if scalars.permutations
-            != counters::permutations::permutations_at(words, scalars.phase, scalars.done)
-        {
-            return false;
-        }
-        let positions = counters::positions::positions_at(words, scalars.phase, scalars.done);
-        if scalars.absorb_position != positions.absorb {
-            return false;
-        }
-        scalars.squeeze_position == positions.squeeze
+        let positions = counters::positions::positions_at(&self.words, place);
+        self.absorb_position == positions.absorb && self.squeeze_position == positions.squeeze
     }
 
     // The rows about the record: open, and sound.
-    fn record_number(scalars: Scalars, state: &[u32; Session::WIDTH], words: &[u32; 64]) -> u32
-        ensures { result ≡ first_number (record_rows (record_of scalars state.now words.now)) }
+    fn check_record(&self) -> Result<(), Refusal>
+        ensures { answer_number result ≡ first_number (record_rows self.now) }
     {
-        if scalars.status != OPEN {
-            return basics::RECORD_NOT_OPEN;
+        if self.status != OPEN {
+            return Err(Refusal::RecordNotOpen);
         }
-        if !Session::is_sound(scalars, state, words) {
-            return basics::RECORD_NOT_SOUND;
+        if !self.is_sound() {
+            return Err(Refusal::RecordNotSound);
         }
-        basics::ACCEPTED
+        Ok(())
     }
 
     // The rows of a call of so many elements of a kind, which ABSORB and SQUEEZE share.
-    fn call_number(
-        scalars: Scalars,
-        state: &[u32; Session::WIDTH],
-        words: &[u32; 64],
-        absorbs: bool,
-        elements: usize,
-    ) -> u32
-        ensures { result ≡ first_number (call_rows absorbs elements (record_of scalars state.now words.now)) }
+    fn check_call(&self, kind: Kind, elements: usize) -> Result<(), Refusal>
+        ensures { answer_number result ≡ first_number (call_rows (absorbs kind) elements self.now) }
     {
-        let number = Session::record_number(scalars, state, words);
-        if number != basics::ACCEPTED {
-            return number;
-        }
+        self.check_record()?;
         if elements == 0 {
-            return basics::ACCEPTED;
+            return Ok(());
         }
-        if progress::place::in_pattern(
-            words,
-            scalars.count,
-            scalars.phase,
-            scalars.done,
-            absorbs,
-            elements,
-        ) {
-            return basics::ACCEPTED;
+        let place = self.place();
+        if !place.in_pattern(&self.words, self.count, kind, elements) {
+            return Err(Refusal::CallNotInPattern);
         }
-        basics::CALL_NOT_IN_PATTERN
+        Ok(())
     }
 
-    // The record with what a call made of its sponge, at another place of its pattern. Its words come by themselves, since a copy of them was lent before.
-    fn move_on(self, words: [u32; 64], sponge: Sponge, place: Place) -> Session
-        requires { Countable self sponge }
-        ensures { result ≡ moved_to self words sponge place }
+    // The rows of ABSORB.
+    fn check_absorb(&self, input: &[u32]) -> Result<(), Refusal>
+        ensures { answer_number result ≡ first_number (absorb_rows self.now input.now) }
     {
-        let state = sponge.state;
-        Session {
-            status: self.status,
-            field: self.field,
-            form: self.form,
-            state,
-            words,
-            count: self.count,
-            phase: place.phase,
-            done: place.done,
-            absorb_position: sponge.absorb_position,
-            squeeze_position: sponge.squeeze_position,
-            permutations: self.permutations + sponge.permutations,
+        self.check_call(Kind::Absorb, input.len())?;
+        if !field::is_reduced(field::field_of(self.field), input) {
+            return Err(Refusal::ElementNotReduced);
         }
+        Ok(())
+    }
+
+    // The rows of FINISH.
+    fn check_finish(&self) -> Result<(), Refusal>
+        ensures { answer_number result ≡ first_number (finish_rows self.now) }
+    {
+        self.check_record()?;
+        if self.phase != self.count {
+            return Err(Refusal::PatternNotDone);
+        }
+        Ok(())
+    }
+
+    // Moves on by so many elements of the phase, to what a call made of the sponge.
+    fn move_on(&mut self, sponge: SpongeState, permutations: u64, elements: usize)
+        requires { self.old.permutations + permutations < 2 ^ 64 }
+        ensures { self.new ≡ moved_on self.old (counted sponge permutations) elements }
+    {
+        let place = self.place().after(&self.words, self.count, elements);
+        let state = sponge.state;
+        self.state = state;
+        self.absorb_position = sponge.absorb_position;
+        self.squeeze_position = sponge.squeeze_position;
+        self.permutations += permutations;
+        self.phase = place.phase;
+        self.done = place.done;
     }
 }

@@ -5,265 +5,206 @@
 
 ghost use Rattle.std.specs.Prelude.{◌≡◌, ◌≤◌, ◌<◌, length};
 
-// The record that a line leaves, and the place behind the line.
-#[derive(Clone, Copy)]
-struct Step {
-    record: session::Session,
-    next: usize,
+use hex_fields::Field;
+use session::Session;
+
+// The fields of a text, and the place in it that reading has come to.
+#[derive(Drop)]
+struct Reader<'a> {
+    text: &'a [u8],
+    at: usize,
 }
 
-fn joined(high: u32, low: u32) -> u64 {
-    high as u64 * 0x1_0000_0000 + low as u64
-}
-
-fn state_in(list: &[u32; 512]) -> [u32; 24] {
-    let mut state = [0u32; 24];
-    for i in 0..24 {
-        state[i] = list[i];
+impl Reader<'_> {
+    // The next field, which reading goes past.
+    fn field(&mut self) -> Field
+        ensures long { length result.bytes ≡ 2048 }
+        ensures used { result.count ≤ 2048 }
+        ensures text { self.new.text.now ≡ self.old.text.now }
+        ensures on { self.old.at ≤ self.new.at }
+    {
+        let field = hex_fields::field_at(self.text, self.at);
+        self.at = field.next;
+        field
     }
-    state
-}
 
-fn pattern_in(list: &[u32; 512]) -> [u32; 64] {
-    let mut words = [0u32; 64];
-    for i in 0..64 {
-        words[i] = list[i];
+    // The words of the next field.
+    fn words(&mut self) -> [u32; 512]
+        ensures text { self.new.text.now ≡ self.old.text.now }
+        ensures on { self.old.at ≤ self.new.at }
+    {
+        self.field().words()
     }
-    words
-}
 
-// The record that three lists write: its numbers, its state and its words.
-fn record_in(numbers: &[u32; 512], state: &[u32; 512], words: &[u32; 512]) -> session::Session {
-    session::Session {
-        status: numbers[0],
-        field: numbers[1],
-        form: numbers[2],
-        state: state_in(state),
-        words: pattern_in(words),
-        count: numbers[3],
-        phase: numbers[4],
-        done: numbers[5],
-        absorb_position: numbers[6],
-        squeeze_position: numbers[7],
-        permutations: joined(numbers[8], numbers[9]),
-    }
-}
-
-// The lists that write a record.
-fn numbers_of(record: session::Session) -> [u32; 512] {
-    let mut list = [0u32; 512];
-    list[0] = record.status;
-    list[1] = record.field;
-    list[2] = record.form;
-    list[3] = record.count;
-    list[4] = record.phase;
-    list[5] = record.done;
-    list[6] = record.absorb_position;
-    list[7] = record.squeeze_position;
-    list[8] = (record.permutations / 0x1_0000_0000) as u32;
-    list[9] = (record.permutations % 0x1_0000_0000) as u32;
-    list
-}
-
-fn state_of(record: session::Session) -> [u32; 512] {
-    let state = record.state;
-    let mut list = [0u32; 512];
-    for i in 0..24 {
-        list[i] = state[i];
-    }
-    list
-}
-
-fn pattern_of(record: session::Session) -> [u32; 512] {
-    let words = record.words;
-    let mut list = [0u32; 512];
-    for i in 0..64 {
-        list[i] = words[i];
-    }
-    list
-}
-
-fn same(a: &[u32; 512], b: &[u32; 512]) -> bool {
-    for i in 0..512 {
-        if a[i] != b[i] {
-            return false;
+    // The record that the next three fields write: its numbers, its state and its words.
+    fn record(&mut self) -> Session
+        ensures text { self.new.text.now ≡ self.old.text.now }
+        ensures on { self.old.at ≤ self.new.at }
+    {
+        let numbers = self.words();
+        let state = self.words();
+        let words = self.words();
+        Session {
+            status: numbers[0],
+            field: numbers[1],
+            form: numbers[2],
+            state: first(&state),
+            words: first(&words),
+            count: numbers[3],
+            phase: numbers[4],
+            done: numbers[5],
+            absorb_position: numbers[6],
+            squeeze_position: numbers[7],
+            permutations: joined(numbers[8], numbers[9]),
         }
     }
-    true
-}
-
-// How many words a list has up to its last one that is not 0.
-fn used(list: &[u32; 512]) -> usize {
-    let mut count: usize = 0;
-    for i in 0..512 {
-        if list[i] != 0 {
-            count = i + 1;
-        }
-    }
-    count
-}
-
-fn print_word(word: u32) {
-    io::print_hex(1, word as u64, 8);
 }
 
 // The first words of a list.
-fn print_first(list: &[u32; 512], count: usize) {
-    for i in 0..512 {
-        if i < count {
-            print_word(list[i]);
-        }
+fn first<const N: usize>(list: &[u32; 512]) -> [u32; N]
+    requires { N ≤ 512 }
+{
+    let mut words = [0u32; N];
+    words.copy_from_slice(&list[..N]);
+    words
+}
+
+fn joined(high: u32, low: u32) -> u64 {
+    u64::from(high) * 0x1_0000_0000 + u64::from(low)
+}
+
+// The numbers that write a record.
+fn numbers_of(record: &Session) -> [u32; 10] {
+    [
+        record.status,
+        record.field,
+        record.form,
+        record.count,
+        record.phase,
+        record.done,
+        record.absorb_position,
+        record.squeeze_position,
+        (record.permutations / 0x1_0000_0000) as u32,
+        (record.permutations % 0x1_0000_0000) as u32,
+    ]
+}
+
+fn print_words(words: &[u32]) {
+    for word in words {
+        io::print_hex(1, u64::from(*word), 8);
     }
 }
 
 // A list without the zeros at its end. One that is as it was is a sign only, which keeps the output short.
-fn print_part(old: &[u32; 512], new: &[u32; 512]) {
-    if same(old, new) {
+fn print_part(old: &[u32], new: &[u32]) {
+    if old == new {
         io::write_all(1, b" =");
         return;
     }
     io::write_all(1, b" ");
-    print_first(new, used(new));
+    let used = new
+        .iter()
+        .rposition(|word| *word != 0)
+        .map_or(0, |last| last + 1);
+    print_words(&new[..used]);
 }
 
-fn print_record(old: session::Session, new: session::Session) {
+fn print_record(old: &Session, new: &Session) {
     print_part(&numbers_of(old), &numbers_of(new));
-    print_part(&state_of(old), &state_of(new));
-    print_part(&pattern_of(old), &pattern_of(new));
+    print_part(&old.state, &new.state);
+    print_part(&old.words, &new.words);
 }
 
-fn print_answer(old: session::Session, answer: session::Answer) {
+fn print_answer(number: u32, old: &Session, new: &Session) {
     io::write_all(1, b" ");
-    io::print_decimal(1, answer.number as u64);
-    print_record(old, answer.session);
+    io::print_decimal(1, u64::from(number));
+    print_record(old, new);
 }
 
-fn start_line(text: &[u8], at: usize, record: session::Session) -> Step
-    ensures { at ≤ result.next }
+fn start_line(reader: &mut Reader<'_>, record: &mut Session)
+    ensures text { reader.new.text.now ≡ reader.old.text.now }
+    ensures on { reader.old.at ≤ reader.new.at }
 {
-    let first = hex_fields::field_at(text, at);
-    let second = hex_fields::field_at(text, first.next);
-    let third = hex_fields::field_at(text, second.next);
-    let numbers = hex_fields::words_of(&first.bytes);
-    let words = hex_fields::words_of(&second.bytes);
-    let count = second.count / 4;
-    let separator = third.bytes;
-    let length = third.count;
-    let answer = session::Session::start(
+    let numbers = reader.words();
+    let pattern = reader.field();
+    let separator = reader.field();
+    let words = pattern.words();
+    let answer = Session::start(
         numbers[0],
         numbers[1],
-        &words[..count],
-        &separator[..length],
+        &words[..pattern.count / 4],
+        separator.as_bytes(),
     );
-    print_answer(record, answer);
-    let left = answer.session;
-    Step {
-        record: left,
-        next: third.next,
-    }
+    let old = *record;
+    *record = answer.unwrap_or(Session::wiped());
+    print_answer(basics::number(&answer), &old, record);
 }
 
-fn absorb_line(text: &[u8], at: usize, record: session::Session) -> Step
-    ensures { at ≤ result.next }
+fn absorb_line(reader: &mut Reader<'_>, record: &mut Session)
+    ensures text { reader.new.text.now ≡ reader.old.text.now }
+    ensures on { reader.old.at ≤ reader.new.at }
 {
-    let field = hex_fields::field_at(text, at);
-    let elements = hex_fields::words_of(&field.bytes);
-    let count = field.count / 4;
-    let answer = record.absorb_step(&elements[..count]);
-    print_answer(record, answer);
-    let left = answer.session;
-    Step {
-        record: left,
-        next: field.next,
-    }
+    let field = reader.field();
+    let elements = field.words();
+    let old = *record;
+    let answer = record.absorb(&elements[..field.count / 4]);
+    print_answer(basics::number(&answer), &old, record);
 }
 
-fn squeeze_line(text: &[u8], at: usize, record: session::Session) -> Step
-    ensures { at ≤ result.next }
+fn squeeze_line(reader: &mut Reader<'_>, record: &mut Session)
+    ensures text { reader.new.text.now ≡ reader.old.text.now }
+    ensures on { reader.old.at ≤ reader.new.at }
 {
-    let field = hex_fields::field_at(text, at);
-    let mut buffer = hex_fields::words_of(&field.bytes);
-    let count = field.count / 4;
-    let answer = record.squeeze_step(&mut buffer[..count]);
-    print_answer(record, answer);
+    let field = reader.field();
+    let mut elements = field.words();
+    let buffer = &mut elements[..field.count / 4];
+    let old = *record;
+    let answer = record.squeeze(buffer);
+    print_answer(basics::number(&answer), &old, record);
     io::write_all(1, b" ");
-    print_first(&buffer, count);
-    let left = answer.session;
-    Step {
-        record: left,
-        next: field.next,
-    }
+    print_words(buffer);
 }
 
-fn finish_line(at: usize, record: session::Session) -> Step
-    ensures { at ≤ result.next }
-{
-    let answer = record.finish_step();
-    print_answer(record, answer);
-    let left = answer.session;
-    Step {
-        record: left,
-        next: at,
-    }
+fn finish_line(record: &mut Session) {
+    let old = *record;
+    let answer = record.finish();
+    print_answer(basics::number(&answer), &old, record);
 }
 
-// The record that a line writes.
-fn record_at(text: &[u8], at: usize) -> Step
-    ensures { at ≤ result.next }
+fn record_line(reader: &mut Reader<'_>, record: &mut Session)
+    ensures text { reader.new.text.now ≡ reader.old.text.now }
+    ensures on { reader.old.at ≤ reader.new.at }
 {
-    let first = hex_fields::field_at(text, at);
-    let second = hex_fields::field_at(text, first.next);
-    let third = hex_fields::field_at(text, second.next);
-    let numbers = hex_fields::words_of(&first.bytes);
-    let state = hex_fields::words_of(&second.bytes);
-    let words = hex_fields::words_of(&third.bytes);
-    Step {
-        record: record_in(&numbers, &state, &words),
-        next: third.next,
-    }
+    let old = *record;
+    *record = reader.record();
+    print_record(&old, record);
 }
 
-fn record_line(text: &[u8], at: usize, record: session::Session) -> Step
-    ensures { at ≤ result.next }
+fn run_line(reader: &mut Reader<'_>, record: &mut Session)
+    requires in_bounds { reader.old.at < length reader.old.text.now }
+    requires text_len_bound { length reader.old.text.now ≤ 1048576 }
+    ensures text { reader.new.text.now ≡ reader.old.text.now }
+    ensures on { reader.old.at < reader.new.at }
 {
-    let step = record_at(text, at);
-    print_record(record, step.record);
-    step
-}
-
-fn run_line(text: &[u8], at: usize, record: session::Session) -> Step
-    requires at_in_bounds { at < length text.now }
-    requires text_len_bound { length text.now ≤ 1048576 }
-    ensures { at < result.next }
-{
-    let kind = text[at];
-    io::write_all(1, &text[at..at + 1]);
-    if kind == b's' {
-        return start_line(text, at + 2, record);
+    let kind = reader.text[reader.at];
+    io::write_all(1, &[kind]);
+    reader.at += 2;
+    match kind {
+        b's' => start_line(reader, record),
+        b'a' => absorb_line(reader, record),
+        b'q' => squeeze_line(reader, record),
+        b'f' => finish_line(record),
+        _ => record_line(reader, record),
     }
-    if kind == b'a' {
-        return absorb_line(text, at + 2, record);
-    }
-    if kind == b'q' {
-        return squeeze_line(text, at + 2, record);
-    }
-    if kind == b'f' {
-        return finish_line(at + 2, record);
-    }
-    record_line(text, at + 2, record)
 }
 
 fn run_lines(text: &[u8])
     requires { length text.now ≤ 1048576 }
 {
-    let nothing = [0u32; 512];
-    let mut record = record_in(&nothing, &nothing, &nothing);
-    let mut at: usize = 0;
-    while at < text.len() {
-        let step = run_line(text, at, record);
-        let left = step.record;
-        record = left;
-        at = step.next;
+    let mut record = Session::wiped();
+    let mut reader = Reader { text, at: 0 };
+    while reader.at < reader.text.len() {
+        run_line(&mut reader, &mut record);
         io::write_all(1, b"\n");
     }
 }

@@ -1,55 +1,70 @@
 -- Lanes of eight bytes.
 -- Assumes nothing.
-use mathlib.Core.Path.{◌≡◌, ◌∙◌, sym, ap}
+use mathlib.Core.Path.{◌≡◌, ◌∙◌, refl, sym, ap}
 use mathlib.Core.List.{List, [], ◌++◌}
-use Prim.Native.Nat.{ℕ, ◌+◌, ◌*◌, ◌^◌, ◌≤◌, ◌<◌}
-use native.Mathlib.Nat.{add-zero, add_assoc}
+use Prim.Native.Nat.{ℕ, zero, suc, ◌/◌, ◌%◌, ◌+◌, ◌*◌, ◌^◌, ◌≤◌, ◌<◌}
+use native.Mathlib.Nat.{zero-add, div-one}
 use native.Mathlib.Omega.{arith}
-use lib.ListN.{length, get_or, drop, replicate, get_or-eq_default, length-take}
-use lib.Seq.{get_or-take, get_or-drop}
-use Rattle.basics.specs.Lists.{sum}
+use lib.ListN.{length, get_or, take, drop, replicate, get_or-eq_default}
+use lib.Seq.{drop-drop, ext_get_or, get_or-take, get_or-drop}
+use Rattle.std.specs.Int.{w64, from_le_bytes, to_le_bytes}
+use Rattle.std.specs.Simd.{first_chunks}
+use Rattle.basics.specs.Lists.{tabulate, sum}
+use Rattle.basics.proofs.Fill.{length_tabulate, tabulate_at}
 use Rattle.basics.proofs.Zeros.{zeros_behind}
 use Rattle.basics.proofs.Sums.{sum_same}
-use Rattle.sha3.specs.Sponge.{padded, lane_at, block}
-use Rattle.sha3.specs.Steps.{little_endian}
-use Rattle.sha3.proofs.Padding.{in_message}
+use Rattle.sha3.specs.Sponge.{lane_at}
 
-pub by_bytes : (s : List ℕ) (k : ℕ)
-    → little_endian (get_or s k 0) (get_or s (k + 1) 0) (get_or s (k + 2) 0) (get_or s (k + 3) 0) (get_or s (k + 4) 0) (get_or s (k + 5) 0)
-    (get_or s (k + 6) 0) (get_or s (k + 7) 0)
-    ≡ lane_at s k
+-- a list by its elements
+pub by_each : (n : ℕ) (f : ℕ → ℕ) {xs : List ℕ} → length xs ≡ n → ((i : ℕ) → i < n → get_or xs i 0 ≡ f i) → xs ≡ tabulate n f
+by_each n f {xs} long each =
+    ext_get_or 0 xs (tabulate n f) (long ∙ sym (length_tabulate n f))
+    (λ i below. each i (omega arith) ∙ sym (tabulate_at n f i (omega arith)))
+
+-- a lane's byte j as the library writes it
+pub as_written : (n j : ℕ) → j < 8 → get_or (to_le_bytes w64 n) j 0 ≡ n / 2 ^ (8 * j) % 256
+as_written n zero h = ap (λ (m : ℕ). m % 256) (sym (div-one n))
+as_written n (suc zero) h = refl
+as_written n (suc (suc zero)) h = refl
+as_written n (suc (suc (suc zero))) h = refl
+as_written n (suc (suc (suc (suc zero)))) h = refl
+as_written n (suc (suc (suc (suc (suc zero))))) h = refl
+as_written n (suc (suc (suc (suc (suc (suc zero)))))) h = refl
+as_written n (suc (suc (suc (suc (suc (suc (suc zero))))))) h = refl
+as_written n (suc (suc (suc (suc (suc (suc (suc (suc j)))))))) h = absurd (omega arith)
+
+-- eight bytes as the library reads them
+as_read : (s : List ℕ) → from_le_bytes w64 s ≡ lane_at s 0
 unfolding lane_at sum
-by_bytes s k = rw (add-zero k) (omega arith)
-
-pub from_bytes : (s : List ℕ) (k : ℕ) {b0 b1 b2 b3 b4 b5 b6 b7 : ℕ}
-    → b0 ≡ get_or s k 0 → b1 ≡ get_or s (k + 1) 0 → b2 ≡ get_or s (k + 2) 0 → b3 ≡ get_or s (k + 3) 0 → b4 ≡ get_or s (k + 4) 0
-    → b5 ≡ get_or s (k + 5) 0 → b6 ≡ get_or s (k + 6) 0 → b7 ≡ get_or s (k + 7) 0 → little_endian b0 b1 b2 b3 b4 b5 b6 b7 ≡ lane_at s k
-from_bytes s k e0 e1 e2 e3 e4 e5 e6 e7 = (λ i. little_endian (e0 i) (e1 i) (e2 i) (e3 i) (e4 i) (e5 i) (e6 i) (e7 i)) ∙ by_bytes s k
+as_read s = omega arith
 
 same_lane : (s t : List ℕ) (k l : ℕ) → ((j : ℕ) → j < 8 → get_or s (k + j) 0 ≡ get_or t (l + j) 0) → lane_at s k ≡ lane_at t l
 unfolding lane_at
 same_lane s t k l h = sum_same 8 _ _ (λ j below. ap (λ (b : ℕ). b * 2 ^ (8 * j)) (h j below))
 
--- a lane that is all of the message
-pub in_message_lane : (m : List ℕ) (k : ℕ) → k + 8 ≤ length m → lane_at m k ≡ lane_at (padded m) k
-in_message_lane m k h = same_lane m (padded m) k k (λ j below. sym (in_message m (k + j) (omega arith)))
+-- the library's parts of eight bytes
+pub part_at : (s : List ℕ) (n i : ℕ) → i < n → get_or (first_chunks 8 n s) i [] ≡ take 8 (drop (8 * i) s)
+part_at s zero i h = absurd (omega arith)
+part_at s (suc n) zero h = refl
+part_at s (suc n) (suc i) h =
+    let place : 8 + 8 * i ≡ 8 * suc i = omega arith in
+    part_at (drop 8 s) n i (omega arith) ∙ ap (take 8) (drop-drop (8 * i) 8 s ∙ ap (λ (k : ℕ). drop k s) place)
 
--- the lane i of the block n
-pub block_lane : (p : List ℕ) (n i : ℕ) → i < 17 → lane_at p (136 * n + 8 * i) ≡ lane_at (block p n ++ replicate 64 0) (8 * i)
-block_lane p n i h =
-    same_lane p (block p n ++ replicate 64 0) (136 * n + 8 * i) (8 * i)
+-- the lane i of a block
+pub block_lane : (p : List ℕ) (i : ℕ) → from_le_bytes w64 (take 8 (drop (8 * i) p)) ≡ lane_at (p ++ replicate 64 0) (8 * i)
+block_lane p i =
+    let lane = take 8 (drop (8 * i) p) in
+    as_read lane
+    ∙ same_lane lane (p ++ replicate 64 0) 0 (8 * i)
     (λ j below.
-    ap (λ (k : ℕ). get_or p k 0) (add_assoc (136 * n) (8 * i) j)
-    ∙ sym
-    (zeros_behind (block p n) 64 (8 * i + j)
-    ∙ get_or-take 136 (drop (136 * n) p) (8 * i + j) 0 (omega arith)
-    ∙ get_or-drop (136 * n) p (8 * i + j) 0))
+    ap (λ (k : ℕ). get_or lane k 0) (zero-add j)
+    ∙ get_or-take 8 (drop (8 * i) p) j 0 below
+    ∙ get_or-drop (8 * i) p j 0
+    ∙ sym (zeros_behind p 64 (8 * i + j)))
 
--- behind it are the capacity's zeros
-pub capacity_lane : (p : List ℕ) (n i : ℕ) → 17 ≤ i → lane_at (block p n ++ replicate 64 0) (8 * i) ≡ 0
+-- behind a block are the capacity's zeros
+pub capacity_lane : (p : List ℕ) (i : ℕ) → length p ≤ 8 * i → lane_at (p ++ replicate 64 0) (8 * i) ≡ 0
 unfolding sum lane_at
-capacity_lane p n i h =
-    same_lane (block p n ++ replicate 64 0) [] (8 * i) 0
-    (λ j below.
-    zeros_behind (block p n) 64 (8 * i + j)
-    ∙ get_or-eq_default (block p n) 0 (omega (arith, length-take 136 (drop (136 * n) p))))
+capacity_lane p i h =
+    same_lane (p ++ replicate 64 0) [] (8 * i) 0
+    (λ j below. zeros_behind p 64 (8 * i + j) ∙ get_or-eq_default p 0 (omega arith))

@@ -1,2 +1,3 @@
-pub mod Padding
+pub mod Blocks
 pub mod Lanes
+pub mod Padding

@@ -3,16 +3,16 @@
 use mathlib.Core.Path.{◌≡◌, ◌∙◌, refl, sym, ap}
 use mathlib.Core.List.{List, [], ◌∷◌, ◌++◌}
 use Prim.Native.Nat.{ℕ, zero, suc, ◌+◌, ◌-◌, ◌*◌, ◌/◌, ◌%◌, ◌^◌, ◌≤◌, ◌<◌}
-use native.Mathlib.Nat.{not-suc-le-zero, lt_of_not-le, le_of_suc-le-suc}
 use native.Mathlib.Omega.{arith}
-use native.Mathlib.Decide.{dec_le}
-use lib.Arith.{lt_of_le-ne}
-use lib.ListN.{length, get_or, replicate, get_or-append, get_or-eq_default, length-append, length-replicate, get_or-replicate, replicate-append-replicate}
-use lib.Seq.{get_or-append-add, get_or_at}
+use lib.Bits.{bit_or}
+use lib.ListN.{length, get_or, take, drop, set, replicate, length-append, length-drop, length-replicate, replicate-append-replicate}
+use lib.Seq.{get_or-append-add, get_or_at, set_at, take_all, take-append-le, drop-append-le}
+use Rattle.std.proofs.Common.{append_assoc, add-one}
+use Rattle.std.proofs.lemmas.List.{drop-replicate}
 use Rattle.basics.specs.Lists.{tabulate, sum}
 use Rattle.basics.proofs.Fill.{tabulate_cons, tabulate_same}
 use Rattle.basics.proofs.Sums.{sum_same}
-use Rattle.sha3.specs.Sponge.{bytes, pad10*1, padded, padding}
+use Rattle.sha3.specs.Sponge.{bytes, pad10*1, padded, padding, block}
 
 -- past the first eight bits
 past_eight : (first bits : List ℕ) → length first ≡ 8 → (i k : ℕ) → get_or (first ++ bits) (8 * suc i + k) 0 ≡ get_or bits (8 * i + k) 0
@@ -72,56 +72,55 @@ length_padding (suc (suc k)) = rw (length-append, length-replicate) (omega arith
 pub blocks_padded : (m : List ℕ) → length (padded m) / 136 ≡ (length m + 136) / 136
 blocks_padded m = rw (padded_bytes m, length-append, length_padding) (omega arith)
 
--- ---- the padded message, byte by byte
+-- ---- the blocks of a padded message
 
-pub in_message : (m : List ℕ) (i : ℕ) → i < length m → get_or (padded m) i 0 ≡ get_or m i 0
-in_message m i h = rw (padded_bytes m) (get_or-append m (padding (136 - length m % 136)) 0 i h)
+-- a block that is all of the message
+pub in_message : (m : List ℕ) (n : ℕ) → 136 * n + 136 ≤ length m → block (padded m) n ≡ take 136 (drop (136 * n) m)
+in_message m n h =
+    let behind = padding (136 - length m % 136) in
+    rw (padded_bytes m, drop-append-le (136 * n) m behind (omega arith))
+    (take-append-le 136 (drop (136 * n) m) behind (omega (arith, length-drop (136 * n) m)))
 
--- the byte j of the padding
-behind : (m : List ℕ) (i j : ℕ) → i ≡ length m + j → get_or (padded m) i 0 ≡ get_or (padding (136 - length m % 136)) j 0
-behind m i j e = rw (padded_bytes m, e) (get_or-append-add m (padding (136 - length m % 136)) j 0)
+-- the last one is what the message's other bytes are padded to
+pub last_padded : (m : List ℕ) (n : ℕ) → n ≡ length m / 136 → block (padded m) n ≡ padded (drop (n * 136) m)
+last_padded m n e =
+    let rest = drop (n * 136) m in
+    let long : length rest ≡ length m % 136 = length-drop (n * 136) m ∙ omega arith in
+    let same : length rest % 136 ≡ length m % 136 = omega arith in
+    let behind = padding (136 - length m % 136) in
+    let whole : length (rest ++ behind) ≤ 136 = rw (length-append, length_padding) (omega arith) in
+    let place : 136 * n ≡ n * 136 = omega arith in
+    rw (padded_bytes m, padded_bytes rest, same, place, drop-append-le (n * 136) m behind (omega arith)) (take_all 136 (rest ++ behind) whole)
 
-only : (k : ℕ) → k ≡ 1 → get_or (padding k) 0 0 ≡ 0x86
+-- ---- the last block as it is made
+
+abbrev last_marked : List ℕ → List ℕ
+last_marked s = set s 135 (bit_or (get_or s 135 0) 0x80)
+
+marked_by : (rest : List ℕ) (k : ℕ) → length rest + k ≡ 135 → last_marked (set (rest ++ (0 ∷ replicate k 0)) (length rest) 0x06) ≡ rest ++ padding (suc k)
 unfolding padding
-only k e = rw e
+marked_by rest zero e =
+    let long : length rest ≡ 135 = omega arith in
+    ap last_marked (set_at rest 0 [] 0x06 (length rest) refl)
+    ∙ rw (get_or_at rest 0x06 [] 0 135 long) (set_at rest 0x06 [] 0x86 135 long)
+marked_by rest (suc k) e =
+    let front = rest ++ (0x06 ∷ replicate k 0) in
+    let long : length front ≡ 135 = rw (length-append, length-replicate) (omega arith) in
+    let zeros : replicate {A = ℕ} (suc k) 0 ≡ replicate k 0 ++ (0 ∷ []) = sym (replicate-append-replicate k 1 0 ∙ ap (λ (n : ℕ). replicate n 0) (add-one k)) in
+    ap last_marked
+    (set_at rest 0 (replicate (suc k) 0) 0x06 (length rest) refl
+    ∙ ap (λ (l : List ℕ). rest ++ (0x06 ∷ l)) zeros
+    ∙ sym (append_assoc rest (0x06 ∷ replicate k 0) (0 ∷ [])))
+    ∙ rw (get_or_at front 0 [] 0 135 long) (set_at front 0 [] 0x80 135 long)
+    ∙ append_assoc rest (0x06 ∷ replicate k 0) (0x80 ∷ [])
 
-first : (k : ℕ) → 1 < k → get_or (padding k) 0 0 ≡ 0x06
-unfolding padding
-first zero h = absurd (not-suc-le-zero h)
-first (suc zero) h = absurd (not-suc-le-zero (le_of_suc-le-suc h))
-first (suc (suc k)) h = refl
-
-last : (k j : ℕ) → 0 < j → k ≡ suc j → get_or (padding k) j 0 ≡ 0x80
-unfolding padding
-last k zero h e = absurd (not-suc-le-zero h)
-last k (suc j) h e = rw e (get_or_at (replicate j 0) 0x80 [] 0 j (length-replicate j 0))
-
-between : (k j : ℕ) → 0 < j → (k ≡ suc j → ⊥) → get_or (padding k) j 0 ≡ 0
-unfolding padding
-between zero j h n = refl
-between (suc k) zero h n = absurd (not-suc-le-zero h)
-between (suc zero) (suc j) h n = refl
-between (suc (suc k)) (suc j) h n =
-    elim (dec_le j k) [
-      | yes l ↦ get_or-append (replicate k 0) (0x80 ∷ []) 0 j (rw length-replicate (below l)) ∙ get_or-replicate k j 0 0 (below l)
-      | no g ↦ get_or-eq_default (replicate k 0 ++ (0x80 ∷ [])) 0 (rw (length-append, length-replicate) (omega (arith, lt_of_not-le g)))
-    ]
-  where
-    below : j ≤ k → j < k
-    below l = lt_of_le-ne l (λ e. n (ap (λ (x : ℕ). suc (suc x)) (sym e)))
-
--- where the last block ends
-abbrev pub last_byte : List ℕ → ℕ
-last_byte m = length m / 136 * 136 + 135
-
-pub padding_only : (m : List ℕ) (i : ℕ) → i ≡ length m → i ≡ last_byte m → get_or (padded m) i 0 ≡ 0x86
-padding_only m i e l = behind m i 0 (omega arith) ∙ only _ (omega arith)
-
-pub padding_first : (m : List ℕ) (i : ℕ) → i ≡ length m → (i ≡ last_byte m → ⊥) → get_or (padded m) i 0 ≡ 0x06
-padding_first m i e n = behind m i 0 (omega arith) ∙ first _ (omega (arith, n))
-
-pub padding_last : (m : List ℕ) (i : ℕ) → length m < i → i ≡ last_byte m → get_or (padded m) i 0 ≡ 0x80
-padding_last m i h l = behind m i (i - length m) (omega arith) ∙ last _ _ (omega arith) (omega arith)
-
-pub padding_between : (m : List ℕ) (i : ℕ) → length m < i → (i ≡ last_byte m → ⊥) → get_or (padded m) i 0 ≡ 0
-padding_between m i h n = behind m i (i - length m) (omega arith) ∙ between _ _ (omega arith) (λ e. n (omega arith))
+-- fewer bytes than a block has, zeros behind them, are marked by 0x06 behind them and by the last bit
+pub marked : (rest front : List ℕ) → length rest < 136 → front ≡ rest
+    → last_marked (set (front ++ drop (length rest) (replicate 136 0)) (length rest) 0x06) ≡ padded rest
+marked rest front h e =
+    let k = 135 - length rest in
+    let room : 136 - length rest ≡ suc k = omega arith in
+    let zeros : drop {A = ℕ} (length rest) (replicate 136 0) ≡ 0 ∷ replicate k 0 =
+    drop-replicate (length rest) 136 0 ∙ ap (λ (n : ℕ). replicate n 0) room in
+    let size : 136 - length rest % 136 ≡ suc k = omega arith in
+    rw (e, zeros, padded_bytes rest, size) (marked_by rest k (omega arith))

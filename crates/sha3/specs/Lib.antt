@@ -1,2 +1,1 @@
 pub mod Sponge
-pub mod Steps

@@ -11,17 +11,11 @@ ghost use Rattle.sound_words.specs.Faults.{fault_of};
 fn fault(last: u32, word: u32) -> u32
     ensures { result ≡ fault_of (is_absorb last) word }
 {
-    if words::same_kind(last, word) {
-        return 1;
-    }
-    if words::length_of(word) == 0 {
-        return 1;
-    }
-    0
+    u32::from(words::same_kind(last, word) || words::length_of(word) == 0)
 }
 
-// Whether kinds alternate from ABSORB, and lengths are at least 1. Faults are counted to the end, since the compiler takes four words at a time in a loop
-// that nothing leaves early.
+// Whether kinds alternate from ABSORB, and lengths are at least 1. Faults are counted to the end, since the compiler
+// takes four words at a time in a loop that nothing leaves early.
 fn alternate(words: &[u32]) -> bool
     requires { length words.now ≤ 64 }
     ensures { result ≡ alternate true words.now and all (λ w. leb 1 (length_of w)) words.now }
@@ -29,10 +23,9 @@ fn alternate(words: &[u32]) -> bool
     // a SQUEEZE, so that the first word has to be ABSORB
     let mut last: u32 = 0;
     let mut faults: u32 = 0;
-    for i in 0..words.len() {
-        let word = words[i];
-        faults += fault(last, word);
-        last = word;
+    for word in words {
+        faults += fault(last, *word);
+        last = *word;
     }
     faults == 0
 }
@@ -41,38 +34,22 @@ fn alternate(words: &[u32]) -> bool
 pub fn is_sound(words: &[u32]) -> bool
     ensures { result ≡ sound_words words.now }
 {
-    let n = words.len();
-    if n < 1 {
-        return false;
-    }
-    if n > pattern::MAX_WORDS {
-        return false;
-    }
-    alternate(words)
+    (1..=pattern::MAX_WORDS).contains(&words.len()) && alternate(words)
 }
 
 // Whether all are 0, as unused words have to be.
 fn all_zero(words: &[u32]) -> bool
     ensures { result ≡ all (λ w. eqb w 0) words.now }
 {
-    for i in 0..words.len() {
-        if words[i] != 0 {
-            return false;
-        }
-    }
-    true
+    words.iter().all(|word| *word == 0)
 }
 
 // Whether places hold so many sound words, and zeros behind them.
 pub fn places_sound(places: &[u32], count: u32) -> bool
     ensures { result ≡ sound_places places.now count }
 {
-    let n = count as usize;
-    if n > places.len() {
+    let Some((used, unused)) = places.split_at_checked(count as usize) else {
         return false;
-    }
-    if !is_sound(&places[..n]) {
-        return false;
-    }
-    all_zero(&places[n..])
+    };
+    is_sound(used) && all_zero(unused)
 }

@@ -1,7 +1,7 @@
 -- One element absorbed or squeezed, by the parts of the sponge, for any parameters of the permutation.
 -- Assumes nothing.
-use mathlib.Core.Path.{◌≡◌, refl, ap, ◌∙◌}
-use mathlib.Core.Bool.{true}
+use mathlib.Core.Path.{◌≡◌, refl, sym, ap, ◌∙◌}
+use mathlib.Core.Bool.{true, false}
 use mathlib.Core.List.{List}
 use Prim.Native.Nat.{ℕ, ◌+◌, ◌%◌, ◌≤◌, ◌<◌}
 use native.Mathlib.Nat.{mod-lt, add-zero}
@@ -13,12 +13,12 @@ use Rattle.basics.specs.Logic.{when◌then◌else◌, all}
 use Rattle.basics.specs.Lists.{is_below, Below}
 use Rattle.basics.specs.Figures.{rate}
 use Rattle.basics.proofs.Below.{below_at}
-use Rattle.basics.proofs.Cases.{by, cases, all_set}
+use Rattle.basics.proofs.Cases.{by, cases, all_set, if_true, if_false}
 use Rattle.poseidon.specs.Permutation.{Parameters}
 use Rattle.poseidon.proofs.Bounds.{permutation_reduced}
 use Rattle.sponge.specs.Sponge.{sponge, outer, ready_to_absorb, absorb_element, ready_to_squeeze, squeezed_element, squeeze_element}
 use Rattle.sponge.specs.Steps.{state_for, permutations_for, state_with, absorb_for}
-use Rattle.sponge.specs.declared.Sponge.{Sponge}
+use Rattle.sponge.specs.Sponge.{Sponge}
 
 pub at_most_one : (n : ℕ) → permutations_for n ≤ 1
 unfolding permutations_for
@@ -57,6 +57,30 @@ module _ (F : Parameters) (s : List ℕ) (a q n : ℕ) where
       cases (eqb q rate)
       (λ e. let at-0 : q % rate ≡ 0 = omega (arith, eqb-true q rate e) in rw (e, at-0) refl)
       λ e. rw e refl
+
+-- ---- the code's steps: the state is permuted where it has to be, and then an element goes in or comes out
+
+module _ (F : Parameters) (s t : List ℕ) (a q n : ℕ) where
+  pub absorbed : (x y : ℕ) → n ≡ permutations_for a → t ≡ state_for F a s → y ≡ (get_or t (outer a) 0 + x) % F.modulus
+      → sponge (set t (outer a) y) (outer a + 1) rate n ≡ absorb_element F (sponge s a q 0) x
+  unfolding state_with
+  absorbed x y counted permuted added =
+      let none : 0 + permutations_for a ≡ permutations_for a = omega arith in
+      rw (added, permuted, counted) (sym (rw none at (absorb_parts F s a q 0 x)))
+
+  pub squeezed : (a' q' : ℕ) → n ≡ permutations_for q → t ≡ state_for F q s → a' ≡ absorb_for q a → q' ≡ q
+      → (sponge t a' (outer q' + 1) n ≡ squeeze_element F (sponge s a q 0)) × (get_or t (outer q') 0 ≡ squeezed_element F (sponge s a q 0))
+  squeezed a' q' counted permuted moved same =
+      let none : 0 + permutations_for q ≡ permutations_for q = omega arith in
+      rw (permuted, counted, moved, same) (sym (rw none at (squeeze_parts F s a q 0)), sym (squeezed_parts F s a q 0))
+
+pub moved_on : (q a : ℕ) → eqb q rate ≡ true → 0 ≡ absorb_for q a
+unfolding absorb_for
+moved_on q a e = sym (if_true _ _ _ e)
+
+pub stays : (q a : ℕ) → eqb q rate ≡ false → a ≡ absorb_for q a
+unfolding absorb_for
+stays q a e = sym (if_false _ _ _ e)
 
 -- ---- what is squeezed is reduced
 

@@ -4,7 +4,7 @@
 use mathlib.Core.Path.{◌≡◌, refl, sym, ap, ap₂, ◌∙◌}
 use mathlib.Core.List.{List, [], ◌∷◌, ◌++◌, append-nil}
 use Prim.Native.Nat.{ℕ, zero, suc, ◌+◌, ◌≤◌, ◌<◌}
-use native.Mathlib.Nat.{add_assoc}
+use native.Mathlib.Nat.{add_assoc, add-zero}
 use native.Mathlib.Omega.{arith}
 use lib.ListN.{length, set, drop_of_length-le}
 use Rattle.basics.specs.Lists.{placed}
@@ -13,7 +13,9 @@ use Rattle.basics.proofs.Placed.{placed_length, placed_set, placed_start}
 use Rattle.poseidon.specs.Permutation.{Parameters}
 use Rattle.sponge.specs.Sponge.{sponge, outer, absorb_element, squeeze_element, squeezed_element, absorb_elements, squeeze_elements, squeezed_elements}
 use Rattle.sponge.specs.Steps.{state_for, permutations_for, state_with, absorb_for}
-use Rattle.sponge.specs.declared.Sponge.{Sponge}
+use Rattle.sponge.specs.Sponge.{Sponge}
+use Rattle.sponge.specs.Counted as kept
+use Rattle.sponge.specs.declared.SpongeState.{SpongeState}
 use Rattle.sponge.proofs.Elements.{at_most_one, absorb_parts, squeeze_parts, squeezed_parts}
 
 module _ (F : Parameters) where
@@ -110,6 +112,25 @@ module _ (F : Parameters) where
       ap₂ (λ (y : ℕ) (ys : List ℕ). y ∷ ys) (squeezed_counted n s)
       (ap (λ (t : Sponge). squeezed_elements F t k) (squeeze_counted n s) ∙ elements_counted k n (squeeze_element F s))
 
+  -- one element more, where a call counts the permutations of that element alone
+
+  pub absorb_more : (n m : ℕ) (s t : SpongeState) (x : ℕ) → kept.counted t m ≡ absorb_element F (kept.counted s 0) x
+      → absorb_element F (kept.counted s n) x ≡ kept.counted t (n + m)
+  absorb_more n m s t x e =
+      let from : kept.counted s n ≡ counted n (kept.counted s 0) = ap (kept.counted s) (sym (add-zero n)) in
+      ap (λ (u : Sponge). absorb_element F u x) from ∙ absorb_counted n (kept.counted s 0) x ∙ ap (counted n) (sym e)
+
+  pub squeeze_more : (n m : ℕ) (s t : SpongeState) → kept.counted t m ≡ squeeze_element F (kept.counted s 0)
+      → squeeze_element F (kept.counted s n) ≡ kept.counted t (n + m)
+  squeeze_more n m s t e =
+      let from : kept.counted s n ≡ counted n (kept.counted s 0) = ap (kept.counted s) (sym (add-zero n)) in
+      ap (squeeze_element F) from ∙ squeeze_counted n (kept.counted s 0) ∙ ap (counted n) (sym e)
+
+  pub squeezed_more : (n : ℕ) (s : SpongeState) → squeezed_element F (kept.counted s 0) ≡ squeezed_element F (kept.counted s n)
+  squeezed_more n s =
+      let from : kept.counted s n ≡ counted n (kept.counted s 0) = ap (kept.counted s) (sym (add-zero n)) in
+      sym (ap (squeezed_element F) from ∙ squeezed_counted n (kept.counted s 0))
+
   -- ---- at most one permutation an element
 
   one_absorbed : (s : Sponge) (x : ℕ) → (absorb_element F s x).permutations ≤ s.permutations + 1
@@ -121,6 +142,12 @@ module _ (F : Parameters) where
   one_squeezed s =
       let parts = squeeze_parts F s.state s.absorb_position s.squeeze_position s.permutations in
       rw parts (omega (arith, at_most_one s.squeeze_position))
+
+  pub absorb_at_most_one : (m : ℕ) (s t : SpongeState) (x : ℕ) → kept.counted t m ≡ absorb_element F (kept.counted s 0) x → m ≤ 1
+  absorb_at_most_one m s t x e = let count = ap (λ (u : Sponge). u.permutations) e in omega (arith, one_absorbed (kept.counted s 0) x)
+
+  pub squeeze_at_most_one : (m : ℕ) (s t : SpongeState) → kept.counted t m ≡ squeeze_element F (kept.counted s 0) → m ≤ 1
+  squeeze_at_most_one m s t e = let count = ap (λ (u : Sponge). u.permutations) e in omega (arith, one_squeezed (kept.counted s 0))
 
   pub absorb_bound : (xs : List ℕ) (s : Sponge) → (absorb_elements F s xs).permutations ≤ s.permutations + length xs
   unfolding absorb_elements

@@ -1,2 +1,3 @@
 pub mod Sponge
 pub mod Steps
+pub mod Counted

@@ -4,7 +4,13 @@ use Rattle.std.specs.Prelude.{List, [], ◌∷◌, ℕ, zero, suc, ◌+◌, ◌%
 use Rattle.basics.specs.Logic.{when◌then◌else◌}
 use Rattle.basics.specs.Figures.{rate}
 use Rattle.poseidon.specs.Permutation.{Parameters, permutation}
-use Rattle.sponge.specs.declared.Sponge.{Sponge}
+
+-- the state, both positions, and a count of permutations
+pub record Sponge : Type 0 where
+  pub state : List ℕ
+  pub absorb_position : ℕ
+  pub squeeze_position : ℕ
+  pub permutations : ℕ
 
 -- a sponge of its parts: the state, the absorb and the squeeze position, and how many permutations are counted
 abbrev pub sponge : List ℕ → ℕ → ℕ → ℕ → Sponge

@@ -13,10 +13,6 @@ state_for F position state = when eqb position rate then permutation F state els
 unfoldable pub permutations_for : ℕ → ℕ
 permutations_for position = when eqb position rate then 1 else 0
 
--- a state with an element added at a position
-unfoldable pub with_element : Parameters → ℕ → List ℕ → ℕ → List ℕ
-with_element F position state x = set state (outer position) ((get_or state (outer position) 0 + x) % F.modulus)
-
 -- the state with an element added at a position, permuted first where that is 8
 unfoldable pub state_with : Parameters → ℕ → List ℕ → ℕ → List ℕ
 state_with F position state x =

@@ -22,7 +22,7 @@ use Rattle.words.specs.Words.{Phase, phase_of, word_of}
 use Rattle.pattern.specs.Pattern.{phases, merged_words, sound_words}
 use Rattle.pattern.specs.Opening.{Opening, opening, max_separator, opening_number, with_words}
 use Rattle.tag.specs.TagString.{is_form, word_bytes, tail_of, string_of, tag_string, word_at, words_of, body_of, length_in, words_part, separator_part, sound_bytes, tail_missing, read_number, read_words, words_read, read_separator}
-use Rattle.pattern.specs.declared.WordList.{WordList}
+use Rattle.pattern.specs.Opening.{WordList}
 use Rattle.tag.proofs.WordBytes.{length_word_bytes}
 use Rattle.pattern.proofs.Answers.{words_used}
 use Rattle.pattern.proofs.StartCheck.{passed_rows, fit}

@@ -19,7 +19,7 @@ use Rattle.basics.proofs.Fill.{length_tabulate}
 use Rattle.pattern.specs.Pattern.{sound_words}
 use Rattle.pattern.specs.Opening.{with_words, answer_with}
 use Rattle.tag.specs.TagString.{is_form, word_at, words_of, body_of, length_in, words_part, separator_part, sound_bytes, body_rows, tail_missing, read_rows, read_number, read_words, read_separator, separator_start}
-use Rattle.pattern.specs.declared.WordList.{WordList}
+use Rattle.pattern.specs.Opening.{WordList}
 use Rattle.pattern.proofs.Given.{given_accepted, given_refused, answer_accepted, answer_refused}
 use Rattle.pattern.proofs.Soundness.{too_many}
 

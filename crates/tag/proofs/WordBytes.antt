@@ -2,29 +2,34 @@
 -- Assumes nothing.
 use mathlib.Core.Path.{◌≡◌, refl, sym, ap, subst, ◌∙◌}
 use mathlib.Core.List.{List, [], ◌∷◌, ◌++◌, append_assoc, append-nil}
-use Prim.Native.Nat.{ℕ, suc, ◌+◌, ◌*◌, ◌/◌, ◌%◌, ◌≤◌, ◌<◌}
+use Prim.Native.Nat.{ℕ, ◌+◌, ◌*◌, ◌/◌, ◌≤◌, ◌<◌}
 use native.Mathlib.Numerals.{add-one}
 use native.Mathlib.Omega.{arith}
-use lib.ListN.{length, get_or, take, set, length-append}
-use lib.Seq.{length-take-le, take-suc, sets-eq}
+use lib.ListN.{length, get_or, take, drop, length-append}
+use lib.Seq.{length-take-le, take-length, take-suc}
+use borrow.Rule.Slice.PartMut.{put_mid}
+use Rattle.std.specs.Int.{w32, to_be_bytes}
+use Rattle.std.proofs.lemmas.Slice.{put_mid-paste}
 use Rattle.basics.specs.Lists.{placed}
 use Rattle.basics.specs.Digits.{digits}
 use Rattle.basics.proofs.Placed.{Begins, begins_more}
 use Rattle.basics.proofs.Positional.{length_digits}
 use Rattle.tag.specs.TagString.{word_bytes}
 
--- four stores of a word's bytes
-pub four_stores : (s : List ℕ) (at w : ℕ) → at + 4 ≤ length s
-    → set (set (set (set s at (w / 16777216 % 256)) (at + 1) (w / 65536 % 256)) (at + 2) (w / 256 % 256)) (at + 3) (w % 256)
-    ≡ placed s at (digits 256 4 w)
-unfolding digits placed
-four_stores s at w h =
-    let e1 : at + 1 ≡ suc at = omega arith in
-    let e2 : at + 2 ≡ suc (suc at) = omega arith in
-    let e3 : at + 3 ≡ suc (suc (suc at)) = omega arith in
+-- a text copied to a part of a buffer
+pub part_copied : (buffer text : List ℕ) (at k : ℕ) → k ≡ length text → put_mid at k buffer text ≡ placed buffer at text
+unfolding placed
+part_copied buffer text at k e =
+    put_mid-paste at k buffer text text (length text) refl (sym e) refl
+    ∙ ap (λ (l : List ℕ). take at buffer ++ l ++ drop (at + length text) buffer) (take-length text)
+
+-- a word's bytes, as the library has them
+pub bytes_of_word : (w : ℕ) → to_be_bytes w32 w ≡ digits 256 4 w
+unfolding digits
+bytes_of_word w =
     let d2 : w / 65536 ≡ w / 256 / 256 = omega arith in
     let d3 : w / 16777216 ≡ w / 256 / 256 / 256 = omega arith in
-    rw (e1, e2, e3, d2, d3) (sets-eq (w / 256 / 256 / 256 % 256 ∷ w / 256 / 256 % 256 ∷ w / 256 % 256 ∷ w % 256 ∷ []) s at h)
+    rw (d2, d3)
 
 pub length_word_bytes : (ws : List ℕ) → length (word_bytes ws) ≡ 4 * length ws
 unfolding word_bytes

@@ -20,7 +20,7 @@ use Rattle.pattern.specs.Opening.{Opening, word_rows, opening_rows, opening_numb
 use Rattle.pattern.proofs.Given.{given_accepted, given_refused}
 use Rattle.pattern.proofs.StartCheck.{passed_rows, few_words}
 use Rattle.tag.specs.TagString.{is_form, word_bytes, tail_of, max_string, string_of, tag_string, buffer_rows, buffer_number, write_rows, write_number, written_with, buffer_with, string_written, string_buffer, written, buffer_after}
-use Rattle.tag.specs.declared.Written.{Written}
+use Rattle.tag.specs.TagString.{Written}
 use Rattle.tag.proofs.WordBytes.{length_word_bytes}
 use Rattle.tag.proofs.Forms.{tail_long, tail_short}
 

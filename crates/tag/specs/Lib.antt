@@ -1,2 +1,4 @@
 pub mod TagString
+pub mod Forms
 pub mod Elements
+pub mod Answers

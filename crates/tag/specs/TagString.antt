@@ -6,9 +6,7 @@ use Rattle.basics.specs.Digits.{digits, number}
 use Rattle.basics.specs.Numbers.{accepted, separator_too_long, buffer_too_short, not_tag_string, form_unknown}
 use Rattle.basics.specs.Refusals.{Row, ◌gets◌⨾◌, first_number}
 use Rattle.pattern.specs.Pattern.{max_words, merged_words, sound_words}
-use Rattle.pattern.specs.Opening.{Opening, max_separator, opening_rows, given, answer_with}
-use Rattle.pattern.specs.declared.WordList.{WordList}
-use Rattle.tag.specs.declared.Written.{Written}
+use Rattle.pattern.specs.Opening.{Opening, WordList, max_separator, opening_rows, given, answer_with}
 
 -- "a form number, 1 for today's string", and 2 for the other
 unfoldable pub is_form : ℕ → Bool
@@ -52,6 +50,11 @@ write_rows form o buffer = not (is_form form) gets form_unknown ⨾ opening_rows
 -- the number that writing gets
 unfoldable pub write_number : ℕ → Opening → List ℕ → ℕ
 write_number form o buffer = first_number (write_rows form o buffer)
+
+-- a number, and how many bytes are written
+pub record Written : Type 0 where
+  pub number : ℕ
+  pub length : ℕ
 
 -- what writing a string answers: the number, and how many bytes were written, "none when refused"
 unfoldable pub written_with : ℕ → List ℕ → Written

@@ -1,7 +1,7 @@
 -- Where the separator lies in the string.
 -- Assumes nothing.
 use mathlib.Core.Path.{◌≡◌, sym, ap, ap₂, ◌∙◌}
-use mathlib.Core.List.{List}
+use mathlib.Core.List.{List, []}
 use mathlib.Core.Logic.{◌≢◌}
 use Prim.Native.Nat.{ℕ, ◌+◌, ◌-◌, ◌*◌, ◌≤◌}
 use native.Mathlib.Omega.{arith}
@@ -11,11 +11,16 @@ use lib.ListN.{length, take, drop}
 use lib.Seq.{length-take-le, take-add, drop_at}
 use Rattle.basics.specs.Numbers.{accepted}
 use Rattle.basics.proofs.Cases.{cases}
-use Rattle.pattern.specs.declared.WordList.{WordList}
+use Rattle.std.specs.Prelude.{Err}
+use Rattle.basics.specs.Answers.{number_of}
+use Rattle.basics.specs.declared.Refusal.{Refusal}
+use Rattle.pattern.specs.Opening.{WordList, with_words}
+use Rattle.basics.proofs.Refused.{refusal_some}
 use Rattle.tag.specs.TagString.{body_of, length_in, separator_part, read_number, read_words, read_separator, separator_start}
 use Rattle.tag.proofs.Forms.{body_front, body_long}
 use Rattle.tag.proofs.Reading.{number_read, accepted_string, separator_refused, separator_accepted, start_refused, start_accepted, part_long, start_by_count, separator_long}
-use Rattle.tag_reader.specs.Parts.{parts_read}
+use Rattle.tag_reader.specs.Parts.{PartsRead, parts_read}
+use Rattle.tag_reader.specs.Answers.{parts_answer}
 
 -- a part of a list's front is a part of the list
 part_of_front : (s : List ℕ) (k m : ℕ) → k + m ≤ length s → drop k (take (k + m) s) ≡ take m (drop k s)
@@ -85,30 +90,23 @@ module _ (form : ℕ) (s : List ℕ) (n : ℕ) where
           length = sym (none refused) i;
         }
 
-    module _ (a : r.number ≡ accepted) where
-      accepts : read_number form s n ≡ accepted
-      accepts = number_read form s n r e ∙ a
+    pub accepted_parts : r.number ≡ accepted
+        → record { number = r.number; words = r.words; count = r.count; start = 4 * r.count; length = length_in form s n } ≡ parts_read form s n
+    unfolding parts_read
+    accepted_parts a =
+        let accepts : read_number form s n ≡ accepted = number_read form s n r e ∙ a in
+        let begin : 4 * r.count ≡ start =
+        ap (λ (m : WordList). 4 * m.count) e ∙ start_by_count form s n accepts ∙ sym (start_accepted form s n accepts) in
+        let rest : length_in form s n ≡ size = sym (separator_long form s n accepts) in
+        λ i. record { number = (e i).number; words = (e i).words; count = (e i).count; start = begin i; length = rest i }
 
-      begin : 4 * r.count ≡ start
-      begin = ap (λ (m : WordList). 4 * m.count) e ∙ start_by_count form s n accepts ∙ sym (start_accepted form s n accepts)
+  -- a refusal
+  pub refused_with : (refusal : Refusal) → read_words form s n ≡ with_words (number_of refusal) [] → parts_answer s (Err refusal) ≡ parts_read form s n
+  unfolding parts_answer with_words
+  refused_with refusal e = refused_parts (with_words (number_of refusal) []) (sym e) (refusal_some refusal)
 
-      pub words_inside : 4 * r.count ≤ length s
-      words_inside = omega (arith, begin, separator_inside)
-
-      -- by how many bytes precede the tail
-      module _ (ahead : ℕ) (b : ahead ≡ length (body_of form s)) where
-        pub words_ahead : 4 * r.count ≤ ahead
-        words_ahead = omega (arith, begin, b, sum accepts)
-
-        pub accepted_parts : record {
-          number = accepted;
-          words = r.words;
-          count = r.count;
-          start = 4 * r.count;
-          length = ahead - 4 * r.count;
-        } ≡ parts_read form s n
-        unfolding parts_read
-        accepted_parts =
-            let rest : ahead - 4 * r.count ≡ size = omega (arith, begin, b, sum accepts) in
-            let number = sym a ∙ ap (λ (m : WordList). m.number) e in
-            λ i. record { number = number i; words = (e i).words; count = (e i).count; start = begin i; length = rest i }
+  -- the words without the separator's place
+  pub words_alone : (p : PartsRead) → p ≡ parts_read form s n
+      → ◌≡◌ {A = WordList} (record { number = p.number; words = p.words; count = p.count }) (read_words form s n)
+  unfolding parts_read
+  words_alone p e = ap (λ (q : PartsRead). record { number = q.number; words = q.words; count = q.count }) e

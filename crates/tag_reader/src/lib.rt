@@ -3,22 +3,25 @@
 
 mod bytes;
 
-ghost use Rattle.std.specs.Prelude.{◌≡◌, false, ◌+◌, ◌-◌, ◌≤◌, length};
+ghost use Rattle.std.specs.Prelude.{◌≡◌, false, true, MatchResult, ◌+◌, ◌-◌, ◌≤◌, length};
+ghost use Rattle.basics.specs.declared.Refusal.TheVariants.{NotTagString};
 ghost use Rattle.basics.specs.Refusals.{first_number};
 ghost use Rattle.pattern.specs.Opening.{answer_with};
 ghost use Rattle.tag.specs.TagString.{words_of, body_of, length_in, words_part, body_rows, tail_missing, read_words, read_separator, separator_start};
+ghost use Rattle.tag.specs.Forms.{form_number};
+ghost use Rattle.pattern.specs.Answers.{words_answer};
 ghost use Rattle.tag_reader.specs.Parts.{parts_read};
+ghost use Rattle.tag_reader.specs.Answers.{parts_answer};
 ghost use Rattle.tag.specs.Elements.{tag_elements};
 
-use pattern::WordList;
+use basics::Refusal;
+use pattern::list::Words;
+use tag::Form;
 
-// What reading a tag string gives: the number, the merged words as `pattern::WordList` has them, and of the separator where it begins in the
-// string and its length. Refused, the separator is the empty part at the string's end.
+// What a tag string is made of: the merged words, and of the separator where it begins in the string and its length.
 #[derive(Clone, Copy)]
 pub struct Parts {
-    pub number: u32,
-    pub words: [u32; 64],
-    pub count: usize,
+    pub words: Words,
     pub start: usize,
     pub length: usize,
 }
@@ -32,122 +35,90 @@ fn words_length(body: &[u8], separator_length: usize) -> usize
 }
 
 // The merged words of what precedes the tail, where the separator has so many bytes.
-fn read_body(body: &[u8], separator_length: usize) -> WordList
-    ensures { result ≡ answer_with (first_number (body_rows body.now separator_length)) (words_of (words_part body.now separator_length)) }
+fn read_body(body: &[u8], separator_length: usize) -> Result<Words, Refusal>
+    ensures { words_answer result ≡ answer_with (first_number (body_rows body.now separator_length)) (words_of (words_part body.now separator_length)) }
 {
     if separator_length > pattern::MAX_SEPARATOR {
-        return pattern::refused(basics::SEPARATOR_TOO_LONG);
+        return Err(Refusal::SeparatorTooLong);
     }
     if body.len() < separator_length {
-        return pattern::refused(basics::NOT_TAG_STRING);
+        return Err(Refusal::NotTagString);
     }
     let length = words_length(body, separator_length);
     if length % 4 != 0 {
-        return pattern::refused(basics::NOT_TAG_STRING);
+        return Err(Refusal::NotTagString);
     }
     let count = length / 4;
     if count > pattern::MAX_WORDS {
-        return pattern::refused(basics::NOT_TAG_STRING);
+        return Err(Refusal::NotTagString);
     }
     let list = bytes::words_of(&body[..length]);
     if sound_words::is_sound(&list[..count]) {
-        return WordList {
-            number: basics::ACCEPTED,
-            words: list,
-            count,
-        };
+        return Ok(Words { words: list, count });
     }
-    pattern::refused(basics::NOT_TAG_STRING)
+    Err(Refusal::NotTagString)
 }
 
-// Whether the tail that the form asks for is missing.
-fn tail_missing(form: u32, string: &[u8]) -> bool
-    ensures { result ≡ tail_missing form string.now }
+// What precedes the tail, and the separator's length: by the tail where the form has one, and
+// otherwise the length given.
+fn split_tail(form: Form, string: &[u8], separator_length: usize) -> Result<(&[u8], usize), Refusal>
+    ensures { MatchResult result
+        (λ p. (tail_missing (form_number form) string.now ≡ false) × (p.0.now ≡ body_of (form_number form) string.now) ×
+        (p.1 ≡ length_in (form_number form) string.now separator_length))
+        (λ refusal. (tail_missing (form_number form) string.now ≡ true) × (refusal ≡ NotTagString)) }
 {
-    form == tag::FORM_2 && string.len() < 4
+    match form {
+        Form::One => Ok((string, separator_length)),
+        Form::Two => {
+            let (body, tail) = string.split_last_chunk().ok_or(Refusal::NotTagString)?;
+            Ok((body, u32::from_be_bytes(*tail) as usize))
+        }
+    }
 }
 
-// How many bytes precede the tail.
-fn body_length(form: u32, string: &[u8]) -> usize
-    requires { tail_missing form string.now ≡ false }
-    ensures { result ≡ length (body_of form string.now) }
+// The merged words of a tag string of a form, and the place of its separator. In form 1 that has
+// the given length; in form 2 the length is ignored.
+pub fn read_parts(form: u32, string: &[u8], separator_length: usize) -> Result<Parts, Refusal>
+    ensures { parts_answer string.now result ≡ parts_read form string.now separator_length }
 {
-    if form == tag::FORM_2 {
-        return string.len() - 4;
-    }
-    string.len()
-}
-
-// The separator's length: by the tail where there is one, and otherwise the length given.
-fn length_in(form: u32, string: &[u8], separator_length: usize) -> usize
-    requires { tail_missing form string.now ≡ false }
-    ensures { result ≡ length_in form string.now separator_length }
-{
-    if form == tag::FORM_2 {
-        return bytes::number_at(string, string.len() - 4) as usize;
-    }
-    separator_length
-}
-
-// The merged words of a tag string of a form. In form 1 its separator has the given length; in form 2 that is ignored.
-pub fn read(form: u32, string: &[u8], separator_length: usize) -> WordList
-    ensures { result ≡ read_words form string.now separator_length }
-{
-    if !tag::is_form(form) {
-        return pattern::refused(basics::FORM_UNKNOWN);
-    }
-    if tail_missing(form, string) {
-        return pattern::refused(basics::NOT_TAG_STRING);
-    }
-    let length = length_in(form, string, separator_length);
-    let end = body_length(form, string);
-    read_body(&string[..end], length)
-}
-
-// The same, with the place of the separator.
-pub fn read_parts(form: u32, string: &[u8], separator_length: usize) -> Parts
-    ensures { result ≡ parts_read form string.now separator_length }
-{
-    let merged = read(form, string, separator_length);
-    let words = merged.words;
-    if merged.number != basics::ACCEPTED {
-        return Parts {
-            number: merged.number,
-            words,
-            count: merged.count,
-            start: string.len(),
-            length: 0,
-        };
-    }
-    let start = 4 * merged.count;
-    Parts {
-        number: basics::ACCEPTED,
+    let form = Form::try_from(form)?;
+    let (body, length) = split_tail(form, string, separator_length)?;
+    let words = read_body(body, length)?;
+    Ok(Parts {
         words,
-        count: merged.count,
-        start,
-        length: body_length(form, string) - start,
-    }
+        start: 4 * words.count,
+        length,
+    })
 }
 
-// The separator of a tag string, as that part of the string itself, empty where `read` refuses. It lies in the string's memory, behind the words,
-// and on a refusal at the string's end.
+// The merged words of a tag string, without the place of the separator.
+pub fn read(form: u32, string: &[u8], separator_length: usize) -> Result<Words, Refusal>
+    ensures { words_answer result ≡ read_words form string.now separator_length }
+{
+    let parts = read_parts(form, string, separator_length)?;
+    Ok(parts.words)
+}
+
+// The separator of a tag string, as that part of the string itself, empty where `read` refuses.
+// It lies in the string's memory, behind the words, and on a refusal at the string's end.
 pub fn read_separator(form: u32, string: &[u8], separator_length: usize) -> &[u8]
     ensures { (result.now ≡ read_separator form string.now separator_length) ×
         (result.ref_ptr ≡ (string.entry.ref_ptr.0, separator_start form string.now separator_length + string.entry.ref_ptr.1)) }
 {
-    let parts = read_parts(form, string, separator_length);
-    let start = parts.start;
-    let end = start + parts.length;
-    &string[start..end]
+    match read_parts(form, string, separator_length) {
+        Ok(parts) => &string[parts.start..parts.start + parts.length],
+        Err(_) => &string[string.len()..],
+    }
 }
 
 // The eight elements of the tag: the digest's words, each cut to its low 30 bits.
 pub fn elements(digest: [u8; 32]) -> [u32; 8]
     ensures { result ≡ tag_elements digest }
 {
-    let mut out = [0u32; 8];
-    for k in 0..8 {
-        out[k] = bytes::word_at(&digest, k) & 0x3fff_ffff;
+    let mut elements = [0u32; 8];
+    let (chunks, _) = digest.as_chunks::<4>();
+    for (k, bytes) in chunks.iter().enumerate() {
+        elements[k] = u32::from_be_bytes(*bytes) & 0x3fff_ffff;
     }
-    out
+    elements
 }

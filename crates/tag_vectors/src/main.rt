@@ -1,93 +1,67 @@
-// Checks, writes, cuts and reads the patterns and tag strings of standard input, and prints the answers. tests/tags.py says how lines are
-// laid out; stdin is what it makes, and stdout what the second implementation answers to it, in Python, written from document 01 by
-// other hands (tests/oracle).
+// Checks, writes, cuts and reads the patterns and tag strings of standard input, and prints the answers. tests/tags.py
+// says how lines are laid out; stdin is what it makes, and stdout what the second implementation answers to it, in
+// Python, written from document 01 by other hands (tests/oracle).
 #![tactic(auto)]
 
 ghost use Rattle.std.specs.Prelude.{◌≤◌, ◌<◌, length};
 
+use basics::Refusal;
+use pattern::list::Words;
+
+// A number with one byte more behind it, without what 64 bits don't hold.
 fn shifted(value: u64, byte: u8) -> u64 {
-    value % 0x100_0000_0000_0000 * 256 + byte as u64
+    value % 0x100_0000_0000_0000 * 256 + u64::from(byte)
 }
 
-// The number of the first bytes, highest first.
-fn number(bytes: &[u8; 2048], count: usize) -> u64
-    requires { count ≤ 2048 }
-{
-    let mut value: u64 = 0;
-    for i in 0..count {
-        value = shifted(value, bytes[i]);
-    }
-    value
+// The number that bytes write, highest first.
+fn number(bytes: &[u8]) -> u64 {
+    bytes.iter().fold(0, |value, byte| shifted(value, *byte))
 }
 
-fn print_hex(value: u32, width: usize) {
-    io::print_hex(1, value as u64, width);
+// A sum with one word more, without what 64 bits don't hold.
+fn added(sum: u64, word: u32) -> u64 {
+    sum % 0x1_0000_0000_0000 + u64::from(word)
 }
 
-fn print_byte(byte: u8) {
-    print_hex(byte as u32, 2);
+// The sum of words.
+fn sum(words: &[u32]) -> u64 {
+    words.iter().fold(0, |sum, word| added(sum, *word))
 }
 
-// The first bytes of a buffer.
-fn print_first(buffer: &[u8; 1024], count: usize) {
-    for i in 0..1024 {
-        if i < count {
-            print_byte(buffer[i]);
-        }
-    }
-}
-
+// Bytes, two digits each.
 fn print_bytes(bytes: &[u8]) {
-    for i in 0..bytes.len() {
-        print_byte(bytes[i]);
+    for byte in bytes {
+        io::print_hex(1, u64::from(*byte), 2);
     }
 }
 
-fn print_elements(elements: &[u32; 8]) {
-    for i in 0..8 {
-        print_hex(elements[i], 8);
+// Words, eight digits each.
+fn print_words(words: &[u32]) {
+    for word in words {
+        io::print_hex(1, u64::from(*word), 8);
     }
 }
 
-// The first words.
-fn print_words(words: &[u32; 64], count: usize) {
-    for i in 0..64 {
-        if i < count {
-            print_hex(words[i], 8);
-        }
-    }
-}
-
+// A number, and a space behind it.
 fn print_number(number: u64) {
     io::print_decimal(1, number);
     io::write_all(1, b" ");
 }
 
-fn added(sum: u64, word: u32) -> u64 {
-    sum % 0x1_0000_0000_0000 + word as u64
-}
-
-// The sum of the words from a place on.
-fn sum_from(words: &[u32; 64], start: usize) -> u64 {
-    let mut sum: u64 = 0;
-    for i in 0..64 {
-        if start <= i {
-            sum = added(sum, words[i]);
-        }
-    }
-    sum
-}
-
-fn print_list(list: pattern::WordList) {
-    let words = list.words;
-    let count = list.count;
-    print_number(list.number as u64);
-    print_number(count as u64);
-    print_words(&words, count);
+// An answer's number, its words with how many they are, and the sum of the places that are not used.
+fn print_list(answer: Result<Words, Refusal>) {
+    print_number(u64::from(basics::number(&answer)));
+    let list = answer.unwrap_or(Words {
+        words: [0; 64],
+        count: 0,
+    });
+    print_number(list.count as u64);
+    print_words(list.as_slice());
     io::write_all(1, b" ");
-    io::print_decimal(1, sum_from(&words, count));
+    io::print_decimal(1, sum(&list.words[list.count..]));
 }
 
+// What checking a pattern answers, what writing its tag string does, and the buffer then.
 fn print_write(form: u32, words: &[u32], separator: &[u8], size: usize)
     requires { size ≤ 1024 }
 {
@@ -95,21 +69,25 @@ fn print_write(form: u32, words: &[u32], separator: &[u8], size: usize)
     io::write_all(1, b", ");
     let mut buffer = [0xa5u8; 1024];
     let written = tag::write(form, words, separator, &mut buffer[..size]);
-    print_number(written.number as u64);
-    print_number(written.length as u64);
-    print_first(&buffer, size);
+    print_number(u64::from(basics::number(&written)));
+    print_number(written.unwrap_or(0) as u64);
+    print_bytes(&buffer[..size]);
 }
 
+// What reading a tag string answers, and its separator, with the place where that lies.
 fn print_read(form: u32, string: &[u8], length: usize) {
     print_list(tag_reader::read(form, string, length));
     io::write_all(1, b", ");
-    let parts = tag_reader::read_parts(form, string, length);
-    print_number(parts.start as u64);
-    print_number(parts.length as u64);
+    let (start, size) = match tag_reader::read_parts(form, string, length) {
+        Ok(parts) => (parts.start, parts.length),
+        Err(_) => (string.len(), 0),
+    };
+    print_number(start as u64);
+    print_number(size as u64);
     print_bytes(tag_reader::read_separator(form, string, length));
 }
 
-// The place behind the line.
+// A line that asks for writing: its form, words, separator and the buffer's length. It gives the place behind the line.
 fn write_line(text: &[u8], at: usize) -> usize
     ensures { at ≤ result }
 {
@@ -119,20 +97,17 @@ fn write_line(text: &[u8], at: usize) -> usize
     let fourth = hex_fields::field_at(text, third.next);
     let form = hex_fields::words_of(&first.bytes);
     let words = hex_fields::words_of(&second.bytes);
-    let count = second.count / 4;
-    let separator = third.bytes;
-    let length = third.count;
-    let digits = fourth.bytes;
-    let size = number(&digits, fourth.count) % 1025;
+    let size = number(&fourth.bytes[..fourth.count]) % 1025;
     print_write(
         form[0],
-        &words[..count],
-        &separator[..length],
+        &words[..second.count / 4],
+        &third.bytes[..third.count],
         size as usize,
     );
     fourth.next
 }
 
+// A line that asks for reading: its form, string and separator's length. It gives the place behind the line.
 fn read_line(text: &[u8], at: usize) -> usize
     ensures { at ≤ result }
 {
@@ -140,57 +115,49 @@ fn read_line(text: &[u8], at: usize) -> usize
     let second = hex_fields::field_at(text, first.next);
     let third = hex_fields::field_at(text, second.next);
     let form = hex_fields::words_of(&first.bytes);
-    let string = second.bytes;
-    let count = second.count;
-    let digits = third.bytes;
-    let length = number(&digits, third.count);
-    print_read(form[0], &string[..count], length as usize);
+    let length = number(&third.bytes[..third.count]);
+    print_read(form[0], &second.bytes[..second.count], length as usize);
     third.next
 }
 
+// A line that asks for cutting words. It gives the place behind the line.
 fn cut_line(text: &[u8], at: usize) -> usize
     ensures { at ≤ result }
 {
     let first = hex_fields::field_at(text, at);
     let words = hex_fields::words_of(&first.bytes);
-    let count = first.count / 4;
-    print_list(cutting::cut(&words[..count]));
+    print_list(cutting::cut(&words[..first.count / 4]));
     first.next
 }
 
+// A line that asks for the elements of a digest. It gives the place behind the line.
 fn elements_line(text: &[u8], at: usize) -> usize
     ensures { at ≤ result }
 {
     let first = hex_fields::field_at(text, at);
     let mut digest = [0u8; 32];
-    for i in 0..32 {
-        digest[i] = first.bytes[i];
-    }
-    let elements = tag_reader::elements(digest);
-    print_elements(&elements);
+    digest.copy_from_slice(&first.bytes[..32]);
+    print_words(&tag_reader::elements(digest));
     first.next
 }
 
+// The line at a place, which begins with what it asks for. It gives the place behind the line.
 fn print_line(text: &[u8], at: usize) -> usize
     requires at_in_bounds { at < length text.now }
     requires text_len_bound { length text.now ≤ 262144 }
     ensures { at < result }
 {
-    let kind = text[at];
     io::write_all(1, &text[at..at + 1]);
     io::write_all(1, b" ");
-    if kind == b'w' {
-        return write_line(text, at + 2);
+    match text[at] {
+        b'w' => write_line(text, at + 2),
+        b'r' => read_line(text, at + 2),
+        b'c' => cut_line(text, at + 2),
+        _ => elements_line(text, at + 2),
     }
-    if kind == b'r' {
-        return read_line(text, at + 2);
-    }
-    if kind == b'c' {
-        return cut_line(text, at + 2);
-    }
-    elements_line(text, at + 2)
 }
 
+// Each line of a text.
 fn print_lines(text: &[u8])
     requires { length text.now ≤ 262144 }
 {
@@ -201,6 +168,7 @@ fn print_lines(text: &[u8])
     }
 }
 
+// Reads standard input, and answers it.
 fn main() {
     let mut text = [0u8; 262144];
     let size = io::read_full(0, &mut text);

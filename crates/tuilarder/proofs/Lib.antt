@@ -1,2 +1,1 @@
-pub mod Lent
-pub mod LentSession
+pub mod AnswerNumbers

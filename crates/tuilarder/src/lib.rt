@@ -1,10 +1,11 @@
-// The static library for C and Rust: each function makes one call of another crate, and stores what that gives where the caller lends room
-// for it. ABSORB, SQUEEZE and FINISH are the caller's own record's: the step by value, and the record that it leaves stored back.
+// The static library for C and Rust: each function makes one call of another crate, stores what that gives where the caller lends room for it, and
+// answers with the number of what it answers.
 #![tactic(auto)]
 
 ghost use Rattle.std.specs.Prelude.{◌≡◌, length};
 ghost use Rattle.sha3.specs.Sponge.{sha3};
 ghost use Rattle.cutting.specs.Cutting.{cut_answer};
+ghost use Rattle.pattern.specs.Answers.{words_answer};
 ghost use Rattle.pattern.specs.Opening.{opening};
 ghost use Rattle.tag.specs.TagString.{written as writing, buffer_after, read_words, read_separator, separator_start as start_of_separator};
 ghost use Rattle.poseidon.specs.Permutation.{permuted};
@@ -14,7 +15,26 @@ ghost use Rattle.seal.specs.Seal.{context, leaving, seal_note, open_note};
 ghost use Rattle.session.specs.Calls.{giving, start, absorb, squeeze, squeeze_buffer, finish};
 ghost use Rattle.tuilarder.specs.Layout.{layout};
 
+use basics::{ACCEPTED, Refusal};
+use pattern::list::Words;
+use seal::NoteContext;
 use session::Session;
+
+// Stores the words that an answer gives, and how many they are; zeros where it is a refusal.
+fn store_words(answer: &Result<Words, Refusal>, words: &mut [u32; 64], count: &mut usize)
+    ensures { (words.new ≡ (words_answer answer.now).words) × (count.new ≡ (words_answer answer.now).count) }
+{
+    match answer {
+        Ok(list) => {
+            *words = list.words;
+            *count = list.count;
+        }
+        Err(_) => {
+            *words = [0; 64];
+            *count = 0;
+        }
+    }
+}
 
 // START into a lent record, whatever that held.
 #[unsafe(no_mangle)]
@@ -27,9 +47,16 @@ pub extern "C" fn tuilarder_start(
 ) -> u32
     ensures { giving result «record».new ≡ start field form (opening words.now separator.now) }
 {
-    let opened = Session::start(field, form, words, separator);
-    *record = opened.session;
-    opened.number
+    match Session::start(field, form, words, separator) {
+        Ok(opened) => {
+            *record = opened;
+            ACCEPTED
+        }
+        Err(refusal) => {
+            *record = Session::wiped();
+            u32::from(refusal)
+        }
+    }
 }
 
 // ABSORB on a lent record.
@@ -37,9 +64,7 @@ pub extern "C" fn tuilarder_start(
 pub extern "C" fn tuilarder_absorb(record: &mut Session, elements: &[u32]) -> u32
     ensures { giving result «record».new ≡ absorb «record».old elements.now }
 {
-    let answer = (*record).absorb_step(elements);
-    *record = answer.session;
-    answer.number
+    basics::number(&record.absorb(elements))
 }
 
 // SQUEEZE on a lent record.
@@ -48,9 +73,7 @@ pub extern "C" fn tuilarder_squeeze(record: &mut Session, out: &mut [u32]) -> u3
     ensures { (giving result «record».new ≡ squeeze «record».old (length out.old)) ×
         (out.new ≡ squeeze_buffer «record».old out.old) }
 {
-    let answer = (*record).squeeze_step(out);
-    *record = answer.session;
-    answer.number
+    basics::number(&record.squeeze(out))
 }
 
 // FINISH of a lent record.
@@ -58,9 +81,7 @@ pub extern "C" fn tuilarder_squeeze(record: &mut Session, out: &mut [u32]) -> u3
 pub extern "C" fn tuilarder_finish(record: &mut Session) -> u32
     ensures { giving result «record».new ≡ finish «record».old }
 {
-    let answer = (*record).finish_step();
-    *record = answer.session;
-    answer.number
+    basics::number(&record.finish())
 }
 
 // One permutation in place, in the field that a number names. Answers 0; or 18 where it names none, or 10 where an element is p or more, with the
@@ -70,10 +91,13 @@ pub extern "C" fn tuilarder_permute(field: u32, state: &mut [u32; 24]) -> u32
     ensures { (result ≡ (permuted field state.old).number) ×
         (state.new ≡ (permuted field state.old).state) }
 {
-    let permutation = poseidon::permute(field, *state);
-    let permuted = permutation.state;
-    *state = permuted;
-    permutation.number
+    match poseidon::permute(field, *state) {
+        Ok(permuted) => {
+            *state = permuted;
+            ACCEPTED
+        }
+        Err(refusal) => u32::from(refusal),
+    }
 }
 
 // The round constants of the field that a number names, from the list's start on, zeros behind them, and how many they are. Refused, with 18, the
@@ -88,11 +112,19 @@ pub extern "C" fn tuilarder_generate(
         (constants.new ≡ (generation field).constants) ×
         (count.new ≡ (generation field).count) }
 {
-    let generated = generator::generate(field);
-    let found = generated.constants;
-    *constants = found;
-    *count = generated.count;
-    generated.number
+    match generator::generate(field) {
+        Ok(generated) => {
+            let found = generated.constants;
+            *constants = found;
+            *count = generated.count;
+            ACCEPTED
+        }
+        Err(refusal) => {
+            *constants = [0; 744];
+            *count = 0;
+            u32::from(refusal)
+        }
+    }
 }
 
 // The tag string of a pattern and a separator in a form, from the buffer's start on, with how many bytes it has. Refused, it writes no byte, and
@@ -110,8 +142,8 @@ pub extern "C" fn tuilarder_write_tag(
         (out.new ≡ buffer_after form (opening words.now separator.now) out.old) }
 {
     let string = tag::write(form, words, separator, out);
-    *written = string.length;
-    string.number
+    *written = string.unwrap_or(0);
+    basics::number(&string)
 }
 
 // The merged words of a tag string of a form, and how many they are; and of its separator where it begins in the string, and its length. In form 1
@@ -133,12 +165,22 @@ pub extern "C" fn tuilarder_read_tag(
         (separator_count.new ≡ length (read_separator form string.now separator_length)) }
 {
     let parts = tag_reader::read_parts(form, string, separator_length);
-    let merged_words = parts.words;
-    *words = merged_words;
-    *count = parts.count;
-    *separator_start = parts.start;
-    *separator_count = parts.length;
-    parts.number
+    match parts {
+        Ok(parts) => {
+            let merged_words = parts.words.words;
+            *words = merged_words;
+            *count = parts.words.count;
+            *separator_start = parts.start;
+            *separator_count = parts.length;
+        }
+        Err(_) => {
+            *words = [0; 64];
+            *count = 0;
+            *separator_start = string.len();
+            *separator_count = 0;
+        }
+    }
+    basics::number(&parts)
 }
 
 // Words cut into calls of at most 16,777,216 elements, and how many they are. Where 64 do not suffice, it gives zeros and number 1.
@@ -149,10 +191,8 @@ pub extern "C" fn tuilarder_cut(words: &[u32], calls: &mut [u32; 64], count: &mu
         (count.new ≡ (cut_answer words.now).count) }
 {
     let cut = cutting::cut(words);
-    let cut_words = cut.words;
-    *calls = cut_words;
-    *count = cut.count;
-    cut.number
+    store_words(&cut, calls, count);
+    basics::number(&cut)
 }
 
 // The SHA3-256 digest of any string of bytes, the empty one too, into 32 lent bytes.
@@ -160,8 +200,7 @@ pub extern "C" fn tuilarder_cut(words: &[u32], calls: &mut [u32; 64], count: &mu
 pub extern "C" fn tuilarder_sha3_256(data: &[u8], out: &mut [u8; 32])
     ensures { out.new ≡ sha3 «data».now }
 {
-    let hashed = sha3::sha3_256(data);
-    *out = hashed;
+    *out = sha3::sha3_256(data);
 }
 
 // Whether a table of owners is accepted, and what comes with the answer's number: with 15 the first row at fault, counted from 1, with 16 the
@@ -171,9 +210,16 @@ pub extern "C" fn tuilarder_check_owners(table: &[u8], place: &mut u32) -> u32
     ensures { (result ≡ (checked (table_of table.now)).number) ×
         (place.new ≡ (checked (table_of table.now)).place) }
 {
-    let checked = owners::check(table);
-    *place = checked.place;
-    checked.number
+    match owners::check(table) {
+        Ok(()) => {
+            *place = 0;
+            ACCEPTED
+        }
+        Err(fault) => {
+            *place = fault.place();
+            u32::from(Refusal::from(fault))
+        }
+    }
 }
 
 // The product line that owns a separator. The value is the line with 0, what `tuilarder_check_owners` gives with 15 and 16, and 0 with 17.
@@ -183,8 +229,11 @@ pub extern "C" fn tuilarder_owner(table: &[u8], separator: &[u8], value: &mut u3
         (value.new ≡ value_of (asked (table_of table.now) separator.now)) }
 {
     let asked = owners::owner(table, separator);
-    *value = owners::value(asked);
-    asked.number
+    *value = owners::value(&asked);
+    match asked {
+        Ok(_) => ACCEPTED,
+        Err(fault) => u32::from(Refusal::from(fault)),
+    }
 }
 
 // A plain text of so many blocks sealed: its cipher elements and then the mark, which is the authentication tag, in a buffer that has as many places.
@@ -203,7 +252,14 @@ pub extern "C" fn tuilarder_seal(
         seal_note (context field key.now nonce.now separator.now lengths.now) plain.now
         out.old }
 {
-    seal::seal(field, key, nonce, separator, lengths, plain, out)
+    let context = NoteContext {
+        field,
+        key,
+        nonce,
+        separator,
+        lengths,
+    };
+    basics::number(&context.seal(plain, out))
 }
 
 // The blocks of a note that was sealed, its cipher elements with the mark behind them, in a buffer that has as many places as the blocks have elements. With
@@ -222,7 +278,14 @@ pub extern "C" fn tuilarder_open(
         open_note (context field key.now nonce.now separator.now lengths.now) cipher.now
         out.old }
 {
-    seal::open(field, key, nonce, separator, lengths, cipher, out)
+    let context = NoteContext {
+        field,
+        key,
+        nonce,
+        separator,
+        lengths,
+    };
+    basics::number(&context.open(cipher, out))
 }
 
 // The version of these functions. It rises whenever one of them, or the record, changes for a caller.

@@ -2,12 +2,11 @@
 -- Assumes nothing.
 use mathlib.Core.Path.{◌≡◌, refl}
 use mathlib.Core.Bool.{Bool, true, false}
-use Prim.Native.Nat.{ℕ, ◌+◌, ◌/◌, ◌<◌}
+use Prim.Native.Nat.{ℕ, ◌+◌, ◌<◌}
 use native.Mathlib.Omega.{arith}
-use borrow.Author.Tests.{le-leb, lt-leb, leb-true, leb-false, eq-eqb, ne_eqb}
-use lib.Dec.{leb, eqb}
-use Rattle.basics.specs.Logic.{when◌then◌else◌, same}
-use Rattle.basics.proofs.Cases.{by, cases}
+use borrow.Author.Tests.{le-leb, lt-leb, leb-true, leb-false}
+use Rattle.basics.specs.Logic.{when◌then◌else◌}
+use Rattle.basics.proofs.Cases.{by}
 use Rattle.words.specs.Words.{is_absorb, length_of, Phase, phase_of, word_of}
 
 -- the two kinds apart
@@ -60,16 +59,3 @@ word_of_phase w h =
 pub length_below : (w : ℕ) → length_of w < 2147483648
 unfolding length_of
 length_below w = omega arith
-
--- the top bits tell whether two words are of one kind
-pub same_kinds : (a b : ℕ) → a < 4294967296 → b < 4294967296 → eqb (a / 2147483648) (b / 2147483648) ≡ same (is_absorb a) (is_absorb b)
-unfolding is_absorb same
-same_kinds a b h k =
-    let top : ℕ = 2147483648 in
-    cases (leb top a)
-    (λ e. cases (leb top b)
-    (λ g. rw (e, g) (eq-eqb (a / top) (b / top) (omega (arith, leb-true top a e, leb-true top b g))))
-    λ g. rw (e, g) (ne_eqb (a / top) (b / top) (λ q. omega (arith, leb-true top a e, leb-false top b g))))
-    λ e. cases (leb top b)
-    (λ g. rw (e, g) (ne_eqb (a / top) (b / top) (λ q. omega (arith, leb-false top a e, leb-true top b g))))
-    λ g. rw (e, g) (eq-eqb (a / top) (b / top) (omega (arith, leb-false top a e, leb-false top b g)))

@@ -36,8 +36,8 @@ at_last piece i h = ap (λ (l : List ℕ). length (first_line l)) (drop_of_lengt
 pub loop-i-init : goal.loop-i-init
 loop-i-init c = (search rules, zero-add _)
 
-pub returns-then-piece-i-eq10 : goal.returns-then-piece-i-eq10
-returns-then-piece-i-eq10 c =
+pub returns-then-byte-eq10 : goal.returns-then-byte-eq10
+returns-then-byte-eq10 c =
     let at-loop = c.loop-i in
     let piece = c.args.piece.now in
     let none = at-newline piece at-loop.i (search rules) (search rules) in
@@ -55,4 +55,4 @@ returns c =
     let at-loop = c.loop-i in
     let piece = c.args.piece.now in
     let none = at_last piece at-loop.i (search rules) in
-    (omega (arith, at-loop.invariant.1), at-loop.invariant.0)
+    (omega (arith, at-loop.invariant.1, at-loop.invariant.0), search rules)

@@ -1,25 +1,15 @@
 -- `card_machine::decimal_value` meets its contract.
 -- Assumes nothing.
+use mathlib.Core.Path.{sym}
 use native.Mathlib.Omega.{arith}
-use borrow.Author.Tests.{lt-ltb, le-ltb, le-leb, lt-leb}
-use Rattle.basics.specs.Logic.{when◌then◌else◌}
-use Rattle.card_grammar.specs.Machine.{decimal_value}
+use Rattle.card_machine.proofs.Values.{decimal_digit, decimal_none}
 use Rattle.card_machine.proofs.decimal_value.Goals as goal
 
-pub returns-then-byte-lt48 : goal.returns-then-byte-lt48
-unfolding decimal_value when◌then◌else◌
-returns-then-byte-lt48 c =
-    let b = c.args.byte in
-    simp (lt-ltb b 48 (omega arith))
+pub returns-in-48-to-57 : goal.returns-in-48-to-57
+returns-in-48-to-57 c = (omega arith, sym (decimal_digit _ (omega arith) (omega arith)))
 
-pub returns-then-byte-le57 : goal.returns-then-byte-le57
-unfolding decimal_value when◌then◌else◌
-returns-then-byte-le57 c =
-    let b = c.args.byte in
-    simp (le-ltb b 48 (omega arith), le-leb b 57 (omega arith))
+pub returns-in_default : goal.returns-in_default
+returns-in_default c = decimal_none _ (λ h l. omega arith)
 
-pub returns : goal.returns
-unfolding decimal_value when◌then◌else◌
-returns c =
-    let b = c.args.byte in
-    simp (le-ltb b 48 (omega arith), lt-leb b 57 (omega arith))
+pub returns-in_default-2 : goal.returns-in_default-2
+returns-in_default-2 c = decimal_none _ (λ h l. omega arith)

@@ -6,14 +6,14 @@ use Rattle.basics.specs.Logic.{when◌then◌else◌}
 use Rattle.card_grammar.specs.Machine.{move_of}
 use Rattle.card_machine.proofs.half_step.Goals as goal
 
-pub returns-then-high-lt16 : goal.returns-then-high-lt16
+pub returns-in-Some : goal.returns-in-Some
 unfolding move_of when◌then◌else◌
-returns-then-high-lt16 c = simp (sym c.hex_value-value.ensures, lt-ltb _ _ c.if-value-lt16.true, lt-ltb _ _ c.if-high-lt16.true)
+returns-in-Some c = simp (sym c.in-Some.ensures.1, lt-ltb _ _ c.in-Some.ensures.0, lt-ltb _ _ c.if-high-lt16.true, c.from.ensures)
 
-pub returns-else-high-lt16 : goal.returns-else-high-lt16
+pub returns-in_default : goal.returns-in_default
 unfolding move_of when◌then◌else◌
-returns-else-high-lt16 c = simp (sym c.hex_value-value.ensures, lt-ltb _ _ c.if-value-lt16.true, le-ltb _ _ c.if-high-lt16.false)
+returns-in_default c = simp (sym c.in-Some.ensures.1, lt-ltb _ _ c.in-Some.ensures.0, le-ltb _ _ c.if-high-lt16.false)
 
-pub returns-else-value-lt16 : goal.returns-else-value-lt16
+pub returns-in_default-2 : goal.returns-in_default-2
 unfolding move_of when◌then◌else◌
-returns-else-value-lt16 c = simp (sym c.hex_value-value.ensures, le-ltb _ _ c.if-value-lt16.false)
+returns-in_default-2 c = simp c.in_default.ensures

@@ -1,37 +1,21 @@
 -- `card_machine::hex_value` meets its contract.
 -- Assumes nothing.
+use mathlib.Core.Path.{sym}
 use native.Mathlib.Omega.{arith}
-use borrow.Author.Tests.{lt-ltb, le-ltb, le-leb, lt-leb}
-use Rattle.basics.specs.Logic.{when◌then◌else◌}
-use Rattle.card_grammar.specs.Machine.{hex_value}
+use Rattle.card_machine.proofs.Values.{hex_decimal, hex_letter, hex_none}
 use Rattle.card_machine.proofs.hex_value.Goals as goal
 
-pub returns-then-byte-lt48 : goal.returns-then-byte-lt48
-unfolding hex_value when◌then◌else◌
-returns-then-byte-lt48 c =
-    let b = c.args.byte in
-    simp (lt-ltb b 48 (omega arith))
+pub returns-in-48-to-57 : goal.returns-in-48-to-57
+returns-in-48-to-57 c = (omega arith, sym (hex_decimal _ (omega arith) (omega arith)))
 
-pub returns-then-byte-le57 : goal.returns-then-byte-le57
-unfolding hex_value when◌then◌else◌
-returns-then-byte-le57 c =
-    let b = c.args.byte in
-    simp (le-ltb b 48 (omega arith), le-leb b 57 (omega arith))
+pub returns-in-97-to-102 : goal.returns-in-97-to-102
+returns-in-97-to-102 c = (omega arith, sym (hex_letter _ (omega arith) (omega arith)))
 
-pub returns-then-byte-lt97 : goal.returns-then-byte-lt97
-unfolding hex_value when◌then◌else◌
-returns-then-byte-lt97 c =
-    let b = c.args.byte in
-    simp (le-ltb b 48 (omega arith), lt-leb b 57 (omega arith), lt-ltb b 97 (omega arith))
+pub returns-in_default : goal.returns-in_default
+returns-in_default c = hex_none _ (λ h l. omega arith) (λ h l. omega arith)
 
-pub returns-then-byte-le102 : goal.returns-then-byte-le102
-unfolding hex_value when◌then◌else◌
-returns-then-byte-le102 c =
-    let b = c.args.byte in
-    simp (le-ltb b 48 (omega arith), lt-leb b 57 (omega arith), le-ltb b 97 (omega arith), le-leb b 102 (omega arith))
+pub returns-in_default-2 : goal.returns-in_default-2
+returns-in_default-2 c = hex_none _ (λ h l. omega arith) (λ h l. omega arith)
 
-pub returns : goal.returns
-unfolding hex_value when◌then◌else◌
-returns c =
-    let b = c.args.byte in
-    simp (le-ltb b 48 (omega arith), lt-leb b 57 (omega arith), le-ltb b 97 (omega arith), lt-leb b 102 (omega arith))
+pub returns-in_default-3 : goal.returns-in_default-3
+returns-in_default-3 c = hex_none _ (λ h l. omega arith) (λ h l. omega arith)

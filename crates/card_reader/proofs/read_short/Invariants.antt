@@ -4,9 +4,9 @@ use lib.ListN.{length}
 use Rattle.card_reader.proofs.ReadLoop.{Held}
 use Rattle.card_reader.proofs.read_short.Given as goal
 
-abbrev pub invariant-loop-i : goal.invariant-loop-i
-invariant-loop-i l =
-    Held l.line l.separator l.separator_length l.words l.word_count l.mode l.i
+abbrev pub invariant-loop-byte : goal.invariant-loop-byte
+invariant-loop-byte l =
+    Held l.line l.separator.items l.separator.count l.words.items l.words.count l.mode l.byte-index
 
-abbrev pub decreases-loop-i : goal.decreases-loop-i
-decreases-loop-i l = length l.line - l.i
+abbrev pub decreases-loop-byte : goal.decreases-loop-byte
+decreases-loop-byte l = length l.line - l.byte-index

@@ -15,23 +15,23 @@ loop-fed-init c = reaches_start _ _
 pub write-requires : goal.write-requires
 write-requires c =
     let fits = answered_fits c.loop-fed.line c.loop-fed.fed c.args.piece.now in
-    let written = ap (λ (r : Fed). r.written) c.answer_lines-next.ensures.0 in
+    let written = ap (λ (r : Fed). r.written) c.answer_lines-fed.ensures.0 in
     search rules
 
 pub loop-fed-smaller : goal.loop-fed-smaller
 loop-fed-smaller c =
     let some = answered_some c.loop-fed.line c.loop-fed.fed c.args.piece.now c.loop-fed-test.true in
-    let used = ap (λ (r : Fed). r.used) c.answer_lines-next.ensures.0 in
+    let used = ap (λ (r : Fed). r.used) c.answer_lines-fed.ensures.0 in
     omega arith
 
 pub loop-fed-preserved : goal.loop-fed-preserved
 loop-fed-preserved c =
-    let answers = c.answer_lines-next.ensures in
+    let answers = c.answer_lines-fed.ensures in
     reaches_answered c.loop-fed.line c.loop-fed.fed c.args.piece.now _ _ c.loop-fed.invariant (search rules) answers.0 answers.1
 
 pub returns : goal.returns
 unfolding next_kept
-returns c e =
+returns c =
     let piece = c.args.piece.now in
     reaches_end (kept_of c.loop-fed.line c.loop-fed.fed) piece c.loop-fed.invariant (search rules)
     ∙ ap (λ (f : Fed). piece_kept (length piece) (kept_of c.args.line.now f) piece) c.next_piece-fed.ensures

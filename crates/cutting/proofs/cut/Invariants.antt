@@ -1,10 +1,8 @@
--- What the loop of `cutting::cut` keeps, and that it ends.
-use Prim.Native.Nat.{◌-◌}
-use Rattle.cutting.proofs.Steps.{Filled}
+-- What the loop of `cutting::cut` keeps.
+use lib.ListN.{take}
+use Rattle.cutting.specs.Cutting.{cut_words}
+use Rattle.cutting.specs.Steps.{HasCalls}
 use Rattle.cutting.proofs.cut.Given as goal
 
-abbrev pub invariant-loop-list : goal.invariant-loop-list
-invariant-loop-list l = Filled l.words l.list l.count l.at.place l.at.left
-
-abbrev pub decreases-loop-list : goal.decreases-loop-list
-decreases-loop-list l = 64 - l.count
+abbrev pub invariant-loop-word : goal.invariant-loop-word
+invariant-loop-word l = HasCalls l.calls (cut_words 16777216 (take l.word-index l.words))

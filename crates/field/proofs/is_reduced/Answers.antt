@@ -1,35 +1,29 @@
--- `field::is_reduced` meets its contract.
+-- `field::is_reduced` meets its contract: the test of each number is that it is below the modulus.
 -- Assumes nothing.
-use mathlib.Core.Path.{refl, sym, ap, ◌∙◌}
-use Prim.Native.Nat.{ℕ, ◌-◌}
-use native.Mathlib.Omega.{arith}
-use borrow.Author.Tests.{lt-ltb, le-ltb}
-use lib.ListN.{get_or}
-use Rattle.basics.specs.Logic.{all}
-use Rattle.basics.proofs.Cases.{all_step, all_stop, all_end}
+use mathlib.Core.Path.{◌≡◌, ◌∙◌, ap, refl}
+use mathlib.Core.Bool.{Bool, true, false, ◌&&◌}
+use mathlib.Core.List.{List, [], ◌∷◌}
+use Prim.Native.Nat.{ℕ}
+use Rattle.std.proofs.Common.{rules, tests}
+use Rattle.std.specs.List.{list_all}
+use Rattle.std.proofs.lemmas.Iterator.{YieldsList-from_slice}
+use Rattle.std.proofs.lemmas.Iterator.Search.{all_from_yields_List}
+use Rattle.basics.specs.Logic.{all, ◌and◌}
 use Rattle.basics.specs.Lists.{is_below}
-use borrow.Author.Rules.{rules}
 use Rattle.field.proofs.is_reduced.Goals as goal
 
-pub loop-i-init : goal.loop-i-init
-loop-i-init c = (search rules, refl)
+both : (b : Bool) {r s : Bool} → r ≡ s → (b && r) ≡ b and s
+unfolding ◌and◌
+both true e = e
+both false e = refl
 
-pub returns-then-p-elements : goal.returns-then-p-elements
-returns-then-p-elements c =
-    let elements = c.args.elements.now in
-    let p = c.modulus-p.result in
-    let i = c.loop-i.i in
-    sym (ap (λ (m : ℕ). all (is_below m) elements) (sym c.modulus-p.ensures) ∙ c.loop-i.invariant.1 ∙ all_stop (is_below p) elements 0 i (omega arith) (le-ltb (get_or elements i 0) p (search rules)))
-
-pub loop-i-preserved : goal.loop-i-preserved
-loop-i-preserved c =
-    let elements = c.args.elements.now in
-    let p = c.modulus-p.result in
-    let i = c.loop-i.i in
-    (search rules, c.loop-i.invariant.1 ∙ all_step (is_below p) elements 0 i (omega arith) (lt-ltb (get_or elements i 0) p (search rules)))
+-- the library's word for the same
+all_is : (test : ℕ → Bool) (xs : List ℕ) → list_all test xs ≡ all test xs
+unfolding all ◌and◌
+all_is test [] = refl
+all_is test (x ∷ xs) = both (test x) (all_is test xs)
 
 pub returns : goal.returns
 returns c =
-    let elements = c.args.elements.now in
-    let p = c.modulus-p.result in
-    sym (ap (λ (m : ℕ). all (is_below m) elements) (sym c.modulus-p.ensures) ∙ c.loop-i.invariant.1 ∙ all_end (is_below p) elements c.loop-i.i (omega arith))
+    all_from_yields_List (is_below c.modulus-p.result) _ _ _ c.all.ensures.ran (YieldsList-from_slice c.args.elements.now cc) (λ x b q k. search (rules, tests))
+    ∙ all_is _ _ ∙ ap (λ m. all (is_below m) c.args.elements.now) c.modulus-p.ensures

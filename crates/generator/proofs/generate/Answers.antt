@@ -2,19 +2,26 @@
 -- number names.
 -- Assumes nothing.
 use mathlib.Core.Path.{◌≡◌, ◌∙◌, sym, ap, ap₂}
-use mathlib.Core.Bool.{Bool, true, false, not}
-use mathlib.Core.List.{List, [], ◌++◌, append_assoc}
+use mathlib.Core.Bool.{true, false, not}
+use mathlib.Core.List.{List, ◌++◌, append_assoc}
 use Prim.Native.Nat.{ℕ, ◌+◌, ◌-◌, ◌*◌, ◌≤◌}
 use native.Mathlib.Omega.{arith}
 use lib.ListN.{length, drop, replicate, length-take, length-replicate, replicate-append-replicate}
 use lib.Seq.{length-take-le, drop_at}
+use borrow.Author.Rules.{rules}
+use Rattle.std.specs.Prelude.{Result, Ok, Err}
 use Rattle.basics.specs.Lists.{zero_padded}
-use Rattle.basics.specs.Numbers.{accepted, field_unknown}
+use Rattle.basics.specs.Numbers.{accepted}
+use Rattle.basics.specs.Answers.{number_of}
+use Rattle.basics.specs.declared.Refusal.{Refusal}
+use Rattle.basics.specs.declared.Refusal.TheVariants.{FieldUnknown}
 use Rattle.basics.proofs.Cases.{if_true, if_false}
 use Rattle.field.specs.Field.{modulus, partial_rounds, is_field, field_of}
 use Rattle.field.specs.declared.Field.{Field}
 use Rattle.field.proofs.Moduli.{few_rounds}
+use Rattle.generator.specs.Answers.{generated_answer}
 use Rattle.generator.specs.Generator.{first_register, new_bits, output_bits, candidates, kept, found, generated, with_constants, generation}
+use Rattle.generator.specs.declared.Constants.{Constants}
 use Rattle.generator.proofs.generate.Goals as goal
 
 -- n zeros without k of them
@@ -55,8 +62,8 @@ few f e = omega (arith, few_rounds f)
 filled : (f : Field) {register constants : List ℕ} {m rounds lent count : ℕ}
     → register ≡ first_register (partial_rounds f) → m ≡ modulus f → rounds ≡ partial_rounds f → lent ≡ 24 * (4 + rounds + 4)
     → (count ≡ length (found register m lent 262144)) × (constants ≡ zero_padded lent (found register m lent 262144))
-    → record { number = accepted; constants = constants ++ drop (24 * (4 + rounds + 4)) (replicate 744 0); count = count } ≡ with_constants accepted (generated f)
-unfolding with_constants generated
+    → generated_answer (Ok (record { constants = constants ++ drop (24 * (4 + rounds + 4)) (replicate 744 0); count = count })) ≡ with_constants accepted (generated f)
+unfolding with_constants generated generated_answer
 filled f {register} {constants} {m} {rounds} e₁ e₂ e₃ size (counted, is) =
     let wanted = 24 * (4 + rounds + 4) in
     ap₂ (λ (l : List ℕ) (n : ℕ). record { number = accepted; constants = l; count = n })
@@ -64,39 +71,23 @@ filled f {register} {constants} {m} {rounds} e₁ e₂ e₃ size (counted, is) =
     (counted ∙ ap (λ (k : ℕ). length (found register m k 262144)) size)
     ∙ (λ i. with_constants accepted (found (e₁ i) (e₂ i) (24 * (4 + e₃ i + 4)) 262144))
 
--- the number's field or none, as the test tells
-module _ (number : ℕ) {named : Bool} (tested : named ≡ is_field number) where
-  unknown : named ≡ false → with_constants field_unknown [] ≡ generation number
-  unfolding generation
-  unknown e = sym (if_true _ _ _ (ap not (sym tested ∙ e)))
+-- the number names no field, or one
+unknown : (number : ℕ) (r : Result Constants Refusal) → is_field number ≡ false → r ≡ Err FieldUnknown → generated_answer r ≡ generation number
+unfolding generation with_constants generated_answer number_of
+unknown number r e is = ap generated_answer is ∙ sym (if_true _ _ _ (ap not e))
 
-  known : {f : Field} → f ≡ field_of number → named ≡ true → with_constants accepted (generated f) ≡ generation number
-  unfolding generation
-  known field e = ap (λ (f : Field). with_constants accepted (generated f)) field ∙ sym (if_false _ _ _ (ap not (sym tested ∙ e)))
+known : (number : ℕ) {f : Field} → (is_field number ≡ true) × (f ≡ field_of number) → with_constants accepted (generated f) ≡ generation number
+unfolding generation
+known number (e, field) = ap (λ (f : Field). with_constants accepted (generated f)) field ∙ sym (if_false _ _ _ (ap not e))
 
-pub returns-then-not-is_field : goal.returns-then-not-is_field
-unfolding with_constants
-returns-then-not-is_field c = unknown c.args.field c.is_field.ensures c.if-not-is_field.true
-
-pub overflow_add-wanted : goal.overflow_add-wanted
-overflow_add-wanted c = let h = few c.field_of-named.result c.partial_rounds.ensures in record { fits = omega arith }
-
-pub overflow_add-wanted-2 : goal.overflow_add-wanted-2
-overflow_add-wanted-2 c = let h = few c.field_of-named.result c.partial_rounds.ensures in record { fits = omega arith }
-
-pub overflow_mul-wanted : goal.overflow_mul-wanted
-overflow_mul-wanted c = let h = few c.field_of-named.result c.partial_rounds.ensures in record { fits = omega arith }
-
-pub slice_bounds-constants-end : goal.slice_bounds-constants-end
-slice_bounds-constants-end c = few c.field_of-named.result c.partial_rounds.ensures
-
-pub slice_bounds-generate_from-end : goal.slice_bounds-generate_from-end
-slice_bounds-generate_from-end c =
-    sym (length-take-le _ (replicate 744 0) (few c.field_of-named.result c.partial_rounds.ensures))
+pub returns-in_err-field : goal.returns-in_err-field
+returns-in_err-field c =
+    let e : c.from_residual.result ≡ Err FieldUnknown = search rules in
+    unknown c.args.field _ c.in_err-field.ensures.0 e
 
 pub returns : goal.returns
 returns c =
-    let f = c.field_of-named.result in
-    filled f c.first_register-register.ensures c.modulus.ensures c.partial_rounds.ensures
+    let f = c.in_ok-field.field in
+    filled f c.first_register.ensures c.modulus.ensures c.partial_rounds.ensures
     (length-take-le _ (replicate 744 0) (few f c.partial_rounds.ensures)) c.generate_from-count.ensures
-    ∙ known c.args.field c.is_field.ensures c.field_of-named.ensures c.if-not-is_field.false
+    ∙ known c.args.field c.in_ok-field.ensures

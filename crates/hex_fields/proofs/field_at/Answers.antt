@@ -1,48 +1,58 @@
 -- `hex_fields::field_at` meets its contract.
 -- Assumes nothing.
-use mathlib.Core.Path.{◌≡◌, sym, ◌∙◌}
+use mathlib.Core.Path.{◌≡◌, refl, ap, ap₂, ◌∙◌}
 use mathlib.Core.Bool.{false}
 use mathlib.Core.Logic.{◌⊎◌, inl, inr}
-use Prim.Native.Nat.{◌-◌}
+use Prim.Native.Nat.{ℕ, ◌+◌, ◌*◌, ◌-◌}
 use native.Mathlib.Omega.{arith}
-use Rattle.hex_fields.specs.Fields.{max_bytes, is_pair}
-use Rattle.hex_fields.proofs.Reading.{read_start, read_pair, pair_inside, none_left, field_read, behind_end, behind_inner}
+use lib.Dec.{lit<}
+use lib.ListN.{get_or}
+use Rattle.hex_fields.specs.Fields.{max_bytes, is_pair, pair_byte}
+use Rattle.hex_fields.proofs.Reading.{rest_is, pairs_long, pair_code, pair_short, pair_end, pair_yes, read_pair, none_left, field_read, behind_end, behind_inner}
 use Rattle.hex_fields.proofs.field_at.Goals as goal
-use Rattle.hex_fields.proofs.field_at.Goals.{then-loop-count-test+else-is_pair, else-loop-count-test}
+use Rattle.hex_fields.proofs.field_at.Goals.{else-loop-pair-test, then-loop-pair-test+then-count-eq-MAX_BYTES, then-count-eq-MAX_BYTES-via-then-count-eq-MAX_BYTES, then-count-eq-MAX_BYTES-via-else-count-eq-MAX_BYTES+then-pair-lt48}
 
-pub loop-count-init : goal.loop-count-init
-loop-count-init c = read_start 2048 _ _
-
--- both codes of the pair are in the text
-pub bounds-text-from : goal.bounds-text-from
-bounds-text-from c = omega (arith, pair_inside _ _ (sym c.is_pair.ensures ∙ c.if-is_pair.true))
-
-pub overflow_add-from : goal.overflow_add-from
-overflow_add-from c = omega (arith, pair_inside _ _ (sym c.is_pair.ensures ∙ c.if-is_pair.true))
-
-pub bounds-text-from-in-loop-count : goal.bounds-text-from-in-loop-count
-bounds-text-from-in-loop-count c = pair_inside _ _ (sym c.is_pair.ensures ∙ c.if-is_pair.true)
-
-pub overflow_add-from-in-loop-count : goal.overflow_add-from-in-loop-count
-overflow_add-from-in-loop-count c = omega (arith, pair_inside _ _ (sym c.is_pair.ensures ∙ c.if-is_pair.true))
-
-pub loop-count-preserved : goal.loop-count-preserved
-loop-count-preserved c =
-    read_pair c.loop-count.invariant _ c.loop-count-test.true
-    (sym c.is_pair.ensures ∙ c.if-is_pair.true) c.byte.ensures
+pub loop-pair-preserved : goal.loop-pair-preserved
+loop-pair-preserved c =
+    let text = c.args.text.now in
+    let at = c.args.at in
+    let count = c.loop-pair.count in
+    let inv = c.loop-pair.invariant in
+    let rest = ap (λ r. r.now) c.unwrap_or.ensures ∙ rest_is text at _ _ refl c.get.ensures.lookup in
+    let long = pairs_long text at _ _ rest c.as_chunks.ensures.front c.as_chunks.ensures.front_len in
+    let code = pair_code text at _ _ rest c.as_chunks.ensures.front c.loop-pair.pair-index in
+    let place : at + 2 * c.loop-pair.pair-index + 0 ≡ at + 2 * count = omega arith in
+    let behind : at + 2 * c.loop-pair.pair-index + 1 ≡ at + 2 * count + 1 = omega arith in
+    let high = code 0 (omega arith) (lit< tt) ∙ ap (λ (k : ℕ). get_or text k 0) place in
+    let low = code 1 (omega arith) (lit< tt) ∙ ap (λ (k : ℕ). get_or text k 0) behind in
+    let next : at + 2 * count + 2 ≡ at + 2 * (count + 1) = omega arith in
+    let read = read_pair inv.1 c.byte.result (omega (arith, inv.1.within)) (pair_yes text (at + 2 * count) (omega arith) (omega arith)) (c.byte.ensures ∙ ap₂ pair_byte high low) in
+    (omega arith, rw next at read)
 
 pub returns : goal.returns
 returns c =
     let text = c.args.text.now in
-    let r = c.loop-count.invariant in
-    let left : max_bytes - c.loop-count.count ≡ 0 ⊎ is_pair text c.loop-count.from ≡ false =
-    elim c.loop-count-test.branch [
-      | then-loop-count-test+else-is_pair w ↦ inr (sym w.is_pair.ensures ∙ w.if-is_pair.false)
-      | else-loop-count-test w ↦ inl (omega arith)
+    let at = c.args.at in
+    let count = c.loop-pair.count in
+    let inv = c.loop-pair.invariant in
+    let r = inv.1 in
+    let rest = ap (λ r. r.now) c.unwrap_or.ensures ∙ rest_is text at _ _ refl c.get.ensures.lookup in
+    let long = pairs_long text at _ _ rest c.as_chunks.ensures.front c.as_chunks.ensures.front_len in
+    let left : max_bytes - count ≡ 0 ⊎ is_pair text (at + 2 * count) ≡ false =
+    elim c.loop-pair-test.branch [
+      | else-loop-pair-test w ↦ inr (pair_short _ _ (omega arith))
+      | then-loop-pair-test+then-count-eq-MAX_BYTES w ↦
+          elim w.then-count-eq-MAX_BYTES.branch [
+            | then-count-eq-MAX_BYTES-via-then-count-eq-MAX_BYTES v ↦ inl (omega arith)
+            | then-count-eq-MAX_BYTES-via-else-count-eq-MAX_BYTES+then-pair-lt48 v ↦
+                let place : at + 2 * c.loop-pair.pair-index + 0 ≡ at + 2 * count = omega arith in
+                let high = pair_code text at _ _ rest c.as_chunks.ensures.front c.loop-pair.pair-index 0 (omega arith) (lit< tt) ∙ ap (λ (k : ℕ). get_or text k 0) place in
+                inr (pair_end _ _ (omega arith) (rw (← high) v.if-pair-lt48.true))
+          ]
     ] in
     let ends = c.place_behind.ensures in
     record {
       value = field_read r (none_left _ text _ left) ends;
       bytes_len =
-          (r.long, r.within, rw ends (omega (arith, behind_end text c.loop-count.from)), λ h. rw ends (behind_inner text _ _ (omega arith) h));
+          (r.long, r.within, rw ends (omega (arith, behind_end text (at + 2 * count))), λ h. rw ends (behind_inner text _ _ (omega arith) h));
     }

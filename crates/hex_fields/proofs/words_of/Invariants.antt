@@ -1,11 +1,7 @@
 -- What the loop of `hex_fields::words_of` keeps true.
-use Prim.Native.Nat.{◌-◌}
 use Rattle.basics.proofs.Fill.{Filled}
 use Rattle.hex_fields.specs.Fields.{field_word}
 use Rattle.hex_fields.proofs.words_of.Given as goal
 
 abbrev pub invariant-loop-k : goal.invariant-loop-k
 invariant-loop-k l = Filled 512 (field_word l.bytes) l.words l.k
-
-abbrev pub decreases-loop-k : goal.decreases-loop-k
-decreases-loop-k l = 512 - l.k

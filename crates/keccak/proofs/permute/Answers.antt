@@ -1,34 +1,27 @@
 -- `keccak::permute` meets its contract.
 -- Assumes nothing.
-use mathlib.Core.Path.{◌≡◌, ◌∙◌, refl, ap}
-use mathlib.Core.List.{List}
-use Prim.Native.Nat.{ℕ}
-use native.Mathlib.Numerals.{add-one}
-use native.Mathlib.Omega.{arith}
-use lib.ListN.{get_or}
+use Rattle.std.proofs.Common.{◌≡◌, ◌∙◌, ℕ, List, [], ◌∷◌, fold, refl, sym, ap, rules}
+use Rattle.std.proofs.lemmas.Fn.{fold_over, slice_gives, fronts}
+use Rattle.std.proofs.lemmas.List.Sums.{fold-append}
+use Rattle.keccak_tables.specs.Tables.{round_constants}
 use Rattle.keccak.specs.Permutation.{theta, rho, pi, chi, iota, round, rounds, permutation}
-use borrow.Author.Rules.{rules}
 use Rattle.keccak.proofs.permute.Goals as goal
 
-pub loop-i-init : goal.loop-i-init
-unfolding rounds
-loop-i-init c = (search rules, refl)
+abbrev one_more : List ℕ → ℕ → List ℕ
+one_more a constant = iota (chi (pi (rho (theta a)))) constant
 
-pub loop-i-preserved : goal.loop-i-preserved
-unfolding rounds round
-loop-i-preserved c =
-    let at-loop = c.loop-i in
-    let constants = c.round_constants-constants.ensures in (
-      search rules,
-      rw add-one
-          (c.round-next.ensures
-          ∙ ap (λ (table : List ℕ). iota (chi (pi (rho (theta at-loop.a)))) (get_or table at-loop.i 0)) constants
-          ∙ ap (λ (a : List ℕ). round a at-loop.i) at-loop.invariant.1),
-    )
+-- the round constants in turn
+in_turn : (a : List ℕ) → fold one_more a round_constants ≡ permutation a
+unfolding round_constants permutation rounds round
+in_turn a = refl
 
 pub returns : goal.returns
-unfolding permutation
 returns c =
-    let at-loop = c.loop-i in
-    let e : at-loop.i ≡ 24 = omega arith in
-    rw e at at-loop.invariant.1
+    let a = c.args.a in
+    let folded : c.fold.result ≡ fold one_more a c.iter.result.rest.now =
+    fold_over fronts (λ y. y.now) _ (λ constants s. s ≡ fold one_more a constants) _
+    (λ constants s x t f' earlier called.
+    let now : t ≡ one_more s x.now = search rules in
+    (now ∙ ap (λ r. one_more r x.now) earlier ∙ sym (fold-append one_more a constants (x.now ∷ [])), search rules))
+    _ _ _ _ (slice_gives c.iter.result) refl c.fold.ensures.ran in
+    folded ∙ ap (fold one_more a) (c.iter.ensures.rest ∙ c.round_constants.ensures) ∙ in_turn a

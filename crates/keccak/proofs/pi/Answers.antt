@@ -1,16 +1,9 @@
 -- `keccak::pi` meets its contract.
 -- Assumes nothing.
-use Rattle.keccak.specs.Permutation.{pi}
-use Rattle.keccak.proofs.Planes.{by_planes}
+use Rattle.std.proofs.Common.{rules}
+use Rattle.keccak.specs.Permutation.{pi, pi_lane}
 use Rattle.keccak.proofs.pi.Goals as goal
 
 pub returns : goal.returns
 unfolding pi
-returns c =
-    by_planes _
-    c.of_planes.ensures
-    c.pi_plane.ensures
-    c.pi_plane-2.ensures
-    c.pi_plane-3.ensures
-    c.pi_plane-4.ensures
-    c.pi_plane-5.ensures
+returns c = c.state.ensures (pi_lane c.args.a) (λ x y x_below y_below r called. search rules)

@@ -9,6 +9,6 @@ use Rattle.keccak.proofs.round.Goals as goal
 pub returns : goal.returns
 returns c =
     c.iota.ensures
-    ∙ ap (λ (a : List ℕ). iota a c.args.constant)
+    ∙ ap (λ (a : List ℕ). iota a c.args.constant.now)
     (c.chi.ensures
     ∙ ap chi (c.pi.ensures ∙ ap pi (c.rho.ensures ∙ ap rho c.theta.ensures)))

@@ -4,13 +4,7 @@ use Rattle.std.proofs.Common.{arith, rules}
 use Rattle.montgomery.proofs.Reduction.{fold_fits}
 use Rattle.montgomery.proofs.fold.Goals as goal
 
-pub product-requires : goal.product-requires
-product-requires c = search rules
-
 pub overflow_add-result : goal.overflow_add-result
 overflow_add-result c =
     let a = c.args in
     omega (arith, c.product.ensures, fold_fits a.a a.r (search rules))
-
-pub returns : goal.returns
-returns c = search rules

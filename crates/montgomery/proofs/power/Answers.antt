@@ -1,15 +1,9 @@
 -- `montgomery::power` meets its contract.
 -- Assumes nothing.
-use Rattle.std.proofs.Common.{ℕ, sym, subst, rules}
+use Rattle.std.proofs.Common.{ℕ, sym, subst}
 use Rattle.montgomery.specs.Montgomery.{RaisedSmall}
 use Rattle.montgomery.proofs.Powers.{small_other}
 use Rattle.montgomery.proofs.power.Goals as goal
-
-pub third_power-requires : goal.third_power-requires
-third_power-requires c = search rules
-
-pub seventh_power-requires : goal.seventh_power-requires
-seventh_power-requires c = search rules
 
 pub returns-then-power-eq3 : goal.returns-then-power-eq3
 returns-then-power-eq3 c =

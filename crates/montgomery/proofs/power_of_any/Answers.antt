@@ -1,15 +1,9 @@
 -- `montgomery::power_of_any` meets its contract.
 -- Assumes nothing.
-use Rattle.std.proofs.Common.{ℕ, sym, subst, rules}
+use Rattle.std.proofs.Common.{ℕ, sym, subst}
 use Rattle.montgomery.specs.Montgomery.{Raised}
 use Rattle.montgomery.proofs.Powers.{any_third, any_other}
 use Rattle.montgomery.proofs.power_of_any.Goals as goal
-
-pub third_power_of_any-requires : goal.third_power_of_any-requires
-third_power_of_any-requires c = search rules
-
-pub seventh_power_of_any-requires : goal.seventh_power_of_any-requires
-seventh_power_of_any-requires c = search rules
 
 pub returns-then-power-eq3 : goal.returns-then-power-eq3
 returns-then-power-eq3 c =

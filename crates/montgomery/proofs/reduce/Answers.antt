@@ -5,19 +5,9 @@ use Rattle.montgomery.specs.Montgomery.{low_product}
 use Rattle.montgomery.proofs.Reduction.{reduction}
 use Rattle.montgomery.proofs.reduce.Goals as goal
 
-pub product-requires : goal.product-requires
-product-requires c = search rules
-
-pub product-requires-2 : goal.product-requires-2
-product-requires-2 c = search rules
-
-pub wrapping_add_u64-requires : goal.wrapping_add_u64-requires
-wrapping_add_u64-requires c = search rules
-
 pub returns : goal.returns
 returns c =
     let a = c.args in
     reduction a.a a.m a.q _ _ (search rules)
-    (c.wrapping_add_u64.ensures.value
-    ∙ ap (λ (x : ℕ). (a.a + x) % 18446744073709551616) (c.product-2.ensures ∙ ap (λ (x : ℕ). low_product x a.m) c.product.ensures))
+    (ap (λ (x : ℕ). (a.a + x) % 18446744073709551616) (c.product-2.ensures ∙ ap (λ (x : ℕ). low_product x a.m) c.product.ensures))
     refl

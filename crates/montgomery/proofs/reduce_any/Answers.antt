@@ -4,11 +4,5 @@ use Rattle.montgomery.proofs.Reduction.{reduction_of_any}
 use Rattle.std.proofs.Common.{rules}
 use Rattle.montgomery.proofs.reduce_any.Goals as goal
 
-pub fold-requires : goal.fold-requires
-fold-requires c = search rules
-
-pub reduce-requires : goal.reduce-requires
-reduce-requires c = search rules
-
 pub returns : goal.returns
 returns c = reduction_of_any _ _ _ _ _ _ (search rules) c.fold.ensures c.reduce.ensures

@@ -1,20 +1,7 @@
 -- `montgomery::third_power_of_any` meets its contract.
 -- Assumes nothing.
 use Rattle.montgomery.proofs.Powers.{third_any}
-use Rattle.std.proofs.Common.{rules}
 use Rattle.montgomery.proofs.third_power_of_any.Goals as goal
-
-pub product-requires : goal.product-requires
-product-requires c = search rules
-
-pub reduce_any-square-requires : goal.reduce_any-square-requires
-reduce_any-square-requires c = search rules
-
-pub product-requires-2 : goal.product-requires-2
-product-requires-2 c = search rules
-
-pub reduce_any-requires : goal.reduce_any-requires
-reduce_any-requires c = search rules
 
 pub returns : goal.returns
 returns c =

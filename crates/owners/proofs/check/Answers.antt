@@ -1,36 +1,36 @@
 -- `owners::check` meets its contract.
 -- Assumes nothing.
-use mathlib.Core.Path.{◌≡◌, sym}
-use Prim.Native.Nat.{ℕ, ◌<◌}
+use mathlib.Core.Path.{◌≡◌, sym, ap, ◌∙◌}
+use Prim.Native.Nat.{ℕ, ◌≤◌, ◌<◌}
 use native.Mathlib.Omega.{arith}
-use Rattle.owners.specs.Owners.{Table, table_of, row_count, first_fault}
-use Rattle.owners.proofs.Answers.{first_fault_bound, checked_fault, checked_gap, checked_accepted}
+use Rattle.std.specs.Prelude.{Err}
+use Rattle.basics.specs.Numbers.{owners_row_invalid, owners_gap}
+use Rattle.basics.specs.Answers.{number_of}
+use Rattle.owners.specs.Owners.{Table, row_count, first_fault, least_free, number_count, checked}
+use Rattle.owners.specs.Answers.{table_refusal, fault_place, checked_answer}
+use Rattle.owners.specs.declared.TableFault.TheVariants.{Row, Gap}
+use Rattle.owners.proofs.Answers.{checked_fault, checked_gap, checked_accepted}
+use Rattle.owners.proofs.Tables.{answer}
 use Rattle.owners.proofs.check.Goals as goal
 
-pub overflow_cast-result : goal.overflow_cast-result
-overflow_cast-result c = let bound = first_fault_bound (table_of c.args.table.now) in omega (arith, c.first_fault-fault.ensures)
+module _ (A : Type 0) (t : Table) where
+  -- a row at fault
+  row_answer : (k : ℕ) → k ≤ row_count t → k ≡ first_fault t → checked_answer {A = A} (Err (Row k)) ≡ checked t
+  unfolding checked_answer table_refusal fault_place number_of
+  row_answer k h e = ap (answer owners_row_invalid) e ∙ sym (checked_fault t (omega arith))
 
-pub returns-then-fault-row_count : goal.returns-then-fault-row_count
-returns-then-fault-row_count c =
-    let fault = c.first_fault-fault.ensures in
-    rw fault (sym (checked_fault _ (omega (arith, fault, c.row_count.ensures))))
+  -- no row at fault, and a gap
+  gap_answer : (n : ℕ) → row_count t < first_fault t → n < number_count → n ≡ least_free t → checked_answer {A = A} (Err (Gap n)) ≡ checked t
+  unfolding checked_answer table_refusal fault_place number_of
+  gap_answer n p h e = ap (answer owners_gap) e ∙ sym (checked_gap t p (omega arith))
 
--- no row is at fault
-passed : (t : Table) (fault count : ℕ) → fault ≡ first_fault t → count ≡ row_count t → count < fault → row_count t < first_fault t
-passed t fault count e₁ e₂ h = rw (← e₁, ← e₂) h
+pub returns-in-Some : goal.returns-in-Some
+returns-in-Some c = row_answer _ _ _ c.in-Some.ensures.0 c.in-Some.ensures.1
 
-pub least_free-free-requires : goal.least_free-free-requires
-least_free-free-requires c =
-    passed _ _ _ c.first_fault-fault.ensures c.row_count.ensures (omega arith)
-
-pub returns-then-free-lt-NUMBER_COUNT : goal.returns-then-free-lt-NUMBER_COUNT
-returns-then-free-lt-NUMBER_COUNT c =
-    let free = c.least_free-free.ensures in
-    let pass = passed _ _ _ c.first_fault-fault.ensures c.row_count.ensures (omega arith) in
-    rw free (sym (checked_gap _ pass (omega arith)))
+pub returns-in-Some-least_free : goal.returns-in-Some-least_free
+returns-in-Some-least_free c =
+    gap_answer _ _ _ c.in_default.ensures c.in-Some-least_free.ensures.0 c.in-Some-least_free.ensures.1
 
 pub returns : goal.returns
-returns c =
-    let free = c.least_free-free.ensures in
-    let pass = passed _ _ _ c.first_fault-fault.ensures c.row_count.ensures (omega arith) in
-    sym (checked_accepted _ pass (omega arith))
+unfolding checked_answer
+returns c = sym (checked_accepted _ c.in_default.ensures c.in_default-least_free.ensures)

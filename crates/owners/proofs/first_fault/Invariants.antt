@@ -1,7 +1,7 @@
 -- What the loop of `owners::first_fault` keeps: no row before row k is at fault.
 use mathlib.Core.Bool.{Bool}
 use mathlib.Core.List.{List}
-use Prim.Native.Nat.{ℕ, suc, ◌-◌, ◌≤◌}
+use Prim.Native.Nat.{ℕ}
 use Rattle.owners.specs.Owners.{table_of, at_fault}
 use Rattle.owners.proofs.Least.{NoneBefore}
 use Rattle.owners.proofs.first_fault.Given as goal
@@ -11,7 +11,4 @@ abbrev pub faults : List ℕ → ℕ → Bool
 faults table = at_fault (table_of table)
 
 abbrev pub invariant-loop-k : goal.invariant-loop-k
-invariant-loop-k l = (1 ≤ l.k) × (l.k ≤ suc l.count) × NoneBefore (faults l.table) 1 l.k
-
-abbrev pub decreases-loop-k : goal.decreases-loop-k
-decreases-loop-k l = suc l.count - l.k
+invariant-loop-k l = NoneBefore (faults l.table) 1 l.k

@@ -1,9 +1,10 @@
 -- What the loop of `owners::least_free` keeps: the gap lies where the pass from here on finds it.
 use mathlib.Core.Path.{◌≡◌}
 use mathlib.Core.List.{List}
-use Prim.Native.Nat.{ℕ, ◌/◌, ◌≤◌}
-use lib.ListN.{length, drop}
-use Rattle.owners.specs.Owners.{table_of}
+use Prim.Native.Nat.{ℕ, ◌<◌}
+use lib.ListN.{drop}
+use Rattle.std.specs.Prelude.{Option, IfSome, unwrap_or}
+use Rattle.owners.specs.Owners.{table_of, number_count}
 use Rattle.owners.specs.declared.OwnerRow.{OwnerRow}
 use Rattle.owners.proofs.Gap.{gap}
 use Rattle.owners.proofs.least_free.Given as goal
@@ -12,6 +13,10 @@ use Rattle.owners.proofs.least_free.Given as goal
 abbrev pub rows : List ℕ → List OwnerRow
 rows table = (table_of table).rows
 
-abbrev pub invariant-loop-i : goal.invariant-loop-i
-invariant-loop-i l =
-    (l.i ≤ length l.table / 10) × (l.free ≤ 4294967296) × (gap 0 (rows l.table) ≡ gap l.free (drop l.i (rows l.table)))
+-- the number that the pass has come to, where none stands for the end of the numbers
+abbrev pub reached : Option ℕ → ℕ
+reached free = unwrap_or free number_count
+
+abbrev pub invariant-loop-bytes : goal.invariant-loop-bytes
+invariant-loop-bytes l =
+    IfSome l.free (λ n. n < number_count) × (gap 0 (rows l.table) ≡ gap (reached l.free) (drop l.bytes-index (rows l.table)))

@@ -2,33 +2,35 @@
 -- Assumes nothing.
 use mathlib.Core.Path.{refl, sym, ap, ◌∙◌}
 use native.Mathlib.Omega.{arith}
+use Rattle.basics.proofs.Cases.{any_step, any_end}
 use Rattle.owners.specs.Owners.{holds}
 use Rattle.owners.specs.declared.OwnerRow.{OwnerRow}
-use Rattle.owners.proofs.Rows.{place_at, whole_rows}
-use Rattle.owners.proofs.Lookup.{line_here, line_next, line_end}
-use borrow.Author.Rules.{rules}
+use Rattle.owners.proofs.Rows.{no_row, rows_long, part_at}
+use Rattle.owners.proofs.Lookup.{line_here, line_next}
 use Rattle.owners.proofs.line_of.Goals as goal
 
-pub loop-i-init : goal.loop-i-init
-loop-i-init c = (search rules, refl)
+pub loop-bytes-init : goal.loop-bytes-init
+loop-bytes-init c = (refl, refl)
 
-pub returns-then-row_holds : goal.returns-then-row_holds
-returns-then-row_holds c =
-    let inv = c.loop-i.invariant in
-    let long = whole_rows c.args.table.now in
-    let is = place_at c.args.table.now c.loop-i.i (omega arith) ∙ sym c.row_at-row.ensures in
-    let held = ap (holds _) is ∙ sym c.row_holds.ensures ∙ c.if-row_holds.true in
-    sym (inv.1 ∙ line_here _ _ c.loop-i.i (omega arith) held ∙ ap (λ (r : OwnerRow). r.line) is)
+pub returns-then-holds : goal.returns-then-holds
+returns-then-holds c =
+    let inv = c.loop-bytes.invariant in
+    let long = rows_long _ _ c.whole_rows-bytes-items.ensures in
+    let is = part_at _ _ c.whole_rows-bytes-items.ensures c.loop-bytes.bytes-index _ (omega arith) ∙ sym c.from-row.ensures in
+    let held = ap (holds _) is ∙ sym c.holds.ensures ∙ c.if-holds.true in
+    sym (inv.0 ∙ line_here _ _ c.loop-bytes.bytes-index (omega arith) held ∙ ap (λ (r : OwnerRow). r.line) is)
 
-pub loop-i-preserved : goal.loop-i-preserved
-loop-i-preserved c =
-    let inv = c.loop-i.invariant in
-    let long = whole_rows c.args.table.now in
-    let is = place_at c.args.table.now c.loop-i.i (omega arith) ∙ sym c.row_at-row.ensures in
-    let apart = ap (holds _) is ∙ sym c.row_holds.ensures ∙ c.if-row_holds.false in
-    (search rules, inv.1 ∙ line_next _ _ c.loop-i.i (omega arith) apart)
+pub loop-bytes-preserved : goal.loop-bytes-preserved
+loop-bytes-preserved c =
+    let inv = c.loop-bytes.invariant in
+    let long = rows_long _ _ c.whole_rows-bytes-items.ensures in
+    let is = part_at _ _ c.whole_rows-bytes-items.ensures c.loop-bytes.bytes-index _ (omega arith) ∙ sym c.from-row.ensures in
+    let apart = ap (holds _) is ∙ sym c.holds.ensures ∙ c.if-holds.false in (
+      inv.0 ∙ line_next _ _ c.loop-bytes.bytes-index (omega arith) apart,
+      inv.1 ∙ any_step _ _ no_row c.loop-bytes.bytes-index (omega arith) apart,
+    )
 
 pub returns : goal.returns
 returns c =
-    let long = whole_rows c.args.table.now in
-    sym (c.loop-i.invariant.1 ∙ line_end _ _ c.loop-i.i (omega arith))
+    let long = rows_long _ _ c.whole_rows-bytes-items.ensures in
+    c.loop-bytes.invariant.1 ∙ any_end _ _ c.loop-bytes.bytes-index (omega arith)

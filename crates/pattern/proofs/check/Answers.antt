@@ -5,34 +5,30 @@ use mathlib.Core.List.{List, []}
 use mathlib.Core.Logic.{◌≢◌}
 use Prim.Native.Nat.{ℕ, min}
 use native.Mathlib.Omega.{arith}
-use borrow.Author.Tests.{ne_eqb}
+use borrow.Author.Tests.{eqb-true, eqb-false, ne_eqb}
+use Rattle.std.specs.Prelude.{Err}
+use Rattle.std.proofs.lemmas.Result.{err_from_is_err_and}
+use Rattle.basics.specs.Answers.{number_of, answer_number}
+use Rattle.pattern.specs.Answers.{words_answer}
 use lib.ListN.{length, take}
-use lib.Seq.{length-take-le, take_all}
+use lib.Seq.{take_all}
 use Rattle.pattern.specs.Opening.{opening, opening_number}
 use Rattle.pattern.specs.Steps.{holding}
 use Rattle.pattern.specs.Pass.{earlier, held_after, ending}
-use Rattle.pattern.specs.declared.WordList.{WordList}
+use Rattle.pattern.specs.Opening.{WordList}
 use Rattle.pattern.proofs.StartCheck.{checked_refused, checked_accepted}
-use Rattle.pattern.proofs.PassStep.{held_65, holding_number, holding_words, earlier_zero}
+use Rattle.pattern.proofs.PassStep.{held_65, holding_number, holding_words, free, none_held_yet, holding_few}
+use Rattle.basics.proofs.Refused.{refusal_some}
+use Rattle.pattern.proofs.Settled.{none_refused}
 use Rattle.pattern.proofs.FromPass.{start_none, start_by_pass, words_by_pass}
-use borrow.Author.Rules.{rules}
 use Rattle.pattern.proofs.check.Goals as goal
 
-pub returns-then-words-eq0 : goal.returns-then-words-eq0
-returns-then-words-eq0 c =
-    let args = c.args in
-    let none : args.words.now ≡ [] = sym (take_all 0 args.words.now (omega arith)) in
-    c.refused.ensures
-    ∙ sym (checked_refused (opening args.words.now args.separator.now) 1 refl (rw none (start_none args.separator.now)))
-
-pub slice_bounds-pass-end : goal.slice_bounds-pass-end
-slice_bounds-pass-end c = sym (length-take-le _ _ (omega (arith, c.looked_at-count.ensures)))
-
-pub pass-passed-requires : goal.pass-passed-requires
-pass-passed-requires c =
+pub returns-then-is_empty : goal.returns-then-is_empty
+unfolding words_answer number_of
+returns-then-is_empty c =
     let words = c.args.words.now in
-    let looked = c.looked_at-count.ensures in
-    (omega (arith, looked, length-take-le c.looked_at-count.result words (omega (arith, looked))), search rules)
+    let none : words ≡ [] = sym (take_all 0 words (omega (arith, eqb-true _ 0 (sym c.if-is_empty.ensures)))) in
+    sym (checked_refused (opening words c.args.separator.now) 1 refl (rw none (start_none c.args.separator.now)))
 
 -- what the pass holds at its end, by the words that it looked at
 pass_held : (ws list : List ℕ) (looked number count : ℕ)
@@ -57,25 +53,38 @@ number_is ws separator list number count end first some h ends is =
     ∙ ap₂ (λ (held end : ℕ). earlier held end) (number_held ws list number count h) ends
     ∙ start_by_pass separator ws some
 
-pub returns-then-number-ne-ACCEPTED : goal.returns-then-number-ne-ACCEPTED
-returns-then-number-ne-ACCEPTED c =
+pub returns-in_err-count : goal.returns-in_err-count
+unfolding words_answer answer_number
+returns-in_err-count c =
     let ws = c.args.words.now in
-    let some : length ws ≢ 0 = λ e. omega arith in
-    let held = pass_held ws _ _ _ _ c.looked_at-count.ensures c.pass-passed.ensures in
-    let is = number_is ws c.args.separator.now _ _ _ _ _ some held c.ending_of.ensures c.earlier_of-number.ensures in
-    c.refused-then-number-ne-ACCEPTED.ensures
-    ∙ sym (checked_refused _ _ (ne_eqb _ 0 c.if-number-ne-ACCEPTED.true) (sym is))
+    let some : length ws ≢ 0 = eqb-false _ 0 (sym c.if-is_empty.ensures) in
+    let held = pass_held ws _ _ _ _ c.min-looked_at.ensures c.pass-passed.ensures in
+    let is = number_is ws c.args.separator.now _ _ _ _ _ some held c.ending_of.ensures c.in_err-count.ensures.number in
+    let err = err_from_is_err_and c.from_residual.result c.from_residual.ensures.1 in
+    ap words_answer (err.1 ∙ ap Err err.2)
+    ∙ sym (checked_refused _ _ (ne_eqb _ 0 (refusal_some c.in_err-count.field-0.0)) (sym is))
+
+pub invariant_of-result : goal.invariant_of-result
+invariant_of-result c =
+    let ws = c.args.words.now in
+    let held = pass_held ws _ _ _ _ c.min-looked_at.ensures c.pass-passed.ensures in
+    let (counts, none, _) = none_refused _ _ _ c.in_ok-count.ensures.count c.in_ok-count.ensures.number in
+    let few = holding_few ws _ _ _ held none in
+    let fit = (free ws (none_held_yet ws _ _ _ held none)).few in
+    record { fits = omega arith }
 
 pub returns : goal.returns
+unfolding words_answer answer_number
 returns c =
     let ws = c.args.words.now in
     let separator = c.args.separator.now in
-    let some : length ws ≢ 0 = λ e. omega arith in
-    let pass = pass_held ws _ _ _ _ c.looked_at-count.ensures c.pass-passed.ensures in
-    let is = number_is ws separator _ _ _ _ _ some pass c.ending_of.ensures c.earlier_of-number.ensures in
-    let accepts = sym is ∙ c.if-number-ne-ACCEPTED.false in
-    let (held, _) = earlier_zero _ _ (sym c.earlier_of-number.ensures ∙ c.if-number-ne-ACCEPTED.false) in
-    let list = sym (holding_words _ _ _ held) ∙ pass in
-    list
+    let some : length ws ≢ 0 = eqb-false _ 0 (sym c.if-is_empty.ensures) in
+    let pass = pass_held ws _ _ _ _ c.min-looked_at.ensures c.pass-passed.ensures in
+    let number = c.in_ok-count.ensures.number in
+    let is = number_is ws separator _ _ _ _ _ some pass c.ending_of.ensures number in
+    let (counts, held, _) = none_refused _ _ _ c.in_ok-count.ensures.count number in
+    rw counts
+    (sym (holding_words _ _ _ held)
+    ∙ pass
     ∙ words_by_pass ws some (sym (number_held ws _ _ _ pass) ∙ held)
-    ∙ sym (checked_accepted (opening ws separator) accepts)
+    ∙ sym (checked_accepted (opening ws separator) (sym is)))

@@ -1,16 +1,22 @@
 -- `pattern::ending_of` meets its contract.
 -- Assumes nothing.
-use mathlib.Core.Path.{sym}
-use borrow.Author.Tests.{lt-ltb, le-ltb}
-use Rattle.basics.specs.Refusals.{first_number}
-use Rattle.basics.proofs.Cases.{if_true, if_false}
+use mathlib.Core.Path.{◌≡◌, refl, ap, ◌∙◌}
+use mathlib.Core.Bool.{Bool, true, false}
+use mathlib.Core.List.{[]}
+use Rattle.std.specs.Bool.{then_some}
+use Rattle.basics.specs.Answers.{number_of}
+use Rattle.basics.specs.Refusals.{◌gets◌⨾◌, first_number}
+use Rattle.basics.specs.Logic.{when◌then◌else◌}
+use Rattle.basics.specs.declared.Refusal.TheVariants.{SeparatorTooLong}
 use Rattle.pattern.specs.Pass.{ending}
+use Rattle.pattern.specs.Steps.{refusal_number}
 use Rattle.pattern.proofs.ending_of.Goals as goal
 
-pub returns-then-separator_length-gt-MAX_SEPARATOR : goal.returns-then-separator_length-gt-MAX_SEPARATOR
-unfolding ending first_number
-returns-then-separator_length-gt-MAX_SEPARATOR c = sym (if_true _ _ _ (lt-ltb _ _ c.if-separator_length-gt-MAX_SEPARATOR.true))
+by_length : (b : Bool) → refusal_number (then_some b SeparatorTooLong) ≡ first_number (b gets 6 ⨾ [])
+unfolding refusal_number number_of first_number when◌then◌else◌
+by_length true = refl
+by_length false = refl
 
 pub returns : goal.returns
-unfolding ending first_number
-returns c = sym (if_false _ _ _ (le-ltb _ _ c.if-separator_length-gt-MAX_SEPARATOR.false))
+unfolding ending
+returns c = ap refusal_number c.then_some.ensures ∙ by_length _

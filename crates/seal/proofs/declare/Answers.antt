@@ -44,6 +44,9 @@ overflow_add-words-in-loop-i-2 c =
 pub bounds-words-lengths : goal.bounds-words-lengths
 bounds-words-lengths c = let n = few (goal.at.bounds-words-lengths c).At-loop-i in search rules
 
+pub invariant_of-result : goal.invariant_of-result
+invariant_of-result c = record { fits = omega (arith, few (goal.at.invariant_of-result c).At-loop-i) }
+
 pub returns : goal.returns
 returns c =
     let lengths = c.args.lengths.now in

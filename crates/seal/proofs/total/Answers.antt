@@ -1,35 +1,22 @@
 -- `seal::total` meets its contract.
 -- Assumes nothing.
-use Prim.Native.Nat.{◌<◌}
+use mathlib.Core.Path.{sym, ◌∙◌}
 use native.Mathlib.Omega.{arith}
-use lib.ListN.{length}
-use Rattle.seal.proofs.Lengths.{lengths_sound, length_at, total_step, total_end}
 use borrow.Author.Rules.{rules}
+use borrow.Author.Tests.{tests}
+use Rattle.std.proofs.lemmas.Iterator.{YieldsList-from_slice, YieldsList-from_map}
+use Rattle.std.proofs.lemmas.Iterator.Consumers.{sum_by_from_yields_List}
+use Rattle.std.proofs.lemmas.Iterator.Adapters.{at_most_from_yields_List, fits_from_length}
+use Rattle.seal.proofs.Lengths.{lengths_sound, total_is_sum}
 use Rattle.seal.proofs.total.Goals as goal
 
-pub loop-i-init : goal.loop-i-init
-loop-i-init c = (search rules, omega arith, omega arith)
-
-pub overflow_cast-sum : goal.overflow_cast-sum
-overflow_cast-sum c =
-    let i = c.loop-i.i in
-    omega (arith, c.shared_slice_known-1.given i)
-
-pub overflow_add-sum : goal.overflow_add-sum
-overflow_add-sum c =
-    let lengths = c.args.lengths.now in
-    let i = c.loop-i.i in
-    let d = lengths_sound lengths c.requires in
-    let h : i < length lengths = search rules in
-    omega (arith, length_at lengths d.each i h)
-
-pub loop-i-preserved : goal.loop-i-preserved
-loop-i-preserved c =
-    let lengths = c.args.lengths.now in
-    let i = c.loop-i.i in
-    let d = lengths_sound lengths c.requires in
-    let h : i < length lengths = search rules in
-    (search rules, omega (arith, total_step lengths i h), omega (arith, length_at lengths d.each i h))
+pub sum-requires-clause-fits : goal.sum-requires-clause-fits
+sum-requires-clause-fits c =
+    fits_from_length _ _ 31 _ (at_most_from_yields_List (YieldsList-from_slice c.args.lengths.now cc) (lengths_sound _ c.requires).few) c.map.ensures.closure (omega arith) (λ x r q k. search (rules, tests))
 
 pub returns : goal.returns
-returns c = omega (arith, total_end c.args.lengths.now c.loop-i.i (search rules))
+returns c =
+    let ns = c.args.lengths.now in
+    sum_by_from_yields_List (λ n. n) ns c.map.result c.sum.result c.sum.ensures.ran
+    (YieldsList-from_map _ (λ n. n) (YieldsList-from_slice ns cc) c.map.ensures.closure (λ x r q k. search rules))
+    ∙ sym (total_is_sum ns)

@@ -1,16 +1,14 @@
 -- `sha3::add_block` meets its contract.
 -- Assumes nothing.
-use Rattle.basics.proofs.Fill.{start, step, end}
-use Rattle.sha3.specs.Sponge.{add_block}
-use borrow.Author.Rules.{rules}
+use Rattle.std.proofs.Common.{◌≡◌, ℕ, ◌<◌, get_or, rules}
+use Rattle.keccak.proofs.Elements.{at_from_fn}
+use Rattle.sha3.specs.Sponge.{add_block, added_lane}
+use Rattle.sha3.proofs.Lanes.{by_each}
 use Rattle.sha3.proofs.add_block.Goals as goal
-
-pub loop-i-init : goal.loop-i-init
-loop-i-init c = start _ _ _ (search rules)
-
-pub loop-i-preserved : goal.loop-i-preserved
-loop-i-preserved c = step _ c.loop-i.invariant (search rules) c.added_lane.ensures
 
 pub returns : goal.returns
 unfolding add_block
-returns c = end c.loop-i.invariant (search rules)
+returns c =
+    let each : (i : ℕ) → i < 25 → get_or c.from_fn.result i 0 ≡ added_lane c.args.a c.args.block.now i =
+    at_from_fn _ _ _ (λ i y f' called. search rules) c.from_fn.ensures.items in
+    by_each 25 _ c.from_fn.ensures.items.long each

@@ -1,16 +1,16 @@
 -- `sha3::squeeze` meets its contract.
 -- Assumes nothing.
-use Rattle.basics.proofs.Fill.{start, step, end}
-use Rattle.sha3.specs.Sponge.{squeeze}
-use borrow.Author.Rules.{rules}
+use Rattle.std.proofs.Common.{◌≡◌, ◌∙◌, ℕ, ◌/◌, ◌%◌, ◌<◌, get_or, rules, arith}
+use Rattle.std.specs.Int.{w64, to_le_bytes}
+use Rattle.keccak.proofs.Elements.{at_from_fn}
+use Rattle.sha3.specs.Sponge.{byte_of, squeeze}
+use Rattle.sha3.proofs.Lanes.{by_each, as_written}
 use Rattle.sha3.proofs.squeeze.Goals as goal
 
-pub loop-i-init : goal.loop-i-init
-loop-i-init c = start _ _ _ (search rules)
-
-pub loop-i-preserved : goal.loop-i-preserved
-loop-i-preserved c = step _ c.loop-i.invariant (search rules) c.byte_of.ensures
-
 pub returns : goal.returns
-unfolding squeeze
-returns c = end c.loop-i.invariant (search rules)
+unfolding squeeze byte_of
+returns c =
+    let a = c.args.a in
+    let each : (i : ℕ) → i < 32 → get_or c.from_fn.result i 0 ≡ get_or (to_le_bytes w64 (get_or a (i / 8) 0)) (i % 8) 0 =
+    at_from_fn _ _ _ (λ i y f' called. search rules) c.from_fn.ensures.items in
+    by_each 32 _ c.from_fn.ensures.items.long (λ i below. each i below ∙ as_written (get_or a (i / 8) 0) (i % 8) (omega arith))

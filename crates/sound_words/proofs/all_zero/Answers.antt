@@ -1,30 +1,29 @@
 -- `sound_words::all_zero` meets its contract.
 -- Assumes nothing.
-use mathlib.Core.Path.{refl, sym, ◌∙◌}
-use native.Mathlib.Omega.{arith}
-use borrow.Author.Tests.{eq-eqb, ne_eqb}
-use lib.Dec.{eqb}
-use lib.ListN.{get_or}
-use Rattle.basics.proofs.Cases.{all_step, all_stop, all_end}
-use borrow.Author.Rules.{rules}
+use mathlib.Core.Path.{◌≡◌, refl, ap, ◌∙◌}
+use mathlib.Core.Bool.{Bool, true, false}
+use mathlib.Core.List.{List, [], ◌∷◌}
+use Prim.Native.Nat.{ℕ}
+use Rattle.std.proofs.Common.{◌&&◌, eqb, rules, tests}
+use Rattle.std.specs.List.{list_all}
+use Rattle.std.proofs.lemmas.Iterator.{YieldsList-from_slice}
+use Rattle.std.proofs.lemmas.Iterator.Search.{all_from_yields_List}
+use Rattle.basics.specs.Logic.{◌and◌, all}
 use Rattle.sound_words.proofs.all_zero.Goals as goal
 
-pub loop-i-init : goal.loop-i-init
-loop-i-init c = (search rules, refl)
+-- both definitions of what all are
+both : (a b : Bool) → (a && b) ≡ (a and b)
+unfolding ◌and◌
+both true b = refl
+both false b = refl
 
-pub returns-then-words-i-ne0 : goal.returns-then-words-i-ne0
-returns-then-words-i-ne0 c =
-    let words = c.args.words.now in
-    let i = c.loop-i.i in
-    sym (c.loop-i.invariant.1 ∙ all_stop (λ w. eqb w 0) words 0 i (omega arith) (ne_eqb (get_or words i 0) 0 (search rules)))
-
-pub loop-i-preserved : goal.loop-i-preserved
-loop-i-preserved c =
-    let words = c.args.words.now in
-    let i = c.loop-i.i in
-    (search rules, c.loop-i.invariant.1 ∙ all_step (λ w. eqb w 0) words 0 i (omega arith) (eq-eqb (get_or words i 0) 0 (search rules)))
+same_all : (test : ℕ → Bool) (ws : List ℕ) → list_all test ws ≡ all test ws
+unfolding all
+same_all test [] = refl
+same_all test (w ∷ ws) = ap (λ b. test w && b) (same_all test ws) ∙ both (test w) (all test ws)
 
 pub returns : goal.returns
 returns c =
     let words = c.args.words.now in
-    sym (c.loop-i.invariant.1 ∙ all_end (λ w. eqb w 0) words c.loop-i.i (omega arith))
+    all_from_yields_List (λ w. eqb w 0) _ _ _ c.all.ensures.ran (YieldsList-from_slice words cc) (λ x b q k. search (rules, tests))
+    ∙ same_all (λ w. eqb w 0) words

@@ -23,29 +23,28 @@ unfolding ◌and◌
 and_none true = refl
 and_none false = refl
 
-pub loop-i-init : goal.loop-i-init
+pub loop-word-init : goal.loop-word-init
 unfolding is_absorb ◌and◌
-loop-i-init c = (search rules, search rules, refl)
+loop-word-init c = (search rules, refl)
 
 pub overflow_add-faults : goal.overflow_add-faults
 overflow_add-faults c =
     let words = c.args.words.now in
-    let least = fault_least (is_absorb c.loop-i.last) (get_or words c.loop-i.i 0) in
+    let least = fault_least (is_absorb c.loop-word.last) (get_or words c.loop-word.word-index 0) in
     let one = c.fault-faults.ensures in
     search rules
 
-pub loop-i-preserved : goal.loop-i-preserved
-loop-i-preserved c =
+pub loop-word-preserved : goal.loop-word-preserved
+loop-word-preserved c =
     let words = c.args.words.now in
-    let i = c.loop-i.i in
-    let last = is_absorb c.loop-i.last in
-    let faults = c.loop-i.faults in
+    let i = c.loop-word.word-index in
+    let last = is_absorb c.loop-word.last in
+    let faults = c.loop-word.faults in
     let least = fault_least last (get_or words i 0) in
     let one : c.fault-faults.result ≡ fault_of last (get_or words i 0) = c.fault-faults.ensures in (
-      search rules,
       omega (arith, least, one),
       rw add-one
-          (c.loop-i.invariant.2
+          (c.loop-word.invariant.1
           ∙ ap (λ (ws : List ℕ). eqb faults 0 and tests (not last) ws) (drop-cons words i 0 (omega arith))
           ∙ counted faults last (get_or words i 0) (drop (suc i) words)
           ∙ ap (λ (f : ℕ). eqb (faults + f) 0 and tests (not (is_absorb (get_or words i 0))) (drop (suc i) words)) (sym one)),
@@ -55,9 +54,9 @@ pub returns : goal.returns
 unfolding alternate all
 returns c =
     let words = c.args.words.now in
-    let i = c.loop-i.i in
-    let last = is_absorb c.loop-i.last in
+    let i = c.loop-word.word-index in
+    let last = is_absorb c.loop-word.last in
     sym
-    (c.loop-i.invariant.2
-    ∙ ap (λ (ws : List ℕ). eqb c.loop-i.faults 0 and tests (not last) ws) (drop_of_length-le words {i = i} (omega arith))
-    ∙ and_none (eqb c.loop-i.faults 0))
+    (c.loop-word.invariant.1
+    ∙ ap (λ (ws : List ℕ). eqb c.loop-word.faults 0 and tests (not last) ws) (drop_of_length-le words {i = i} (omega arith))
+    ∙ and_none (eqb c.loop-word.faults 0))

@@ -3,12 +3,12 @@ use mathlib.Core.Path.{◌≡◌}
 use mathlib.Core.Bool.{true, not}
 use Prim.Native.Nat.{◌≤◌}
 use lib.Dec.{eqb}
-use lib.ListN.{length, drop}
+use lib.ListN.{drop}
 use Rattle.basics.specs.Logic.{◌and◌}
 use Rattle.words.specs.Words.{is_absorb}
 use Rattle.pattern.proofs.Soundness.{tests}
 use Rattle.sound_words.proofs.alternate.Given as goal
 
-abbrev pub invariant-loop-i : goal.invariant-loop-i
-invariant-loop-i l =
-    (l.i ≤ length l.words) × (l.faults ≤ l.i) × (tests true l.words ≡ (eqb l.faults 0 and tests (not (is_absorb l.last)) (drop l.i l.words)))
+abbrev pub invariant-loop-word : goal.invariant-loop-word
+invariant-loop-word l =
+    (l.faults ≤ l.word-index) × (tests true l.words ≡ (eqb l.faults 0 and tests (not (is_absorb l.last)) (drop l.word-index l.words)))

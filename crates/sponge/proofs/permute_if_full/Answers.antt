@@ -8,12 +8,12 @@ use Rattle.sponge.proofs.permute_if_full.Goals as goal
 
 pub returns-then-position-ne-RATE : goal.returns-then-position-ne-RATE
 unfolding permutations_for state_for
-returns-then-position-ne-RATE c =
+returns-then-position-ne-RATE g c =
     let e = ne_eqb _ 8 c.if-position-ne-RATE.true in
     (sym (if_false _ _ _ e), sym (if_false _ _ _ e))
 
 pub returns : goal.returns
 unfolding permutations_for state_for
-returns c =
+returns g c =
     let e = eq-eqb _ 8 c.if-position-ne-RATE.false in
-    (sym (if_true _ _ _ e), c.permutation-permuted.ensures ∙ sym (if_true _ _ _ e))
+    (sym (if_true _ _ _ e), c.permute.ensures ∙ sym (if_true _ _ _ e))

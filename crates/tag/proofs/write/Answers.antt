@@ -1,48 +1,67 @@
 -- `tag::write` meets its contract.
 -- Assumes nothing.
-use mathlib.Core.Path.{sym, ap, ◌∙◌}
+use mathlib.Core.Path.{◌≡◌, refl, sym, ap, ◌∙◌}
+use mathlib.Core.Bool.{true}
 use mathlib.Core.List.{List}
 use Prim.Native.Nat.{ℕ}
-use lib.Seq.{length-take-le}
-use Rattle.pattern.specs.Opening.{opening}
-use Rattle.pattern.proofs.Checked.{number_checked, started, words_checked, count_inside}
-use Rattle.tag.specs.TagString.{string_of, tag_string, string_written, string_buffer}
+use Rattle.std.specs.Prelude.{Err}
+use Rattle.std.proofs.lemmas.Result.{err_from_is_err_and}
+use Rattle.basics.specs.Answers.{number_of}
+use Rattle.pattern.specs.Opening.{opening, with_words}
+use Rattle.pattern.specs.Pattern.{merged_words}
+use Rattle.pattern.specs.Answers.{words_answer}
+use Rattle.pattern.proofs.Checked.{number_checked, started, words_checked}
+use Rattle.basics.proofs.Refused.{refusal_some}
+use Rattle.tag.specs.TagString.{is_form, string_of, tag_string, string_written, string_buffer}
+use Rattle.tag.specs.Forms.{form_number}
+use Rattle.tag.specs.Answers.{written_answer}
+use Rattle.tag.specs.declared.Form.{Form}
+use Rattle.tag.proofs.Named.{form_known}
 use Rattle.tag.proofs.Writing.{form_refuses, check_refuses, written_accepted, buffer_accepted}
 use Rattle.tag.proofs.write.Goals as goal
 
-pub returns-then-not-is_form : goal.returns-then-not-is_form
-returns-then-not-is_form c =
+pub returns-in_err-form : goal.returns-in_err-form
+unfolding written_answer number_of
+returns-in_err-form c =
     let args = c.args in
-    form_refuses args.form (opening args.words.now args.separator.now) args.buffer.now (sym c.is_form.ensures ∙ c.if-not-is_form.true)
+    let none = c.in_err-form.ensures in
+    let err = err_from_is_err_and c.from_residual.result c.from_residual.ensures.1 in
+    let (answer, buffer) = form_refuses args.form (opening args.words.now args.separator.now) args.buffer.now none.0 in
+    (ap written_answer (err.1 ∙ ap Err (err.2 ∙ none.1)) ∙ answer, buffer)
 
-pub returns-then-merged-ne-ACCEPTED : goal.returns-then-merged-ne-ACCEPTED
-returns-then-merged-ne-ACCEPTED c =
-    let checked = c.check-merged in
-    let buffer = c.args.buffer.now in
-    check_refuses c.args.form (opening c.args.words.now c.args.separator.now) buffer (sym c.is_form.ensures ∙ c.if-not-is_form.false) checked.result.number
-    (number_checked (opening c.args.words.now c.args.separator.now) checked.result checked.ensures) c.if-merged-ne-ACCEPTED.true
+-- a number that names a form is one
+is_one : (number : ℕ) (form : Form) → number ≡ form_number form → is_form number ≡ true
+is_one number form e = ap is_form e ∙ form_known form
 
-pub slice_bounds-list-end : goal.slice_bounds-list-end
-slice_bounds-list-end c =
-    count_inside _ _ c.check-merged.ensures c.if-merged-ne-ACCEPTED.false
-
-pub slice_bounds-write_string-end : goal.slice_bounds-write_string-end
-slice_bounds-write_string-end c =
-    sym (length-take-le _ _ (count_inside _ _ c.check-merged.ensures c.if-merged-ne-ACCEPTED.false))
+pub returns-in_err-merged : goal.returns-in_err-merged
+unfolding written_answer words_answer with_words
+returns-in_err-merged c =
+    let args = c.args in
+    let o = opening args.words.now args.separator.now in
+    let refusal = c.in_err-merged.field-0.0 in
+    let err = err_from_is_err_and c.from_residual-in_err-merged.result c.from_residual-in_err-merged.ensures.1 in
+    let number = number_checked o (words_answer (Err refusal)) c.in_err-merged.ensures in
+    let (answer, buffer) =
+    check_refuses args.form o args.buffer.now (is_one _ _ c.in_ok-form.ensures) (number_of refusal) number (refusal_some refusal) in
+    (ap written_answer (err.1 ∙ ap Err err.2) ∙ answer, buffer)
 
 pub returns : goal.returns
-unfolding tag_string
+unfolding tag_string words_answer
 returns c =
-    let checked = c.check-merged in
-    let o = opening c.args.words.now c.args.separator.now in
-    let f = c.args.form in
-    let buffer = c.args.buffer.now in
-    let accepts = started o checked.result checked.ensures c.if-merged-ne-ACCEPTED.false in
-    let words = words_checked o checked.result checked.ensures c.if-merged-ne-ACCEPTED.false in (
-      c.write_string.ensures.0
-          ∙ ap (λ (ws : List ℕ). string_written (string_of f ws o.separator) buffer) words
-          ∙ written_accepted f o buffer (sym c.is_form.ensures ∙ c.if-not-is_form.false) accepts,
-      c.write_string.ensures.1
-          ∙ ap (λ (ws : List ℕ). string_buffer (string_of f ws o.separator) buffer) words
-          ∙ buffer_accepted f o buffer (sym c.is_form.ensures ∙ c.if-not-is_form.false) accepts,
+    let args = c.args in
+    let o = opening args.words.now args.separator.now in
+    let buffer = args.buffer.now in
+    let checked = c.in_ok-merged.ensures in
+    let known = is_one _ _ c.in_ok-form.ensures in
+    let accepts = started o _ checked refl in
+    let words = c.as_slice.ensures ∙ words_checked o _ checked refl in
+    let form = sym c.in_ok-form.ensures in (
+      c.put_string.ensures.0
+          ∙ ap (λ (ws : List ℕ). string_written (string_of (form_number c.in_ok-form.form) ws o.separator) buffer) words
+          ∙ ap (λ (f : ℕ). string_written (string_of f (merged_words o.words) o.separator) buffer) form
+          ∙ written_accepted args.form o buffer known accepts,
+      c.put_string.ensures.1
+          ∙ ap (λ (ws : List ℕ). string_buffer (string_of (form_number c.in_ok-form.form) ws o.separator) buffer) words
+          ∙ ap (λ (f : ℕ). string_buffer (string_of f (merged_words o.words) o.separator) buffer) form
+          ∙ buffer_accepted args.form o buffer known accepts,
     )

@@ -1,6 +1,6 @@
--- What the loop of `tag_reader::elements` keeps, and that it ends.
+-- What the loop of `tag_reader::elements` keeps.
 use mathlib.Core.List.{List}
-use Prim.Native.Nat.{ℕ, ◌%◌, ◌^◌, ◌-◌}
+use Prim.Native.Nat.{ℕ, ◌%◌, ◌^◌}
 use Rattle.basics.proofs.Fill.{Filled}
 use Rattle.tag.specs.TagString.{word_at}
 use Rattle.tag_reader.proofs.elements.Given as goal
@@ -10,7 +10,4 @@ abbrev pub element : List ℕ → ℕ → ℕ
 element digest k = word_at digest k % 2 ^ 30
 
 abbrev pub invariant-loop-k : goal.invariant-loop-k
-invariant-loop-k l = Filled 8 (element l.digest) l.out l.k
-
-abbrev pub decreases-loop-k : goal.decreases-loop-k
-decreases-loop-k l = 8 - l.k
+invariant-loop-k l = Filled 8 (element l.fn.digest) l.elements l.k

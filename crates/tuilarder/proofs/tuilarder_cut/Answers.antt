@@ -1,10 +1,12 @@
--- `tuilarder::tuilarder_cut` meets its contract.
--- Assumes nothing.
-use mathlib.Core.Path.{ap}
-use Rattle.pattern.specs.declared.WordList.{WordList}
+use mathlib.Core.Path.{ap, ◌∙◌}
+use Rattle.pattern.specs.Opening.{WordList}
+use Rattle.tuilarder.proofs.AnswerNumbers.{of_words}
 use Rattle.tuilarder.proofs.tuilarder_cut.Goals as goal
 
 pub returns : goal.returns
 returns c =
-    let cut = c.cut-cut.ensures
-    in (ap (λ (r : WordList). r.number) cut, ap (λ (r : WordList). r.words) cut, ap (λ (r : WordList). r.count) cut)
+    let e = c.cut-cut.ensures in (
+      c.number.ensures ∙ of_words _ ∙ ap (λ (a : WordList). a.number) e,
+      c.store_words.ensures.0 ∙ ap (λ (a : WordList). a.words) e,
+      c.store_words.ensures.1 ∙ ap (λ (a : WordList). a.count) e,
+    )

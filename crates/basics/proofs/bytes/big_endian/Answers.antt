@@ -1,9 +1,8 @@
 -- `basics::bytes::big_endian` meets its contract.
 -- Assumes nothing.
-use native.Mathlib.Omega.{arith}
-use Rattle.basics.specs.Digits.{number, number_after}
+use mathlib.Core.Path.{◌∙◌}
+use Rattle.basics.proofs.Parts.{four_bytes_read}
 use Rattle.basics.proofs.bytes.big_endian.Goals as goal
 
 pub returns : goal.returns
-unfolding number number_after
-returns c = omega arith
+returns c = c.from_be_bytes.ensures ∙ four_bytes_read _ _ _ _

@@ -10,6 +10,7 @@ use Rattle.basics.specs.Lists.{placed}
 use Rattle.basics.proofs.Placed.{placed_none, placed_length, placed_next}
 use Rattle.card.proofs.Front.{take_front}
 use borrow.Author.Rules.{rules}
+use lib.Seq.{get_or-take}
 use Rattle.card.proofs.text.copy.Goals as goal
 
 -- the buffer stays as long as it was
@@ -39,7 +40,8 @@ loop-i-preserved c =
     let i = at-loop.i in (
       search rules,
       search rules,
-      ap (λ (l : List ℕ). set l (args.at + i) (get_or bytes i 0)) at-loop.invariant.2
+      ap (λ (x : ℕ). set at-loop.buffer (args.at + i) x) (get_or-take c.fitting-count.result bytes i 0 (search rules))
+          ∙ ap (λ (l : List ℕ). set l (args.at + i) (get_or bytes i 0)) at-loop.invariant.2
           ∙ placed_next buffer args.at bytes i (search rules) (search rules),
     )
 

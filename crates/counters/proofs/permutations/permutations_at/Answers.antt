@@ -13,28 +13,28 @@ use borrow.Author.Rules.{rules}
 use Rattle.counters.proofs.permutations.permutations_at.Goals as goal
 
 -- how many the first n words are
-front : (n : ℕ) (ws : List ℕ) (phase : ℕ) → n ≡ min phase (length ws) → length (take n ws) ≡ n
+front : (n : ℕ) (ws : List ℕ) (phase : ℕ) → n ≡ min (length ws) phase → length (take n ws) ≡ n
 front n ws phase few = length-take-le _ _ (omega arith)
 
 pub slice_bounds-whole_phases-end : goal.slice_bounds-whole_phases-end
-slice_bounds-whole_phases-end c = sym (front _ c.args.words.now c.args.phase c.words_before-before.ensures)
+slice_bounds-whole_phases-end c = sym (front _ c.args.words.now c.args.place.phase c.min-before.ensures)
 
 pub whole_phases-requires : goal.whole_phases-requires
 whole_phases-requires c =
-    let few = c.words_before-before.ensures in
-    let long = front _ c.args.words.now c.args.phase few in
+    let few = c.min-before.ensures in
+    let long = front _ c.args.words.now c.args.place.phase few in
     search rules
 
 pub overflow_add-result : goal.overflow_add-result
 overflow_add-result c =
     let args = c.args in
     let words = args.words.now in
-    let n = c.words_before-before.result in
-    let long = front _ c.args.words.now c.args.phase c.words_before-before.ensures in
+    let n = c.min-before.result in
+    let long = front _ c.args.words.now c.args.place.phase c.min-before.ensures in
     let bound = sum_bound (take n words) (length (take n words)) in
     let whole = c.whole_phases.ensures in
     let phase = c.phase_permutations.ensures in
-    let few = phase_bound c.phase_word.result args.done in
+    let few = phase_bound c.phase_word-word.result args.place.done in
     search rules
 
 pub returns : goal.returns
@@ -42,13 +42,14 @@ unfolding permutations_at
 returns c =
     let args = c.args in
     let words = args.words.now in
-    let n = c.words_before-before.result in
-    let long = front n words args.phase c.words_before-before.ensures in
+    let n = c.min-before.result in
+    let long = front n words args.place.phase c.min-before.ensures in
+    let few : n ≡ min args.place.phase (length words) = omega (arith, c.min-before.ensures) in
     let before =
     c.whole_phases.ensures
     ∙ ap (λ (k : ℕ). sum k (whole_phase (take n words))) long
     ∙ sum_of_front n words
-    ∙ ap (λ (k : ℕ). sum k (whole_phase words)) c.words_before-before.ensures
-    ∙ sum_stops words args.phase in
-    let now = c.phase_permutations.ensures ∙ ap (λ (w : ℕ). phase_permutations w args.done) c.phase_word.ensures in
+    ∙ ap (λ (k : ℕ). sum k (whole_phase words)) few
+    ∙ sum_stops words args.place.phase in
+    let now = c.phase_permutations.ensures ∙ ap (λ (w : ℕ). phase_permutations w args.place.done) c.phase_word-word.ensures in
     ap₂ (λ (a b : ℕ). a + b) before now

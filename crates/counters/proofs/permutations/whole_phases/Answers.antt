@@ -11,26 +11,26 @@ use Rattle.counters.proofs.PermutationCounts.{whole_phase, phase_bound, sum_boun
 use borrow.Author.Rules.{rules}
 use Rattle.counters.proofs.permutations.whole_phases.Goals as goal
 
-pub loop-k-init : goal.loop-k-init
+pub loop-word-init : goal.loop-word-init
 unfolding sum
-loop-k-init c = (search rules, refl)
+loop-word-init c = refl
 
 pub overflow_add-permutations : goal.overflow_add-permutations
 overflow_add-permutations c =
     let words = c.args.words.now in
-    let word = get_or words c.loop-k.k 0 in
-    let bound = sum_bound words c.loop-k.k in
+    let word = get_or words c.loop-word.word-index 0 in
+    let bound = sum_bound words c.loop-word.word-index in
     let one = c.whole_phase.ensures in
     let few = phase_bound word (length_of word) in
     search rules
 
-pub loop-k-preserved : goal.loop-k-preserved
+pub loop-word-preserved : goal.loop-word-preserved
 unfolding sum
-loop-k-preserved c =
-    (search rules, rw add-one (ap₂ (λ (a b : ℕ). a + b) c.loop-k.invariant.1 c.whole_phase.ensures))
+loop-word-preserved c =
+    rw add-one (ap₂ (λ (a b : ℕ). a + b) c.loop-word.invariant c.whole_phase.ensures)
 
 pub returns : goal.returns
 returns c =
     let words = c.args.words.now in
-    let all : c.loop-k.k ≡ length words = omega arith in
-    c.loop-k.invariant.1 ∙ ap (λ (k : ℕ). sum k (whole_phase words)) all
+    let all : c.loop-word.word-index ≡ length words = omega arith in
+    c.loop-word.invariant ∙ ap (λ (k : ℕ). sum k (whole_phase words)) all

@@ -8,14 +8,14 @@ use Rattle.counters.proofs.Bounds.{inside_phase, at_start, between_phases}
 use borrow.Author.Rules.{rules}
 use Rattle.counters.proofs.positions.positions_at.Goals as goal
 
-pub returns-then-done-gt0 : goal.returns-then-done-gt0
-returns-then-done-gt0 c =
+pub returns-then-place-gt0 : goal.returns-then-place-gt0
+returns-then-place-gt0 c =
     c.positions_after.ensures
-    ∙ ap (λ (w : ℕ). positions_after w c.args.done) c.phase_word.ensures
+    ∙ ap (λ (w : ℕ). positions_after w c.args.place.done) c.phase_word.ensures
     ∙ sym (inside_phase _ _ _ (search rules))
 
-pub returns-then-phase-eq0 : goal.returns-then-phase-eq0
-returns-then-phase-eq0 c = sym (at_start _ _ _ (search rules) (search rules))
+pub returns-then-place-eq0 : goal.returns-then-place-eq0
+returns-then-place-eq0 c = sym (at_start _ _ _ (search rules) (search rules))
 
 pub returns : goal.returns
 returns c =

@@ -2,109 +2,108 @@
 -- Assumes nothing.
 use mathlib.Core.Path.{◌≡◌, sym, ap, ◌∙◌}
 use mathlib.Core.Bool.{true}
+use mathlib.Core.List.{List}
 use Prim.Native.Nat.{ℕ, ◌≤◌}
-use borrow.Author.Tests.{not-true, not-false}
-use lib.ListN.{length, take}
+use lib.ListN.{length, take, replicate}
 use lib.Seq.{length-take-le}
+use Rattle.std.proofs.Common.{Err}
+use Rattle.std.proofs.lemmas.Result.{err_from_is_err_and}
+use Rattle.basics.specs.Answers.{number_of}
 use Rattle.basics.specs.Numbers.{accepted}
 use Rattle.sha3.specs.Sponge.{sha3}
 use Rattle.field.specs.Field.{is_field}
-use Rattle.pattern.specs.Opening.{opening, opening_number, with_words}
-use Rattle.pattern.proofs.Checked.{number_checked, started, answer_checked, count_fits, count_inside}
-use Rattle.tag.specs.TagString.{is_form, tag_string}
+use Rattle.pattern.specs.Answers.{words_answer}
+use Rattle.pattern.specs.Opening.{opening, with_words}
+use Rattle.pattern.proofs.Checked.{number_checked}
+use Rattle.basics.proofs.Refused.{refusal_some}
+use Rattle.tag.specs.Answers.{written_answer}
+use Rattle.tag.specs.TagString.{is_form, max_string, string_of, string_written, string_buffer}
 use Rattle.tag.specs.Elements.{tag_elements}
-use Rattle.tag.proofs.CheckedString.{string_inside, string_written_law}
+use Rattle.tag.proofs.Named.{form_known}
+use Rattle.session.specs.Answers.{start_answer}
 use Rattle.session.specs.Record.{tag_state, opened, wiped, open_record}
 use Rattle.session.specs.Calls.{giving, start_record}
 use Rattle.session.proofs.Opening.{start_unknown, start_form_unknown, start_refused, start_opens}
-use borrow.Author.Rules.{rules}
+use Rattle.session.proofs.Written.{accepts, merges, writes, written_inside, written_string}
 use Rattle.session.proofs.Session.start.Goals as goal
-use Rattle.session.proofs.Session.start.Goals.{After-write_string-written, Else-merged-ne-ACCEPTED, Else-not-is_field, Else-not-is_form}
+use Rattle.session.proofs.Session.start.Goals.{After-write_string, After-unwrap-length, In_ok-try_from, In_ok-try_from-2, In_ok-merged}
 
 -- the field number names a field
-named : (c : Else-not-is_field) → is_field c.args.field ≡ true
-named c = sym c.is_field.ensures ∙ not-false _ c.if-not-is_field.false-raw
+named : (c : In_ok-try_from) → is_field c.args.field ≡ true
+named c = c.in_ok-try_from.ensures.0
 
 -- and the form number a form
-formed : (c : Else-not-is_form) → is_form c.args.form ≡ true
-formed c = sym c.is_form.ensures ∙ not-false _ c.if-not-is_form.false-raw
+formed : (c : In_ok-try_from-2) → is_form c.args.form ≡ true
+formed c = ap is_form c.in_ok-try_from-2.ensures ∙ form_known _
 
--- what is known where it is accepted
-starts : (c : Else-merged-ne-ACCEPTED) → opening_number (opening c.args.words.now c.args.separator.now) ≡ accepted
-starts c = started (opening c.args.words.now c.args.separator.now) _ c.check-merged.ensures c.if-merged-ne-ACCEPTED.false
+pub returns-in_err-try_from : goal.returns-in_err-try_from
+unfolding start_answer number_of
+returns-in_err-try_from c =
+    let err = err_from_is_err_and c.from_residual.result c.from_residual.ensures.1 in
+    let unknown = c.in_err-try_from.ensures in
+    ap start_answer (err.1 ∙ ap Err (err.2 ∙ unknown.1)) ∙ sym (start_unknown _ c.args.form _ unknown.0)
 
-count-in : (c : Else-merged-ne-ACCEPTED) → c.check-merged.result.count ≤ length c.check-merged.result.words
-count-in c = count_inside (opening c.args.words.now c.args.separator.now) _ c.check-merged.ensures c.if-merged-ne-ACCEPTED.false
+pub returns-in_err-try_from-2 : goal.returns-in_err-try_from-2
+unfolding start_answer number_of
+returns-in_err-try_from-2 c =
+    let at = (goal.at.returns-in_err-try_from-2 c).In_ok-try_from in
+    let err = err_from_is_err_and c.from_residual-in_err-try_from-2.result c.from_residual-in_err-try_from-2.ensures.1 in
+    let unknown = c.in_err-try_from-2.ensures in
+    ap start_answer (err.1 ∙ ap Err (err.2 ∙ unknown.1)) ∙ sym (start_form_unknown _ _ _ (named at) unknown.0)
 
--- where the string was written it lies in the bytes lent for it, and is the tag string
-string-fits : (c : After-write_string-written) → c.write_string-written.result.length ≤ length c.write_string-written.new.buffer
-string-fits c =
-    string_inside _ (opening c.args.words.now c.args.separator.now) _ c.check-merged.ensures c.if-merged-ne-ACCEPTED.false _ _ c.write_string-written.ensures.0 c.write_string-written.ensures.1
-
-string-read : (c : After-write_string-written)
-    → take c.write_string-written.result.length c.write_string-written.new.buffer ≡ tag_string c.args.form (opening c.args.words.now c.args.separator.now)
-string-read c =
-    string_written_law _ (opening c.args.words.now c.args.separator.now) _ c.check-merged.ensures c.if-merged-ne-ACCEPTED.false _ _ c.write_string-written.ensures.0 c.write_string-written.ensures.1
-
-pub returns-then-not-is_field : goal.returns-then-not-is_field
-returns-then-not-is_field c =
-    let args = c.args in
-    let unknown = sym c.is_field.ensures ∙ not-true _ c.if-not-is_field.true-raw in
-    c.wipe.ensures ∙ sym (start_unknown args.field args.form (opening args.words.now args.separator.now) unknown)
-
-pub returns-then-not-is_form : goal.returns-then-not-is_form
-returns-then-not-is_form c =
-    let at = (goal.at.returns-then-not-is_form c).Else-not-is_field in
-    let args = c.args in
-    let unknown = sym c.is_form.ensures ∙ not-true _ c.if-not-is_form.true-raw in
-    c.wipe-then-not-is_form.ensures ∙ sym (start_form_unknown args.field args.form (opening args.words.now args.separator.now) (named at) unknown)
-
-pub returns-then-merged-ne-ACCEPTED : goal.returns-then-merged-ne-ACCEPTED
-returns-then-merged-ne-ACCEPTED c =
-    let at_else_not_is_field = (goal.at.returns-then-merged-ne-ACCEPTED c).Else-not-is_field in
-    let at_else_not_is_form = (goal.at.returns-then-merged-ne-ACCEPTED c).Else-not-is_form in
+pub returns-in_err-merged : goal.returns-in_err-merged
+unfolding start_answer words_answer with_words
+returns-in_err-merged c =
+    let at_field = (goal.at.returns-in_err-merged c).In_ok-try_from in
+    let at_form = (goal.at.returns-in_err-merged c).In_ok-try_from-2 in
     let o = opening c.args.words.now c.args.separator.now in
-    let number = number_checked o _ c.check-merged.ensures in
-    c.wipe-then-merged-ne-ACCEPTED.ensures
+    let err = err_from_is_err_and c.from_residual-in_err-merged.result c.from_residual-in_err-merged.ensures.1 in
+    let number = number_checked o _ c.in_err-merged.ensures in
+    ap start_answer (err.1 ∙ ap Err err.2)
     ∙ ap (λ (n : ℕ). giving n wiped) number
-    ∙ sym (start_refused _ _ o (named at_else_not_is_field) (formed at_else_not_is_form) (λ e. c.if-merged-ne-ACCEPTED.true (number ∙ e)))
+    ∙ sym (start_refused _ _ o (named at_field) (formed at_form) (λ e. refusal_some _ (number ∙ e)))
 
-pub slice_bounds-merged_words-end : goal.slice_bounds-merged_words-end
-slice_bounds-merged_words-end c =
-    let at = (goal.at.slice_bounds-merged_words-end c).Else-merged-ne-ACCEPTED in
-    count-in at
+-- what writing the string answers, by the opening
+answered : (c : After-write_string)
+    → written_answer c.write_string.result ≡ string_written (string_of c.args.form (take c.in_ok-merged.merged.count c.in_ok-merged.merged.words) c.args.separator.now) (replicate max_string 0)
+answered c =
+    c.write_string.ensures.0
+    ∙ ap (λ (ws : List ℕ). string_written (string_of c.args.form ws c.args.separator.now) (replicate max_string 0)) c.as_slice.ensures
 
-pub slice_bounds-write_string-end : goal.slice_bounds-write_string-end
-slice_bounds-write_string-end c =
-    let at = (goal.at.slice_bounds-write_string-end c).Else-merged-ne-ACCEPTED in
-    sym (length-take-le _ _ (count-in at))
+-- and what it leaves in the buffer
+left : (c : After-write_string)
+    → c.write_string.new.buffer ≡ string_buffer (string_of c.args.form (take c.in_ok-merged.merged.count c.in_ok-merged.merged.words) c.args.separator.now) (replicate max_string 0)
+left c =
+    c.write_string.ensures.1
+    ∙ ap (λ (ws : List ℕ). string_buffer (string_of c.args.form ws c.args.separator.now) (replicate max_string 0)) c.as_slice.ensures
+
+fits : (c : After-unwrap-length) → c.unwrap-length.result ≤ length c.write_string.new.buffer
+fits c =
+    let at = (goal.at.After-unwrap-length c).After-write_string in
+    written_inside (opening c.args.words.now c.args.separator.now) _ c.in_ok-merged.ensures _ _ _ (answered at) (left at) _ c.unwrap-length.ensures
+
+pub unwrap-length-requires : goal.unwrap-length-requires
+unwrap-length-requires c =
+    let at = (goal.at.unwrap-length-requires c).After-write_string in
+    writes (opening c.args.words.now c.args.separator.now) _ c.in_ok-merged.ensures _ _ _ (answered at) (left at)
 
 pub slice_bounds-string-end : goal.slice_bounds-string-end
-slice_bounds-string-end c =
-    let at = (goal.at.slice_bounds-string-end c).After-write_string-written in
-    string-fits at
+slice_bounds-string-end c = fits (goal.at.slice_bounds-string-end c).After-unwrap-length
 
 pub slice_bounds-sha3_256-end : goal.slice_bounds-sha3_256-end
-slice_bounds-sha3_256-end c =
-    let at = (goal.at.slice_bounds-sha3_256-end c).After-write_string-written in
-    sym (length-take-le _ _ (string-fits at))
-
-pub overflow_cast-result : goal.overflow_cast-result
-overflow_cast-result c =
-    let few = count_fits (opening c.args.words.now c.args.separator.now) _ c.check-merged.ensures c.if-merged-ne-ACCEPTED.false in
-    search rules
+slice_bounds-sha3_256-end c = sym (length-take-le _ _ (fits (goal.at.slice_bounds-sha3_256-end c).After-unwrap-length))
 
 pub returns : goal.returns
-unfolding giving start_record open_record with_words
+unfolding start_answer giving start_record open_record with_words
 returns c =
-    let at_after_write_string_written = (goal.at.returns c).After-write_string-written in
-    let at_else_not_is_field = (goal.at.returns c).Else-not-is_field in
-    let at_else_not_is_form = (goal.at.returns c).Else-not-is_form in
-    let at_else_merged_ne_accepted = (goal.at.returns c).Else-merged-ne-ACCEPTED in
+    let at_field = (goal.at.returns c).In_ok-try_from in
+    let at_form = (goal.at.returns c).In_ok-try_from-2 in
+    let at_string = (goal.at.returns c).After-write_string in
     let o = opening c.args.words.now c.args.separator.now in
-    let digest = c.sha3_256-digest.ensures ∙ ap sha3 (string-read at_after_write_string_written) in
-    let state = c.tag_state-state.ensures ∙ ap tag_state (c.elements.ensures ∙ ap tag_elements digest) in
-    let merged = answer_checked o _ c.check-merged.ensures c.if-merged-ne-ACCEPTED.false in
+    let read = written_string o _ c.in_ok-merged.ensures _ _ _ (answered at_string) (left at_string) _ c.unwrap-length.ensures in
+    let digest = c.sha3_256-digest.ensures ∙ ap sha3 read in
+    let state = c.tag_state.ensures ∙ ap tag_state (c.elements.ensures ∙ ap tag_elements digest) in
+    let merged = merges o _ c.in_ok-merged.ensures in
     (λ i.
     giving accepted (record {
       status = opened;
@@ -119,4 +118,4 @@ returns c =
       squeeze_position = 0;
       permutations = 0;
     }))
-    ∙ sym (start_opens _ _ o (named at_else_not_is_field) (formed at_else_not_is_form) (starts at_else_merged_ne_accepted))
+    ∙ sym (start_opens _ _ o (named at_field) (formed at_form) (accepts o _ c.in_ok-merged.ensures))

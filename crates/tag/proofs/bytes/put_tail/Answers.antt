@@ -1,26 +1,27 @@
 -- `tag::bytes::put_tail` meets its contract.
 -- Assumes nothing.
-use mathlib.Core.Path.{sym, ap, ◌∙◌}
+use mathlib.Core.Path.{refl, sym, ap, ◌∙◌}
 use native.Mathlib.Omega.{arith}
-use borrow.Author.Tests.{eq-eqb, ne_eqb}
 use Rattle.basics.specs.Lists.{placed}
 use Rattle.basics.proofs.Placed.{placed_none}
+use Rattle.tag.specs.Forms.{form_number}
 use Rattle.tag.proofs.Forms.{low_digits, tail_2, tail_2_long, tail_1}
 use Rattle.tag.proofs.bytes.put_tail.Goals as goal
 
 pub put_word-requires : goal.put_word-requires
-put_word-requires c =
-    let form = c.args.form in
-    omega (arith, c.requires, tail_2_long form (eq-eqb form 2 c.if-form-eq-FORM_2.true) c.args.separator_length)
+unfolding form_number
+put_word-requires c = omega (arith, rw c.in-Two.is at c.requires, tail_2_long 2 refl c.args.separator_length)
 
-pub returns-then-form-eq-FORM_2 : goal.returns-then-form-eq-FORM_2
-returns-then-form-eq-FORM_2 c =
+pub returns-in-Two : goal.returns-in-Two
+unfolding form_number
+returns-in-Two c =
     let args = c.args in
     let n = args.separator_length in
-    c.put_word.ensures
-    ∙ ap (placed args.buffer.now args.at) (low_digits n ∙ sym (tail_2 args.form (eq-eqb _ 2 c.if-form-eq-FORM_2.true) n))
+    rw c.in-Two.is (c.put_word.ensures ∙ ap (placed args.buffer.now args.at) (low_digits n ∙ sym (tail_2 2 refl n)))
 
-pub returns-else-form-eq-FORM_2 : goal.returns-else-form-eq-FORM_2
-returns-else-form-eq-FORM_2 c =
+pub returns-in-One : goal.returns-in-One
+unfolding form_number
+returns-in-One c =
     let args = c.args in
-    sym (ap (placed args.buffer.now args.at) (tail_1 args.form (ne_eqb _ 2 c.if-form-eq-FORM_2.false) args.separator_length) ∙ placed_none args.buffer.now args.at)
+    rw c.in-One.is
+    (sym (ap (placed args.buffer.now args.at) (tail_1 1 refl args.separator_length) ∙ placed_none args.buffer.now args.at))

@@ -10,33 +10,27 @@ use Rattle.basics.specs.Lists.{placed}
 use Rattle.basics.proofs.Placed.{begins}
 use Rattle.tag.specs.TagString.{word_bytes}
 use Rattle.tag.proofs.WordBytes.{begins_word}
-use borrow.Author.Rules.{rules}
 use Rattle.tag.proofs.bytes.put_words.Goals as goal
 
 pub loop-i-init : goal.loop-i-init
 unfolding word_bytes
-loop-i-init c = (search rules, begins _)
+loop-i-init c = begins _
 
 pub put_word-requires : goal.put_word-requires
-put_word-requires c =
-    let at-loop = c.loop-i in
-    omega (arith, at-loop.invariant.1.long, c.requires)
+put_word-requires c = omega (arith, c.loop-i.invariant.long, c.requires)
 
 pub loop-i-preserved : goal.loop-i-preserved
 loop-i-preserved c =
-    let at-loop = c.loop-i in
-    let words = c.args.words.now in
-    (search rules, begins_word words at-loop.i at-loop.invariant.1 (omega arith) c.requires c.put_word.ensures)
+    begins_word c.args.words.now c.loop-i.i c.loop-i.invariant (omega arith) c.requires c.put_word.ensures
 
 pub shape_of-buffer : goal.shape_of-buffer
-shape_of-buffer c = c.loop-i.invariant.1.long
+shape_of-buffer c = c.loop-i.invariant.long
 
 pub returns : goal.returns
 returns c =
-    let at-loop = c.loop-i in
     let buffer = c.args.buffer.now in
     let words = c.args.words.now in
-    let i = at-loop.i in
+    let i = c.loop-i.i in
     let e : i ≡ length words = omega arith in
-    at-loop.invariant.1.is ∙ ap (λ (k : ℕ). placed buffer 0 (word_bytes (take k words))) e
+    c.loop-i.invariant.is ∙ ap (λ (k : ℕ). placed buffer 0 (word_bytes (take k words))) e
     ∙ ap (λ (l : List ℕ). placed buffer 0 (word_bytes l)) (take-length words)

@@ -1,8 +1,7 @@
 -- What the loop of `tag_reader::bytes::words_of` keeps.
 use mathlib.Core.Path.{◌≡◌}
 use mathlib.Core.List.{List}
-use Prim.Native.Nat.{ℕ, ◌/◌, ◌≤◌}
-use lib.ListN.{length}
+use Prim.Native.Nat.{ℕ}
 use Rattle.basics.specs.Lists.{tabulate, zero_padded}
 use Rattle.tag.specs.TagString.{word_at}
 use Rattle.tag_reader.proofs.bytes.words_of.Given as goal
@@ -12,4 +11,4 @@ abbrev pub front : List ℕ → ℕ → List ℕ
 front string k = tabulate k (word_at string)
 
 abbrev pub invariant-loop-k : goal.invariant-loop-k
-invariant-loop-k l = (l.k ≤ length l.string / 4) × (l.out ≡ zero_padded 64 (front l.string l.k))
+invariant-loop-k l = l.words ≡ zero_padded 64 (front l.string l.k)

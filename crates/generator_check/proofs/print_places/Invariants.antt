@@ -1,9 +1,0 @@
--- The loop of `generator_check::print_places` stays within eight places.
-use Prim.Native.Nat.{◌-◌, ◌≤◌}
-use Rattle.generator_check.proofs.print_places.Given as goal
-
-abbrev pub invariant-loop-i : goal.invariant-loop-i
-invariant-loop-i l = l.i ≤ 8
-
-abbrev pub decreases-loop-i : goal.decreases-loop-i
-decreases-loop-i l = 8 - l.i
