@@ -341,6 +341,13 @@ def public_mistakes():
         put("/* /* */ pub fn untold() {} */", "does not read this: /* /* */"),
         put("#[cfg(other)]\npub fn untold() {}", "does not read this: #[cfg ( other )]"),
         put("pub fn untold()\n    ensures { -- }\n    ⊤ }\n{}", "does not read this: a clause with a comment"),
+        put("pub enum Figure { Modulus = 1 + 16 }", "public constant field::Figure::Modulus: 17 in the code, nothing in the table"),
+        put("pub enum Figure { Modulus = 17, Order }", "does not read this: a case without a number: Order"),
+        put(f"pub trait Untold {{\n    fn untold(&self)\n{asks};\n}}", "does not read this: a public trait: Untold"),
+        put("impl std::ops::Add for Field {\n    fn add(self, other: Field) -> Field {}\n}", "an `impl` of a trait of another module: Add"),
+        put("impl From<Field> for u64 {\n    fn from(field: Field) -> u64 {}\n}", "field::U64FromField::from is public and has no `ensures`"),
+        put(f"impl Clone for Other {{\n    fn clone(&self)\n{asks}{says}{{}}\n}}", "field::OtherClone::clone is public and has a `requires`"),
+        put("#[derive(Hash)]\npub struct Other;", "does not read this: #[derive ( Hash )]"),
         put("pub const UNTOLD: u32 = 3;", "field::UNTOLD: 3 in the code, nothing in the table"),
         put("pub const UNTOLD: u32 = told(3);", "the constant told"),
     ]

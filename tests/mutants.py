@@ -621,7 +621,7 @@ C = of(
     ("c_stack_start", "TUILARDER_STACK_START 3072", "TUILARDER_STACK_START 2048", "START takes more stack than is said"),
     ("c_stack_absorb", "TUILARDER_STACK_ABSORB 30720", "TUILARDER_STACK_ABSORB 28672", "ABSORB takes more stack than is said"),
     ("c_stack_seal", "TUILARDER_STACK_SEAL 32768", "TUILARDER_STACK_SEAL 29696", "sealing takes more stack than is said"),
-    ("c_stack_finish", "TUILARDER_STACK_FINISH 1536", "TUILARDER_STACK_FINISH 2048", "FINISH takes less than half the stack that is said"),
+    ("c_stack_finish", "TUILARDER_STACK_FINISH 256", "TUILARDER_STACK_FINISH 512", "FINISH takes less than half the stack that is said"),
     ("c_unused_number", "    TUILARDER_MERGED_LENGTH_TOO_LONG = 5,\n", "", "5 has no name"),
     ("c_unused_number_4", "    TUILARDER_LAST_WORD_ABSORB = 4,\n", "", "4 has no name"),
     ("c_numbers", "RECORD_NOT_OPEN = 7,\n    /* open record not sound */\n    TUILARDER_RECORD_NOT_SOUND = 8",

@@ -16,11 +16,11 @@ from tree import files, read
 # constant's value or of what a `use` names; crate::module:: that it stands in; and what stands in each `ensures` of a function
 Item = namedtuple("Item", "name kind public words module ensures")
 CLAUSES = {"ghost", "requires", "ensures"}
-ATTRIBUTES = {"unsafe ( no_mangle )", "repr ( C )", "must_use", "inline"}
+ATTRIBUTES = {"unsafe ( no_mangle )", "repr ( C )"}
 # what is derived says nothing that a contract of the tree does not say
-DERIVES = re.compile(r"derive \( (?:(?:Clone|Copy|Debug|PartialEq|Eq|PartialOrd|Ord|Hash|Default|Drop)(?: , )?)+ \)")
-# traits of the library, which a caller may call through
-LIBRARY_TRAITS = {"From", "TryFrom", "Into", "Iterator", "Display", "Debug", "Error", "Clone", "PartialEq", "Eq", "Drop", "Default"}
+DERIVES = re.compile(r"derive \( (?:(?:Clone|Copy|Debug|PartialEq|Eq|Drop)(?: , )?)+ \)")
+# the traits of the library that are read, through which a caller may call, each with its functions and the ghost member that says what one gives
+LIBRARY_TRAITS = {"From": {"from": "from_gives"}, "TryFrom": {"try_from": "try_from_gives"}, "Clone": {"clone": "is_clone"}, "Copy": {}}
 # attributes that choose tactics, of a file or of an item: they say nothing of the code
 TACTIC = re.compile(r"tactic \(.*\)")
 CLOSING = {"(": ")", "[": "]", "{": "}"}
@@ -139,43 +139,51 @@ def camel(words):
 
 
 def owner(words):
-    """The type of an `impl`, without lifetimes; with the trait behind it, if it is of one, as the kit names it."""
+    """The type of an `impl`, without lifetimes, with the trait behind it, if it is of one, as the kit names it; and that trait's own name."""
     text = " ".join(words)
     text = re.sub(r"^(<(?:[^<>]|<[^<>]*>)*>)? *", "", text)
     text = re.split(r" where ", text)[0]
     if " for " in text:
         trait, type_ = text.split(" for ")
-        return camel([re.sub(r"<.*>", "", type_)]) + camel([re.sub(r"' \w+", "", trait)])
-    return re.sub(r"<.*>", "", text).strip()
+        own = re.sub(r"<.*>", "", trait).split("::")[-1].strip()
+        return camel([re.sub(r"<.*>", "", type_)]) + camel([re.sub(r"' \w+", "", trait)]), own
+    return re.sub(r"<.*>", "", text).strip(), None
 
 
 def cases(words, prefix, public, module):
-    """The cases of an enum that have numbers, as constants of these."""
-    for at, word in enumerate(words):
-        if word == "=":
-            yield Item(prefix + words[at - 1], "const", public, [words[at + 1]], module, [])
+    """The cases of an enum that have numbers, as constants of these. Then every case has to have one, since one without counts on from the last."""
+    if "=" not in words:
+        return
+    at = 1
+    while at < len(words) - 1:
+        end = behind(words, at, {",", "}"})
+        if words[at + 1] != "=":
+            raise Unreadable(f"a case without a number: {' '.join(words[at:end])}")
+        yield Item(prefix + words[at], "const", public, words[at + 2:end], module, [])
+        at = end + 1
 
 
-def items_of(words, prefix, module, outside=False):
-    """The items of a module, or of an `impl` or a trait in it, whose names begin with the prefix. What an `impl` of a trait has is public as the
-    trait is, and of a trait from outside of the crate it is public."""
+def items_of(words, prefix, module, outside=None):
+    """The items of a module, or of an `impl` or a trait in it, whose names begin with the prefix. What an `impl` of a trait from outside of the crate
+    has is public; what one of a trait of the crate has is not, since a trait that is read here is not public."""
     at, gives = 0, {}
     while at < len(words):
         if words[at] == "ghost":
             end = behind(words, at, {";"})
             # what an `impl` says of a function of a trait from the library stands in a member of its own
-            gives[words[at + 1].removesuffix("_gives")], at = " ".join(words[at + 3:end]), end + 1
+            gives[words[at + 1]], at = " ".join(words[at + 3:end]), end + 1
             continue
         if words[at:at + 2] == ["#", "!"]:
             at = behind_tactic(words, at + 2)
             continue
         public, here = marks(words, at)
-        public = public or outside
+        public = public or outside is not None
         kind, name, ensures = words[here], words[here + 1], []
         if kind == "fn":
             found, ensures, at = function(words, here + 2)
-            if name in gives:
-                found, ensures = [*found, "ensures"], [*ensures, gives[name]]
+            says = gives.get((outside or {}).get(name))
+            if says:
+                found, ensures = [*found, "ensures"], [*ensures, says]
         elif kind in ("use", "const"):
             begin = behind(words, here, {"="} if kind == "const" else {"use"}) + 1
             end = behind(words, begin, {";"})
@@ -189,13 +197,13 @@ def items_of(words, prefix, module, outside=False):
                 yield from cases(words[end:at], f"{prefix}{name}::", public, module)
         elif kind in ("mod", "impl", "trait"):
             begin = behind(words, here, {";", "{"})
+            if kind == "trait" and public:
+                raise Unreadable(f"a public trait: {name}")
             header = words[here + 1:begin]
-            name, at = owner(header) if kind == "impl" else header[0], behind_group(words, begin, functions=True)
+            (name, trait), at = owner(header) if kind == "impl" else (header[0], None), behind_group(words, begin, functions=True)
             inside = f"{prefix}{name}::"
-            of_trait = kind == "impl" and "for" in header
-            known = of_trait and any(word in LIBRARY_TRAITS for word in header[:header.index("for")])
-            yield from items_of(words[begin + 1:at - 1], inside, inside if kind == "mod" else module, known)
-            kind, found = "impl of a trait" if of_trait else kind, []
+            yield from items_of(words[begin + 1:at - 1], inside, inside if kind == "mod" else module, LIBRARY_TRAITS.get(trait))
+            kind, found = ("impl of a trait", [trait]) if trait else (kind, [])
         else:
             raise Unreadable(" ".join(words[at:at + 12]))
         yield Item(prefix + name, kind, public, found, module, ensures)
@@ -216,8 +224,12 @@ def prefix_of(path):
 
 
 def check_reach(item, found):
-    """An `impl` has to be of a type of its own module, and a `pub use` of something of this tree, which is looked at where it is declared."""
+    """An `impl` has to be of a type of its own module, one of a trait of a trait that is read, or that the crate declares, and a `pub use` of something
+    of this tree, which is looked at where it is declared."""
     kinds = {other.kind for other in found if other.name == item.name}
+    if item.kind == "impl of a trait" and item.words[0] not in LIBRARY_TRAITS:
+        if item.words[0] not in {other.name.rpartition("::")[2] for other in found if other.kind == "trait"}:
+            raise Unreadable(f"an `impl` of a trait of another module: {item.words[0]}")
     if item.kind == "impl" and not kinds & {"struct", "enum"}:
         raise Unreadable(f"an `impl` of a type of another module: {item.name}")
     if item.kind == "use" and item.public and item.words[0] not in ("crate", "self", "super"):

@@ -1,14 +1,28 @@
 // A list that keeps its first items, as many as it has places.
-ghost use Rattle.std.specs.Prelude.{◌≡◌, ◌+◌, ◌≤◌, ltb, set, take, replicate};
+ghost use Rattle.std.specs.Prelude.{◌≡◌, ◌+◌, ◌≤◌, ⊤, ltb, set, take, replicate};
 ghost use Rattle.basics.specs.Logic.{when◌then◌else◌};
 
+use std::alloc::AllocError;
+
 // Items in the first places of an array.
-#[derive(Drop)]
 pub struct Kept<T, const N: usize> {
     pub items: [T; N],
     pub count: usize,
     ghost fits: { count ≤ N },
 }
+
+// written out, since a struct with a ghost field has no derive
+impl<T: Copy, const N: usize> Clone for Kept<T, N> {
+    ghost is_clone = { λ kept copy. copy ≡ kept };
+
+    ghost is_infallible = { λ _. ⊤ };
+
+    fn clone(&self) -> Result<Self, AllocError> {
+        Ok(*self)
+    }
+}
+
+impl<T: Copy, const N: usize> Copy for Kept<T, N> {}
 
 impl<T: Copy, const N: usize> Kept<T, N> {
     // No items, where unused places have a value.

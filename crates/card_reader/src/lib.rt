@@ -16,7 +16,7 @@ pub const MAX_LINE: usize = 2048;
 
 // A card's separator and words, with zeros behind them. Each has one place more than START takes: a longer one is cut to that, and START
 // turns it away all the same.
-#[derive(Drop)]
+#[derive(Clone, Copy)]
 pub struct Card {
     pub separator: Kept<u8, 257>,
     pub words: Kept<u32, 65>,

@@ -7,7 +7,8 @@ use Rattle.basics.specs.Lists.{Below}
 use Rattle.basics.specs.Digits.{number, number_after}
 use Rattle.basics.specs.Numbers.{accepted, owners_row_invalid, owners_gap, separator_too_short}
 use Rattle.basics.proofs.Cases.{if_true, if_false, and_left, and_right, and_both}
-use Rattle.owners.specs.Owners.{Table, Checked, Asked, row_of, rows_of, table_of, row_count, row, at_fault, least_from, first_fault, holds, is_free, checked, separator_number, line_of, asked, value_of}
+use Rattle.owners.specs.Owners.{Table, Checked, row_of, rows_of, table_of, row_count, row, at_fault, least_from, first_fault, holds, is_free, checked, separator_number, line_of, asked, value_of}
+use Rattle.owners.specs.declared.Asked.{Asked}
 use Rattle.owners.specs.Bytes.{table_bytes}
 use Rattle.owners.specs.declared.OwnerRow.{OwnerRow}
 use Rattle.owners.proofs.Faults.{good, is_good}

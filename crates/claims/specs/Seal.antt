@@ -1,5 +1,5 @@
 -- Sealing a coin note: what is left is Algorithm 7 of source 001, opening undoes it and nothing else opens, and which number comes where. `seal_note` and
--- `open_note` are what the contracts of `seal::seal`, `seal::open` and of their exports cite.
+-- `open_note` are what the contracts of `seal::NoteContext::seal`, `seal::NoteContext::open` and of their exports cite.
 use Rattle.std.specs.Prelude.{◌≡◌, refl, true, false, ◌≢◌, ℕ, ◌+◌, ◌*◌, ◌%◌, ◌≤◌, ◌<◌, eqb, leb, length, take, drop, replicate}
 use Rattle.std.proofs.Common.{sym, ap, ◌∙◌}
 use mathlib.Core.List.{List, [], ◌∷◌, ◌++◌, zip_with}

@@ -4,7 +4,8 @@ use Rattle.basics.specs.Numbers.{accepted}
 use Rattle.basics.specs.Answers.{number_of}
 use Rattle.basics.specs.declared.Refusal.{Refusal}
 use Rattle.basics.specs.declared.Refusal.TheVariants.{OwnersRowInvalid, OwnersGap, SeparatorTooShort}
-use Rattle.owners.specs.Owners.{Checked, Asked}
+use Rattle.owners.specs.Owners.{Checked}
+use Rattle.owners.specs.declared.Asked.{Asked}
 use Rattle.owners.specs.declared.TableFault.{TableFault}
 use Rattle.owners.specs.declared.TableFault.TheVariants.{Row, Gap}
 use Rattle.owners.specs.declared.AskFault.{AskFault}

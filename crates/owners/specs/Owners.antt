@@ -5,6 +5,7 @@ use Rattle.basics.specs.Digits.{number}
 use Rattle.basics.specs.Numbers.{accepted, owners_row_invalid, owners_gap, separator_too_short}
 use Rattle.basics.specs.Refusals.{Row, ◌gets◌⨾◌, first_number}
 use Rattle.owners.specs.declared.OwnerRow.{OwnerRow}
+use Rattle.owners.specs.declared.Asked.{Asked}
 
 -- "ten a row: first and last number of 32 bits, product line of 16, highest byte first" (big-endian): the row that bytes begin with
 unfoldable pub row_of : List ℕ → OwnerRow
@@ -107,13 +108,6 @@ ask_rows t separator = check_rows t ++ (ltb (length separator) 4 gets separator_
 unfoldable pub line_of : ℕ → List OwnerRow → ℕ
 line_of n [] = 0
 line_of n (r ∷ rs) = when holds n r then r.line else line_of n rs
-
--- the answer to a table that is asked for a separator: with number 0 the product line, with 15 and 16 the place as of `Checked`; what does not
--- come with a number is 0
-pub record Asked : Type 0 where
-  pub number : ℕ
-  pub place : ℕ
-  pub line : ℕ
 
 -- the answer to a table that is asked for a separator; where it is not accepted, the line is 0
 unfoldable pub asked : Table → List ℕ → Asked

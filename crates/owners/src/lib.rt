@@ -7,7 +7,7 @@ ghost use Rattle.owners.specs.Owners.{row_of, table_of, row_count, at_fault, fir
 ghost use Rattle.owners.specs.Answers.{table_refusal, fault_place, ask_refusal, ask_place, checked_answer, asked_answer};
 ghost use Rattle.owners.specs.declared.AskFault.TheVariants.{Table};
 
-use basics::Refusal;
+use basics::{ACCEPTED, Refusal};
 
 // The bytes of a row.
 pub const ROW_BYTES: usize = 10;
@@ -231,12 +231,41 @@ pub fn owner(table: &[u8], separator: &[u8]) -> Result<u16, AskFault>
     Ok(line_of(table, number).unwrap())
 }
 
-// What comes with an answer, as one number: the line, or what comes with the refusal.
-pub fn value(answer: &Result<u16, AskFault>) -> u32
-    ensures { result ≡ value_of (asked_answer answer.now) }
-{
-    match answer {
-        Ok(line) => u32::from(*line),
-        Err(fault) => fault.place(),
+// The answer to a table that is asked, as numbers: with 0 the line, with 15 and 16 the place; what does not come with a
+// number is 0.
+#[derive(Clone, Copy)]
+pub struct Asked {
+    pub number: u32,
+    pub place: u32,
+    pub line: u16,
+}
+
+impl Asked {
+    // The numbers of an answer.
+    pub fn of(answer: &Result<u16, AskFault>) -> Asked
+        ensures { result ≡ asked_answer answer.now }
+    {
+        match answer {
+            Ok(line) => Asked {
+                number: ACCEPTED,
+                place: 0,
+                line: *line,
+            },
+            Err(fault) => Asked {
+                number: u32::from(Refusal::from(*fault)),
+                place: fault.place(),
+                line: 0,
+            },
+        }
     }
+}
+
+// What comes with an answer's number, as one number: with 0 the line, otherwise the place.
+pub fn value(asked: Asked) -> u32
+    ensures { result ≡ value_of asked }
+{
+    if asked.number == ACCEPTED {
+        return u32::from(asked.line);
+    }
+    asked.place
 }

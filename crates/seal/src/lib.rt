@@ -184,8 +184,8 @@ fn pass_blocks<P: Pass>(session: &mut Session, lengths: &[u32], text: &[u32], ou
     }
 }
 
-// Whether a mark is what stands in a list. Differences are counted to the end, so that the time tells nothing of where
-// the first one is.
+// Whether a mark is what stands in a list. Differences are counted to the end, so that no element is left uncompared
+// behind the first that differs.
 fn is_mark(mark: &[u32], given: &[u32]) -> bool
     requires { (length mark.now ≡ 8) × (length given.now ≡ 8) }
     ensures { result ≡ is_mark mark.now given.now }

@@ -25,6 +25,16 @@ pub(crate) fn put_words(buffer: &mut [u8], words: &[u32])
     }
 }
 
+// Copies bytes to a place of the buffer, one by one: for `copy_from_slice` the static library would need memmove.
+pub(crate) fn put_bytes(buffer: &mut [u8], at: usize, bytes: &[u8])
+    requires { at + length bytes.now ≤ length buffer.old }
+    ensures { buffer.new ≡ placed buffer.old at bytes.now }
+{
+    for (i, byte) in bytes.iter().enumerate() {
+        buffer[at + i] = *byte;
+    }
+}
+
 // Writes what stands behind a separator of so many bytes to a place of the buffer.
 pub(crate) fn put_tail(buffer: &mut [u8], at: usize, form: Form, separator_length: usize)
     requires { at + length (tail_of (form_number form) separator_length) ≤ length buffer.old }

@@ -76,7 +76,7 @@ fn put_string(
         return Err(Refusal::BufferTooShort);
     }
     bytes::put_words(buffer, words);
-    buffer[4 * words.len()..front].copy_from_slice(separator);
+    bytes::put_bytes(buffer, 4 * words.len(), separator);
     bytes::put_tail(buffer, front, form, separator.len());
     Ok(length)
 }

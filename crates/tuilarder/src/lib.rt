@@ -16,6 +16,7 @@ ghost use Rattle.session.specs.Calls.{giving, start, absorb, squeeze, squeeze_bu
 ghost use Rattle.tuilarder.specs.Layout.{layout};
 
 use basics::{ACCEPTED, Refusal};
+use owners::Asked;
 use pattern::list::Words;
 use seal::NoteContext;
 use session::Session;
@@ -229,7 +230,7 @@ pub extern "C" fn tuilarder_owner(table: &[u8], separator: &[u8], value: &mut u3
         (value.new ≡ value_of (asked (table_of table.now) separator.now)) }
 {
     let asked = owners::owner(table, separator);
-    *value = owners::value(&asked);
+    *value = owners::value(Asked::of(&asked));
     match asked {
         Ok(_) => ACCEPTED,
         Err(fault) => u32::from(Refusal::from(fault)),

@@ -1,6 +1,6 @@
 -- `card_reader::read_short` meets its contract: `Held` holds after each byte, and behind the last it gives the card.
 -- Assumes nothing.
-use mathlib.Core.Path.{sym, ap, ◌∙◌}
+use mathlib.Core.Path.{sym, ap}
 use Rattle.card_reader.specs.Answers.{card_given}
 use Rattle.card_reader.specs.Reading.{reading}
 use Rattle.card_grammar.specs.declared.machine.Move.TheVariants.{To, Byte, Word}
