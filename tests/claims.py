@@ -30,8 +30,8 @@ from second_implementation import LANDED
 from tree import crates, depends, files, not_listed, read, report, trials, write
 
 README, ARCHITECTURE = "README.md", "docs/ARCHITECTURE.md"
-# these two have names as they were before
-BEFORE = {"docs/PORT.md", "docs/DESIGN-PASS.md"}
+# these have names as they were before
+BEFORE = {"docs/PORT.md", "docs/DESIGN-PASS.md", "docs/LOOK-BACK.md"}
 DOCUMENTS = [README] + [path for path in files("docs/*.md") if path not in BEFORE]
 RULED_OUT = "## What each public contract rules out"
 READING, ALONE, HELD = "## What to read, in which order", "## Definitions that no contract cites", "## What holds definitions fast"
