@@ -145,7 +145,7 @@ def owner(words):
     text = re.split(r" where ", text)[0]
     if " for " in text:
         trait, type_ = text.split(" for ")
-        own = re.sub(r"<.*>", "", trait).split("::")[-1].strip()
+        own = re.sub(r" |<.*>", "", trait)
         return camel([re.sub(r"<.*>", "", type_)]) + camel([re.sub(r"' \w+", "", trait)]), own
     return re.sub(r"<.*>", "", text).strip(), None
 
@@ -170,6 +170,8 @@ def items_of(words, prefix, module, outside=None):
     while at < len(words):
         if words[at] == "ghost":
             end = behind(words, at, {";"})
+            if words[at + 2] not in ("=", ":") or behind_group(words, at + 3) != end:
+                raise Unreadable(" ".join(words[at:end]))
             # what an `impl` says of a function of a trait from the library stands in a member of its own
             gives[words[at + 1]], at = " ".join(words[at + 3:end]), end + 1
             continue
@@ -228,7 +230,10 @@ def check_reach(item, found):
     of this tree, which is looked at where it is declared."""
     kinds = {other.kind for other in found if other.name == item.name}
     if item.kind == "impl of a trait" and item.words[0] not in LIBRARY_TRAITS:
-        if item.words[0] not in {other.name.rpartition("::")[2] for other in found if other.kind == "trait"}:
+        own = {other.name for other in found if other.kind == "trait"}
+        brought = {other.words[-1]: "".join(other.words) for other in found if other.kind == "use" and other.module == item.module}
+        path = re.sub(r"^crate(?=::)", item.module.split("::")[0], brought.get(item.words[0], item.words[0]))
+        if not {item.module + path, path} & own:
             raise Unreadable(f"an `impl` of a trait of another module: {item.words[0]}")
     if item.kind == "impl" and not kinds & {"struct", "enum"}:
         raise Unreadable(f"an `impl` of a type of another module: {item.name}")

@@ -11,7 +11,7 @@ pub struct Kept<T, const N: usize> {
     ghost fits: { count ≤ N },
 }
 
-// written out, since a struct with a ghost field has no derive
+// Written out, since a struct with a type parameter and a ghost field has no derive.
 impl<T: Copy, const N: usize> Clone for Kept<T, N> {
     ghost is_clone = { λ kept copy. copy ≡ kept };
 
