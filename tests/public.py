@@ -226,8 +226,8 @@ def prefix_of(path):
 
 
 def check_reach(item, found):
-    """An `impl` has to be of a type of its own module, one of a trait of a trait that is read, or that the crate declares, and a `pub use` of something
-    of this tree, which is looked at where it is declared."""
+    """An `impl` has to be of a type of its own module, or of a trait that is read or that the crate declares, and a `pub use` of something of this tree,
+    which is looked at where it is declared."""
     kinds = {other.kind for other in found if other.name == item.name}
     if item.kind == "impl of a trait" and item.words[0] not in LIBRARY_TRAITS:
         own = {other.name for other in found if other.kind == "trait"}
